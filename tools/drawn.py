@@ -1,5 +1,6 @@
-"""The picture that is due of a schedule, by its trace as traced.py finds it, docs/LINES.md and docs/FORMATS.md alone; the
+"""The picture that is due of a schedule, by its trace as traced.py finds it, docs/LINES.md and docs/PICTURES.md alone; the
 timeline of a history."""
+import os
 import re
 
 import traced
@@ -47,23 +48,39 @@ def state(words):
     return " | " + ", ".join(told)
 
 
-def effects(rows):
-    """The numbers at which operations take effect, by the rows of a trace."""
-    numbers, calls = set(), {}
+def operations(rows):
+    """The operations of a trace's rows, in the order of their first steps."""
+    begun, open_calls = [], {}
     for row in rows:
         number, me, line, gives, _, found, now, reply = ROW.fullmatch(row).groups()
-        call = calls.setdefault(me, {"effect": None, "look": None})
+        if me not in open_calls:
+            open_calls[me] = {"actor": me, "first": number, "last": "-", "at": "-", "reply": "-", "look": None}
+            begun.append(open_calls[me])
+        call = open_calls[me]
         if line in ("E9", "D13", "A5", "B5", "S4", "S8") and not gives and found != now:
-            call["effect"] = int(number)
+            call["at"] = number
         if line in ("D4", "B3"):
-            call["look"] = int(number)
+            call["look"] = number
         if reply:
-            numbers.add(call["effect"] or (call["look"] if reply == "empty" else int(number)))
-            del calls[me]
-    return numbers | {call["effect"] for call in calls.values()}
+            at = call["look"] if reply == "empty" else number
+            call.update(last=number, reply=reply, at=at if call["at"] == "-" else call["at"])
+            del open_calls[me]
+    return begun
 
 
-def told(schedule, width=80, first=1, last=0, actor=0):
+def effects(rows):
+    """The numbers at which operations take effect, by the rows of a trace."""
+    return {int(it["at"]) for it in operations(rows) if it["at"] != "-"}
+
+
+def accesses():
+    """Each line with its access, as docs/LINES.md has them."""
+    with open(os.path.join(os.path.dirname(os.path.abspath(__file__)), "../docs/LINES.md"), encoding="utf-8") as page:
+        rows = [row.split(" | ") for row in page if re.match(r"\| [A-Z]\d+ \|", row)]
+    return [(row[0][2:], row[1].replace("`", "")) for row in rows]
+
+
+def told(schedule, width=80, first=1, last=0, actor=0, legend=0):
     """What is drawn of a schedule, and the line of the fault by which one of its events is refused, or nothing."""
     trace, fault = traced.told(schedule)
     lines = schedule.split("\n")[:-1]
@@ -87,6 +104,7 @@ def told(schedule, width=80, first=1, last=0, actor=0):
         heading = heading.ljust(column(me) + 1) + str(me)
     put = lambda text: rows.append(text if len(text) <= width else text[: width - 1] + "~")
     put(heading)
+    used = set()
     seen = lambda number, me: first <= number <= end and begin <= me < begin + many
 
     def step(me, move):
@@ -101,6 +119,7 @@ def told(schedule, width=80, first=1, last=0, actor=0):
         else:
             found, now = content(word, found), content(word, now)
             did = f" {name(word)}" + (f" := {now}" if found != now else f" lost to {now}" if line in EXCHANGES else f" {now}")
+        used.add(line)
         cell = ("*" if machine.steps in marked else " ") + line + did + (f" -> {named(reply)}" if reply else "")
         text = (number.rjust(6) + " ").ljust(column(me)) + cell
         put(text.ljust(side) + after if machine.steps == first or before != after else text)
@@ -123,6 +142,9 @@ def told(schedule, width=80, first=1, last=0, actor=0):
         if begin <= int(me) < begin + many:
             put(f"{' ' * column(int(me))} at {line} {name(word)} {content(word, holds)}")
     rows.append(f"steps {first} to {min(end, steps)} of {steps}, actors {begin} to {begin + many - 1} of {actors}")
+    for line, access in accesses() if legend else []:
+        if line in used:
+            put(line.ljust(4) + access)
     return "".join(f"{row}\n" for row in rows), fault
 
 
@@ -132,7 +154,7 @@ def due(schedule, **view):
     return fault or written
 
 
-def timeline(history, width=80, first=1, last=0, actor=0):
+def timeline(history, width=80, first=1, last=0, actor=0, legend=0):
     """The timeline of a history's text."""
     ops = [OPERATION.fullmatch(line).groups() for line in history.split("\n")[1:-1]]
     number = lambda text: None if text == "-" else int(text)

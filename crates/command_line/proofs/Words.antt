@@ -9,7 +9,7 @@ use Rattle.line_table.specs.declared.lines.Kind.TheVariants.{NonBlocking}
 use Rattle.queue_kinds.specs.declared.kinds.QueueKind.TheVariants.{Linked}
 use Rattle.clap.specs.Words.{App, Row, Text, fault_of, first_of, is_simple, is_simple_and_free, subcommand_of}
 use Rattle.clap.proofs.OnLiterals.{clap_on_literals}
-use Rattle.command_line.specs.Commands.{command_line_app, faults_in, file_met, kind_by, kind_named, met_in, SaysFlag, SaysNumber, TextRow}
+use Rattle.command_line.specs.Commands.{command_line_app, faults_in, file_met, kind_by, kind_named, met_in, SaysFlag, SaysNumberIn, TextRow}
 
 module _ (queues : TextRow) where
   -- no words meet no command
@@ -70,11 +70,11 @@ pub kind_named-none : (o : Option (Bor Text)) (found : Option Text) → option_m
 kind_named-none o found told is = rw (← told, is) refl
 
 -- the number that was read of an option, or another one
-pub SaysNumber-read : {E : Type 0} (gives : List ℕ → Result ℕ E → Type 0) → ((t : List ℕ) (r : Result ℕ E) → gives t r → ParsesUnsigned 32 10 t r) → (o : Option Text) (r : Option ℕ) (other : ℕ)
-    → (o ≡ None → r ≡ None) → ((t : List ℕ) → o ≡ Some t → ReadsOne gives t r) → SaysNumber o other (unwrap_or r other)
-SaysNumber-read gives parses None r other none value = rw (none refl) refl
-SaysNumber-read gives parses (Some t) None other none value = let read = value t refl in inr (parses t (Err read.0) read.1, refl)
-SaysNumber-read gives parses (Some t) (Some n) other none value = inl (parses t (Ok n) (value t refl))
+pub SaysNumberIn-read : {E : Type 0} (bits : ℕ) (gives : List ℕ → Result ℕ E → Type 0) → ((t : List ℕ) (r : Result ℕ E) → gives t r → ParsesUnsigned bits 10 t r) → (o : Option Text) (r : Option ℕ) (other : ℕ)
+    → (o ≡ None → r ≡ None) → ((t : List ℕ) → o ≡ Some t → ReadsOne gives t r) → SaysNumberIn bits o other (unwrap_or r other)
+SaysNumberIn-read bits gives parses None r other none value = rw (none refl) refl
+SaysNumberIn-read bits gives parses (Some t) None other none value = let read = value t refl in inr (parses t (Err read.0) read.1, refl)
+SaysNumberIn-read bits gives parses (Some t) (Some n) other none value = inl (parses t (Ok n) (value t refl))
 
 -- what was read of a flag
 pub SaysFlag-read : (o : Option Text) (flag : Bool) → (o ≡ None → flag ≡ false) → (o ≡ Some (codes "true") → flag ≡ true) → (o ≡ Some (codes "false") → flag ≡ false) → SaysFlag o flag

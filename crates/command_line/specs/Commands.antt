@@ -15,8 +15,9 @@ use Rattle.queue_kinds.specs.declared.kinds.QueueKind.TheVariants.{Linked, Ring}
 use Rattle.command_line.specs.declared.commands.Command.{Command}
 use Rattle.command_line.specs.declared.commands.Crew.{Crew}
 use Rattle.command_line.specs.declared.commands.Task.{Task}
-use Rattle.command_line.specs.declared.commands.Task.TheVariants.{Trace, Show, Check, Place, Work, Post, Explain}
+use Rattle.command_line.specs.declared.commands.Task.TheVariants.{Run, Expand, Trace, Show, Check, Place, Work, Post, Explain}
 use Rattle.command_line.specs.declared.commands.View.{View}
+use Rattle.command_line.specs.declared.options.Placing.{Placing}
 
 -- whether a task tells the steps of a schedule
 abbrev pub is_trace : Task → Bool
@@ -35,7 +36,7 @@ is_check _ = false
 
 -- whether a task finds points for a history
 abbrev pub is_place : Task → Bool
-is_place (Place steps) = true
+is_place (Place placing) = true
 is_place _ = false
 
 -- whether a task does jobs
@@ -91,18 +92,24 @@ abbrev pub queue_rule : TextRow → Rule
 queue_rule queues =
     record (new_rule (codes "QUEUE")) { long = Some (codes "queue"); parser = Some (Names queues); defaults = codes "nonblocking" ∷ [] }
 
--- the command `show`, with a FILE, so many columns, a first and a last step, an actor, whether it is a history, and whether
--- a page is written
+-- the command `run`, with a FILE, and whether it is expanded
+abbrev pub run_app : App
+run_app = with_rule (file_app (codes "run")) (flag_rule (codes "EXPAND") (codes "expand"))
+
+-- the command `show`, with a FILE, so many columns, a first and a last step, an actor, whether it is a history, whether a page is
+-- written, and whether lines are told
 abbrev pub show_app : App
 show_app =
-    with_rule (with_rule (with_rule (with_rule (with_rule (with_rule (file_app (codes "show")) (number_rule (codes "WIDTH") (codes "width") 40 190 (codes "80")))
-    (number_rule (codes "FROM") (codes "from") 1 (2 ^ 32 - 1) (codes "1"))) (number_rule (codes "TO") (codes "to") 0 (2 ^ 32 - 1) (codes "0")))
+    with_rule (with_rule (with_rule (with_rule (with_rule (with_rule (with_rule (file_app (codes "show")) (number_rule (codes "WIDTH") (codes "width") 40 190 (codes "80")))
+    (number_rule (codes "FROM") (codes "from") 1 (2 ^ 64 - 1) (codes "1"))) (number_rule (codes "TO") (codes "to") 0 (2 ^ 64 - 1) (codes "0")))
     (number_rule (codes "ACTOR") (codes "actor") 0 65535 (codes "0"))) (flag_rule (codes "HISTORY") (codes "history")))
-    (flag_rule (codes "HTML") (codes "html"))
+    (flag_rule (codes "HTML") (codes "html"))) (flag_rule (codes "LINES") (codes "lines"))
 
--- the command `place`, with a FILE, and so many steps
+-- the command `place`, with a FILE, so many steps, and whether the lines of a reason are told
 abbrev pub place_app : App
-place_app = with_rule (file_app (codes "place")) (number_rule (codes "STEPS") (codes "steps") 0 1000000000 (codes "1000000"))
+place_app =
+    with_rule (with_rule (file_app (codes "place")) (number_rule (codes "STEPS") (codes "steps") 0 1000000000 (codes "1000000")))
+    (flag_rule (codes "WHY") (codes "why"))
 
 -- the command `work`, with a FILE, so many workers, a queue, and so many nodes
 abbrev pub work_app : TextRow → App
@@ -126,7 +133,7 @@ bare_app =
 abbrev pub command_line_app : TextRow → App
 command_line_app queues =
     with_subcommand (with_subcommand (with_subcommand (with_subcommand (with_subcommand (with_subcommand (with_subcommand (with_subcommand bare_app
-    (file_app (codes "run")).top) (file_app (codes "trace")).top) show_app.top) (file_app (codes "check")).top) place_app.top) (work_app queues).top)
+    run_app.top) (file_app (codes "trace")).top) show_app.top) (file_app (codes "check")).top) place_app.top) (work_app queues).top)
     (post_app queues).top) explain_app.top
 
 -- the FILE among the matches of a command
@@ -139,15 +146,19 @@ abbrev pub is_met : Text → Option (Text × List Row) → Bool
 is_met name None = false
 is_met name (Some command) = pointwise nat_eq command.0 name
 
--- a text says a number of 32 bits
-abbrev pub IsNumberText : Text → Type 0
-IsNumberText text = IsNumeral 10 (without_leading_plus text) × (digits_value 10 (without_leading_plus text) < 2 ^ 32)
+-- a text says a number of so many bits
+abbrev pub IsNumberText : (bits : ℕ) → Text → Type 0
+IsNumberText bits text = IsNumeral 10 (without_leading_plus text) × (digits_value 10 (without_leading_plus text) < 2 ^ bits)
 
--- a number is what the text of an option says, and another one where there is no option, or it says no number
+-- a number is what the text of an option says, in so many bits, and another one where there is no option, or it says none such
+abbrev pub SaysNumberIn : (bits : ℕ) → Option Text → (other number : ℕ) → Type 0
+SaysNumberIn bits None other number = number ≡ other
+SaysNumberIn bits (Some text) other number =
+    (IsNumberText bits text × (number ≡ digits_value 10 (without_leading_plus text))) ⊎ ((¬ IsNumberText bits text) × (number ≡ other))
+
+-- the same in 32 bits
 abbrev pub SaysNumber : Option Text → (other number : ℕ) → Type 0
-SaysNumber None other number = number ≡ other
-SaysNumber (Some text) other number =
-    (IsNumberText text × (number ≡ digits_value 10 (without_leading_plus text))) ⊎ ((¬ IsNumberText text) × (number ≡ other))
+SaysNumber = SaysNumberIn 32
 
 -- the kind of the queue with this name
 abbrev pub kind_by : Text → QueueKind
@@ -171,23 +182,32 @@ abbrev pub SaysFlag : Option Text → Bool → Type 0
 SaysFlag None flag = flag ≡ false
 SaysFlag (Some text) flag = (text ≡ codes "true" → flag ≡ true) × (text ≡ codes "false" → flag ≡ false)
 
+-- what a command's options say of how points are looked for
+pub record IsPlacingOf (options : List Row) (placing : Placing) : Type 0 where
+  pub many : SaysNumber (one_of (codes "STEPS") options) 1000000 placing.steps
+  pub why : SaysFlag (one_of (codes "WHY") options) placing.tells_why
+
 -- what a command's options say of a picture
 pub record IsViewOf (options : List Row) (view : View) : Type 0 where
   pub width : SaysNumber (one_of (codes "WIDTH") options) 80 view.width
-  pub first : SaysNumber (one_of (codes "FROM") options) 1 view.from
-  pub last : SaysNumber (one_of (codes "TO") options) 0 view.to
+  pub first : SaysNumberIn 64 (one_of (codes "FROM") options) 1 view.from
+  pub last : SaysNumberIn 64 (one_of (codes "TO") options) 0 view.to
   pub actor : SaysNumber (one_of (codes "ACTOR") options) 0 view.actor
   pub history : SaysFlag (one_of (codes "HISTORY") options) view.is_history
   pub page : SaysFlag (one_of (codes "HTML") options) view.is_page
+  pub legend : SaysFlag (one_of (codes "LINES") options) view.has_legend
 
 -- the options of the command that was met are those of a task
 abbrev pub HasOptions : Option (Text × List Row) → Task → Type 0
+HasOptions (Some command) Run = SaysFlag (one_of (codes "EXPAND") command.1) false
+HasOptions (Some command) Expand = SaysFlag (one_of (codes "EXPAND") command.1) true
 HasOptions (Some command) (Show view) = IsViewOf command.1 view
-HasOptions (Some command) (Place steps) = SaysNumber (one_of (codes "STEPS") command.1) 1000000 steps
+HasOptions (Some command) (Place placing) = IsPlacingOf command.1 placing
 HasOptions (Some command) (Work crew) = IsCrewOf command.1 crew
 HasOptions (Some command) (Post kind) = kind ≡ kind_named (first_of (codes "QUEUE") command.1)
+HasOptions None Expand = ⊥
 HasOptions None (Show view) = ⊥
-HasOptions None (Place steps) = ⊥
+HasOptions None (Place placing) = ⊥
 HasOptions None (Work crew) = ⊥
 HasOptions None (Post kind) = ⊥
 HasOptions met task = Unit {0}

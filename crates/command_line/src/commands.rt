@@ -1,10 +1,11 @@
 //! The words after the program's name.
-ghost use Rattle.std.specs.Prelude.{◌≡◌, ◌⊎◌, [], IfErr, IfOk, map, option_map, string_bytes, codes, true, false};
+ghost use Rattle.std.specs.Prelude.{◌≡◌, [], IfErr, IfOk, map, option_map, string_bytes, codes, true, false};
 ghost use Rattle.clap.specs.Words.{HasKind, app_of, first_of, found_of, kind_of, one_of, rows_of, rule_of, subcommand_rows_of, takes, with_subcommand};
-ghost use Rattle.command_line.specs.Commands.{command_line_app, explain_app, faults_in, file_app, file_met, flag_rule, kind_named, number_rule, place_app, post_app, queue_rule, show_app, status_at, work_app, AreQueues, AreTaken, IsAsked, IsAskedSomewhere, IsCrewOf, IsStatusOf, IsTask, IsViewOf, SaysFlag, SaysNumber};
+ghost use Rattle.command_line.specs.Commands.{command_line_app, explain_app, faults_in, file_app, file_met, flag_rule, kind_named, number_rule, place_app, post_app, queue_rule, run_app, show_app, work_app, AreQueues, AreTaken, IsAsked, IsAskedSomewhere, IsCrewOf, IsStatusOf, IsTask, IsViewOf, SaysFlag, SaysNumber};
 
 use crate::helps;
-use crate::options::{crew_in, explains_in, kind_in, number_in, view_in};
+use crate::messages::told;
+use crate::options::{Placing, crew_in, explains_in, flag_in, kind_in, placing_in, view_in};
 use clap::builder::ValueParser;
 use clap::error::ErrorKind;
 use clap::{Arg, ArgAction, ArgMatches};
@@ -17,9 +18,6 @@ const VERSION: &str = "0.4.0";
 
 /// The names of the queues.
 static QUEUES: [&str; 3] = ["two-lock", "nonblocking", "ring"];
-
-/// How many steps a search for an order takes at most where the words don't say it.
-const USUAL_STEPS: u32 = 1_000_000;
 
 /// How `work` does jobs.
 #[derive(Clone, Copy, Debug)]
@@ -38,15 +36,17 @@ pub struct View {
     /// How many columns a row has at most.
     pub width: u32,
     /// The first step.
-    pub from: u32,
+    pub from: u64,
     /// The last step; 0 for a hundred steps.
-    pub to: u32,
+    pub to: u64,
     /// The one actor; 0 for as many as have room.
     pub actor: u32,
     /// Whether the file has a history, and no schedule.
     pub is_history: bool,
     /// Whether a page is written that steps through the run.
     pub is_page: bool,
+    /// Whether a picture tells what the lines in its rows do.
+    pub has_legend: bool,
 }
 
 /// What is done with a file.
@@ -54,14 +54,16 @@ pub struct View {
 pub enum Task {
     /// Runs the schedule in it.
     Run,
+    /// Writes the schedule that the recipe in it stands for.
+    Expand,
     /// Tells each step of the schedule in it.
     Trace,
     /// Draws the run of the schedule in it, or the timeline of the history.
     Show(View),
     /// Judges the history in it.
     Check,
-    /// Finds linearization points for the recorded history in it, by a search of at most so many steps.
-    Place(u32),
+    /// Finds linearization points for the recorded history in it.
+    Place(Placing),
     /// Does the jobs in it.
     Work(Crew),
     /// Posts the letters in it, over a queue of this kind.
@@ -190,6 +192,21 @@ fn queue_option<'a>(alloc: Global, queues: &'a [&'a str]) -> Arg<'a>
         .help("The queue")
 }
 
+/// The command `run`.
+fn run_command<'a>(alloc: Global) -> Result<clap::Command<'a>, AllocError>
+    ensures { IfOk result (λ command. app_of command ≡ run_app) }
+{
+    let command = command_on(
+        alloc,
+        "run",
+        "Runs a schedule and writes its history",
+        "The schedule; - is standard input",
+        helps::RUN,
+    )?;
+    let expand = flag_option(alloc, "EXPAND", "expand");
+    command.arg(expand.help("Writes the schedule that a recipe, of version 3, stands for"))
+}
+
 /// The command `show`.
 fn show_command<'a>(alloc: Global) -> Result<clap::Command<'a>, AllocError>
     ensures { IfOk result (λ command. app_of command ≡ show_app) }
@@ -203,9 +220,9 @@ fn show_command<'a>(alloc: Global) -> Result<clap::Command<'a>, AllocError>
     )?;
     let width = number_option(alloc, "WIDTH", "width", (40, 190), "80");
     let command = command.arg(width.help("How many columns a row has at most, 40 to 190"))?;
-    let from = number_option(alloc, "FROM", "from", (1, u32::MAX as u64), "1");
-    let command = command.arg(from.help("The first step that is shown, 1 to 2^32 - 1"))?;
-    let to = number_option(alloc, "TO", "to", (0, u32::MAX as u64), "0");
+    let from = number_option(alloc, "FROM", "from", (1, u64::MAX), "1");
+    let command = command.arg(from.help("The first step that is shown, 1 to 2^64 - 1"))?;
+    let to = number_option(alloc, "TO", "to", (0, u64::MAX), "0");
     let command = command.arg(to.help("The last step that is shown; 0 for a hundred steps"))?;
     let actor = number_option(alloc, "ACTOR", "actor", (0, 65_535), "0");
     let command = command.arg(actor.help(
@@ -214,7 +231,9 @@ fn show_command<'a>(alloc: Global) -> Result<clap::Command<'a>, AllocError>
     let history = flag_option(alloc, "HISTORY", "history");
     let command = command.arg(history.help("Draws the timeline of a history: an operation a row"))?;
     let page = flag_option(alloc, "HTML", "html");
-    command.arg(page.help("Writes a page for a browser that steps through the run"))
+    let command = command.arg(page.help("Writes a page for a browser that steps through the run"))?;
+    let lines = flag_option(alloc, "LINES", "lines");
+    command.arg(lines.help("Tells behind a picture what each line in its rows does"))
 }
 
 /// The command `place`.
@@ -229,9 +248,11 @@ fn place_command<'a>(alloc: Global) -> Result<clap::Command<'a>, AllocError>
         helps::PLACE,
     )?;
     let steps = number_option(alloc, "STEPS", "steps", (0, 1_000_000_000), "1000000");
-    command.arg(steps.help(
+    let command = command.arg(steps.help(
         "How many steps a search may take, where values are repeated, 0 to 10^9",
-    ))
+    ))?;
+    let why = flag_option(alloc, "WHY", "why");
+    command.arg(why.help("Writes the lines of a reason's operations, with their numbers"))
 }
 
 /// The command `work`, with the names of the queues.
@@ -281,14 +302,7 @@ fn command_line<'a>(alloc: Global, queues: &'a [&'a str]) -> Result<clap::Comman
         .after_help(helps::PROGRAM)
         .no_binary_name(true)
         .subcommand_required(true);
-    let program = with_command(
-        alloc,
-        program,
-        "run",
-        "Runs a schedule and writes its history",
-        "The schedule; - is standard input",
-        helps::RUN,
-    )?;
+    let program = program.subcommand(run_command(alloc)?)?;
     let program = with_command(
         alloc,
         program,
@@ -356,13 +370,15 @@ fn task_in(matches: &ArgMatches<'_>) -> Task
     } else if name == "check" {
         Task::Check
     } else if name == "place" {
-        Task::Place(number_in(options, "STEPS", USUAL_STEPS))
+        Task::Place(placing_in(options))
     } else if name == "work" {
         Task::Work(crew_in(options))
     } else if name == "post" {
         Task::Post(kind_in(options))
     } else if name == "explain" {
         Task::Explain
+    } else if flag_in(options, "EXPAND") {
+        Task::Expand
     } else {
         Task::Run
     }
@@ -379,19 +395,4 @@ fn command_of(alloc: Global, task: Task, file: &str, explains: bool) -> Result<C
         file,
         explains,
     })
-}
-
-/// The status and the text of what clap says.
-fn told(alloc: Global, error: &clap::Error) -> (u8, String)
-    ensures status { (result.0 ≡ 1) ⊎ (result.0 ≡ status_at (kind_of error.now)) }
-    ensures memory { result.0 ≡ 1 → string_bytes result.1 ≡ [] }
-    ensures refused { kind_of error.now ≡ ErrorKind.OutOfMemory → result.0 ≡ 1 }
-{
-    if error.kind() == ErrorKind::OutOfMemory {
-        return (1, String::new(alloc));
-    }
-    match format!(in alloc; "{error}") {
-        Ok(text) => (if error.use_stderr() { 2 } else { 0 }, text),
-        Err(_) => (1, String::new(alloc)),
-    }
 }

@@ -14,10 +14,11 @@ Where standard error is a terminal, lines behind that of a refusal explain it, a
 far it is.";
 
 /// That of `run`.
-pub(crate) const RUN: &str = "Example:
+pub(crate) const RUN: &str = "Examples:
   msq run examples/first_run.schedule
+  msq run --expand examples/turns.recipe
 
-The texts: docs/FORMATS.md, Schedule and History";
+The texts: docs/FORMATS.md, Schedule, Recipe and History";
 
 /// That of `trace`.
 pub(crate) const TRACE: &str = "Example:
@@ -27,11 +28,11 @@ The texts: docs/FORMATS.md, Schedule and Trace";
 
 /// That of `show`.
 pub(crate) const SHOW: &str = "Examples:
-  msq show --width 100 examples/first_run.schedule
+  msq show --width 100 --lines examples/first_run.schedule
   msq show --html examples/reused_node.schedule
   msq show --history examples/first_run.history
 
-The texts: docs/FORMATS.md, Schedule, Picture and Page, History and Timeline";
+The texts: docs/FORMATS.md, Schedule and History; what is drawn: docs/PICTURES.md";
 
 /// That of `check`.
 pub(crate) const CHECK: &str = "Example:
@@ -40,8 +41,9 @@ pub(crate) const CHECK: &str = "Example:
 The texts: docs/FORMATS.md, History and Verdict";
 
 /// That of `place`.
-pub(crate) const PLACE: &str = "Example:
+pub(crate) const PLACE: &str = "Examples:
   msq place examples/pending_pop.recording
+  msq place --why examples/overtaken.recording
 
 The texts: docs/FORMATS.md, History, Recording and Placed history";
 

@@ -3,6 +3,8 @@
 
 mod commands;
 mod helps;
+mod messages;
 mod options;
 
 pub use commands::{Command, Crew, Task, View, read_words};
+pub use options::Placing;

@@ -1,7 +1,7 @@
 //! What is read of the options of a command.
 ghost use Rattle.std.specs.Prelude.{◌≡◌, codes};
 ghost use Rattle.clap.specs.Words.{first_of, found_of, one_of, rows_of, subcommand_rows_of};
-ghost use Rattle.command_line.specs.Commands.{kind_by, kind_named, AsksForCauses, IsCrewOf, IsViewOf, SaysFlag, SaysNumber};
+ghost use Rattle.command_line.specs.Commands.{kind_by, kind_named, AsksForCauses, IsCrewOf, IsPlacingOf, IsViewOf, SaysFlag, SaysNumber, SaysNumberIn};
 
 use crate::commands::{Crew, View};
 use clap::ArgMatches;
@@ -17,8 +17,20 @@ const USUAL_NODES: u32 = 1024;
 /// How many columns a picture has at most where the words don't say it.
 const USUAL_WIDTH: u32 = 80;
 
+/// How many steps a search for an order takes at most where the words don't say it.
+const USUAL_STEPS: u32 = 1_000_000;
+
 /// The first step that a picture shows where the words don't say it.
-const USUAL_FROM: u32 = 1;
+const USUAL_FROM: u64 = 1;
+
+/// How `place` looks for points.
+#[derive(Clone, Copy, Debug)]
+pub struct Placing {
+    /// How many steps a search takes at most.
+    pub steps: u32,
+    /// Whether the lines of a reason's operations are told.
+    pub tells_why: bool,
+}
 
 /// What is shown, among the options of `show`.
 pub(crate) fn view_in(options: &ArgMatches<'_>) -> View
@@ -26,16 +38,17 @@ pub(crate) fn view_in(options: &ArgMatches<'_>) -> View
 {
     View {
         width: number_in(options, "WIDTH", USUAL_WIDTH),
-        from: number_in(options, "FROM", USUAL_FROM),
-        to: number_in(options, "TO", 0),
+        from: wide_number_in(options, "FROM", USUAL_FROM),
+        to: wide_number_in(options, "TO", 0),
         actor: number_in(options, "ACTOR", 0),
         is_history: flag_in(options, "HISTORY"),
         is_page: flag_in(options, "HTML"),
+        has_legend: flag_in(options, "LINES"),
     }
 }
 
 /// Whether this option is given.
-fn flag_in(options: &ArgMatches<'_>, id: &str) -> bool
+pub(crate) fn flag_in(options: &ArgMatches<'_>, id: &str) -> bool
     ensures { SaysFlag (one_of id.now (rows_of (found_of options.now))) result }
 {
     options.get_flag(id)
@@ -62,12 +75,32 @@ pub(crate) fn crew_in(options: &ArgMatches<'_>) -> Crew
     }
 }
 
+/// How points are looked for, among the options of `place`.
+pub(crate) fn placing_in(options: &ArgMatches<'_>) -> Placing
+    ensures { IsPlacingOf (rows_of (found_of options.now)) result }
+{
+    Placing {
+        steps: number_in(options, "STEPS", USUAL_STEPS),
+        tells_why: flag_in(options, "WHY"),
+    }
+}
+
 /// The number of this option, and another one where there is none.
-pub(crate) fn number_in(options: &ArgMatches<'_>, id: &str, other: u32) -> u32
+fn number_in(options: &ArgMatches<'_>, id: &str, other: u32) -> u32
     ensures { SaysNumber (one_of id.now (rows_of (found_of options.now))) other result }
 {
     match options.get_one::<u32>(id) {
         Some(number) => number,
+        None => other,
+    }
+}
+
+/// The same, of 64 bits.
+fn wide_number_in(options: &ArgMatches<'_>, id: &str, other: u64) -> u64
+    ensures { SaysNumberIn 64 (one_of id.now (rows_of (found_of options.now))) other result }
+{
+    match options.get_one::<u64>(id) {
+        Some(wide) => wide,
         None => other,
     }
 }

@@ -32,6 +32,21 @@ const SECOND_EVENT: &str =
     "an event: 'begin A enq B', 'begin A deq', 'begin A shut', 'steps A K', 'step A L' or 'give A', \
     A from 1 to 65535, B from 0 to 281474976710655, K from 1 to 1000000, L a line of docs/LINES.md";
 
+/// The lines that a recipe begins with, but for those that say nothing.
+const RECIPE: [&str; 6] = [
+    "'msq schedule 3'",
+    "'queue two-lock' or 'queue nonblocking'",
+    "'bits D', D from 16 to 32",
+    "'nodes N', N from 2 to 2^D - 2",
+    "'limit C', C from 1 to 2^(64 - D) - 1",
+    "'actors K', K from 1 to 65535",
+];
+
+/// What a recipe has behind these.
+const ACT: &str =
+    "an event of a schedule of version 2, 'until A L', 'finish A', 'repeat N', N from 1 to 1000000, or 'end', A from 1 to \
+    65535, L a line of docs/LINES.md; no repeat in a repeat, and at most 1000000 acts";
+
 /// What is due at a line, counted from 1, of the text that a task reads. The version of a schedule, and whether a text is a
 /// recording, is that of the text's first line.
 pub(crate) fn due_at(task: Task, text: &[u8], line: u64) -> &'static str {
@@ -42,6 +57,7 @@ pub(crate) fn due_at(task: Task, text: &[u8], line: u64) -> &'static str {
         Task::Place(_) => recording(line),
         Task::Work(_) => jobs(line),
         Task::Post(_) => mail(line),
+        Task::Expand => recipe(text, line),
         _ if text.starts_with(b"msq schedule 2\n") => schedule(&SECOND, SECOND_EVENT, line),
         _ => schedule(&FIRST, FIRST_EVENT, line),
     }
@@ -53,6 +69,22 @@ fn schedule(header: &[&'static str], event: &'static str, line: u64) -> &'static
         Some(form) => form,
         None => event,
     }
+}
+
+/// That of a recipe: the first line as it stands, and then by how many lines before this one say something.
+fn recipe(text: &[u8], line: u64) -> &'static str {
+    let mut said = 0_u64;
+    let mut number = 1_u64;
+    for one in text.split(|byte| *byte == b'\n') {
+        if number == line {
+            break;
+        }
+        number = number.saturating_add(1);
+        if !(one.is_empty() || one.starts_with(b"#") || one.starts_with(b" #")) {
+            said = said.saturating_add(1);
+        }
+    }
+    schedule(&RECIPE, ACT, said.saturating_add(1))
 }
 
 /// That of a history.
@@ -72,7 +104,7 @@ fn recording(line: u64) -> &'static str {
         1 => "'msq record 1', or 'history K', K from 0 to 1000000",
         2 => "'operations K', K from 0 to 1000000",
         _ => {
-            "an operation: 'NAME CALL from F to L reply R', CALL 'enq TEXT', 'deq' or 'shut', F and L numbers from 1, L also \
+            "an operation: 'NAME CALL from F to L reply R', CALL 'enq TEXT', 'deq' or 'shut', F a number from 1, L one from F, or \
             '-', R 'done', 'value TEXT', 'empty', 'refused', 'closed' or '-', NAME and TEXT 1 to 64 letters, digits, '_', '-', '.'"
         }
     }

@@ -1,41 +1,53 @@
 //! Commands with options, which are handed on to the engines.
-ghost use Rattle.std.specs.Prelude.{◌≡◌, ◌↔◌, Err, IfOk, OnOk};
+ghost use Rattle.std.specs.Prelude.{◌≡◌, ◌↔◌, [], Err, IfOk, OnOk, if◌then◌else◌};
 ghost use Rattle.job_engine.specs.Crews.{IsCrewQueue};
 ghost use Rattle.job_engine.specs.Queues.{queue_in};
 ghost use Rattle.job_engine.specs.Works.{IsBadSize};
+ghost use Rattle.place_engine.specs.Places.{TellsPlaces};
 ghost use Rattle.msq.specs.Options.{Draws};
 
-use command_line::{Crew, View as Asked};
+use command_line::{Crew, Placing, View as Asked};
 use engine_faults::Fault;
 use history::Refusal;
 use job_engine::{JobQueue, work_text};
 use page_engine::{Frame, page_text};
-use show_engine::{View, show_history, show_text};
+use place_engine::place_text;
+use placing::Placed;
+use show_engine::{Meaning, View, show_history, show_text};
 use std::alloc::Global;
 use std::sync::Wait;
 use std::thread::Threads;
 use text_io::{Sink, Source};
 
-/// Draws the schedule, or the history, that a source gives, by the options of `show`; or writes the page of the schedule, in a
-/// frame.
-pub(crate) fn show_by<S: Source, W: Sink>(
+/// The meanings that are told behind a picture.
+fn legend_by<'a>(options: Asked, meanings: &'a [Meaning<'a>]) -> &'a [Meaning<'a>]
+    ensures { result.now ≡ (if options.has_legend then meanings.now else []) }
+{
+    if options.has_legend { meanings } else { &[] }
+}
+
+/// Draws the schedule, or the history, that a source gives, by the options of `show`, with these meanings of lines where they ask
+/// for a legend; or writes the page of the schedule, in a frame.
+pub(crate) fn show_by<'a, S: Source, W: Sink>(
     alloc: Global,
     options: Asked,
     frame: &Frame<'_>,
+    meanings: &'a [Meaning<'a>],
     reader: &mut S,
     writer: &mut W,
 ) -> Result<(), Fault>
     //= program/show_options: At Ok `show_by`, which `msq show` calls, has drawn what its options ask for: the picture of a
-    //=   schedule, or the timeline of a history, of just that width, those steps and that actor; or the page around the
-    //=   schedule's trace.
-    ensures drawn { OnOk result (Draws options frame.now (S.state reader.old).left (W.state writer.old)
-        (W.state writer.new)) }
+    //=   schedule, or the timeline of a history, of just that width, those steps and that actor, with a legend or without
+    //=   one; or the page around the schedule's trace.
+    ensures drawn { OnOk result (Draws options frame.now meanings.now (S.state reader.old).left
+        (W.state writer.old) (W.state writer.new)) }
 {
     let view = View {
         width: options.width,
         from: options.from,
         to: options.to,
         actor: options.actor,
+        legend: legend_by(options, meanings),
     };
     if options.is_history {
         show_history(alloc, reader, writer, view)?;
@@ -45,6 +57,22 @@ pub(crate) fn show_by<S: Source, W: Sink>(
         return page_text(alloc, reader, writer, frame);
     }
     show_text(alloc, reader, writer, view)
+}
+
+/// Finds points for the history that a source gives, or a reason why there are none, by the options of `place`.
+pub(crate) fn place_by<S: Source, W: Sink>(
+    alloc: Global,
+    options: Placing,
+    reader: &mut S,
+    writer: &mut W,
+) -> Result<Placed, Refusal>
+    //= program/place_options: At Ok `place_by`, which `msq place` calls, has searched by as many steps at most as its
+    //=   options ask for, and has written the lines of a reason's operations exactly where they do.
+    ensures { IfOk result (TellsPlaces (S.state reader.old).left options.steps options.tells_why
+        (W.state writer.old) (W.state writer.new)) }
+{
+    let steps = u64::from(options.steps);
+    place_text(alloc, reader, writer, steps, options.tells_why)
 }
 
 /// Does the jobs that a source gives, by the options of `work`, and answers their queue.

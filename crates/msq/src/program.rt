@@ -1,18 +1,19 @@
 //! The program: its words, its files and its exit status.
 use crate::causes::tell_cause;
 use crate::notes::{Kept, NotedSink, NotedSource, Notes};
-use crate::options::{show_by, work_by};
+use crate::options::{place_by, show_by, work_by};
 use crate::progress::Progress;
 use check_engine::check_text;
 use command_line::{Command, Task, read_words};
 use engine_faults::{Ending, Fault, end_of};
+use expand_engine::expand_text;
 use explanations::{ENTRIES, explain};
 use history::Refusal;
 use mail_engine::post_text;
 use page_engine::{AFTER, BEFORE, Frame};
-use place_engine::place_text;
 use placing::Placed;
 use run_engine::run_text;
+use show_engine::ACCESSES;
 use std::fs::File;
 use std::rt::Runtime;
 use std::sync::Wait;
@@ -164,20 +165,20 @@ fn outcome_on<R: Runtime + AllocGlobal + Threads + Wait + Sync, S: Source, W: Si
 ) -> Result<Ending, Fault> {
     match command.task {
         Task::Run => run_text(rt.alloc(), reader, writer)?,
+        Task::Expand => expand_text(rt.alloc(), reader, writer)?,
         Task::Trace => trace_text(rt.alloc(), reader, writer)?,
         Task::Show(options) => {
             let frame = Frame {
                 before: BEFORE,
                 after: AFTER,
             };
-            show_by(rt.alloc(), options, &frame, reader, writer)?;
+            show_by(rt.alloc(), options, &frame, &ACCESSES, reader, writer)?;
         }
         Task::Check => {
             return Ok(Ending::from(check_text(rt.alloc(), reader, writer)?));
         }
-        Task::Place(steps) => {
-            let steps = u64::from(steps);
-            return Ok(match place_text(rt.alloc(), reader, writer, steps)? {
+        Task::Place(options) => {
+            return Ok(match place_by(rt.alloc(), options, reader, writer)? {
                 Placed::History(_) => Ending::Well,
                 Placed::Impossible(_) => Ending::No,
                 Placed::Open(_) => Ending::Open,

@@ -17,7 +17,7 @@ use text_lines::{TextCause, Words};
 
 const MOST_STEPS: u64 = 1_000_000;
 
-/// The event that a line of a text of this version says, without its line feed.
+/// The event that a line of a text of this version says, without its line feed. Takes no memory and doesn't wait.
 pub fn event_in(version: Version, line: &[u8]) -> Result<Event, TextCause>
     ensures { ReadsLine (Tells version (words_of line.now)) IsEventInRange result }
 {

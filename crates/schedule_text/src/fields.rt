@@ -61,7 +61,7 @@ impl Field {
     }
 }
 
-/// The queue that a line names.
+/// The queue that a line names. Takes no memory and doesn't wait.
 pub fn kind_in(line: &[u8]) -> Result<Kind, TextCause>
     ensures { ReadsLine (λ kind. words_of line.now ≡ said_words (queue kind))
         (λ kind. IsSaidInRange 24 (queue kind)) result }
@@ -87,7 +87,7 @@ fn kind_of(name: &[u8]) -> Option<Kind>
     }
 }
 
-/// The number that a line says, where so many bits hold a node.
+/// The number that a line says, where so many bits hold a node. Takes no memory and doesn't wait.
 pub fn number_of(field: Field, bits: u32, line: &[u8]) -> Result<u64, TextCause>
     requires { IsSplit bits }
     ensures { ReadsLine (λ value. words_of line.now ≡ said_words (number field value))

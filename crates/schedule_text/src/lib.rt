@@ -15,6 +15,8 @@ mod schedules;
 mod streaming;
 
 pub use event_stream::EventStream;
+pub use events::event_in;
+pub use fields::{Field, kind_in, number_of};
 pub use owned_events::Events;
 pub use parsing::{Header, parse};
 pub use printing::{name_of_kind, print};

@@ -1,5 +1,7 @@
 mod Texts
 mod HasDrawn
+mod Ends
+mod Noted
 mod Truncations
 mod Lookups
 mod Shown

@@ -47,16 +47,16 @@ framed_as view seen s frame is same = is ∙ ap (λ (s : Schedule). frame_of vie
 
 module _ (view : View) (s : Schedule) (frame : Frame) (counted : Counted) (is : frame ≡ frame_of view s.actors) (c : IsCountOf s counted) (bits : ℕ) (split : s.bits ≡ bits) where
   abbrev text : List ℕ
-  text = due_text frame bits s counted c.run.world
+  text = due_text frame view.legend.now bits s counted c.run.world
 
   -- a picture by the numbers that a run has left is one by its operations
   by_operations : text ≡ events_text view s (take counted.run.made s.events) c.run.world (rest_text (frame_of view s.actors) s.bits c.run.world s.actors (slice_get s.events counted.run.made))
   by_operations =
       let marks : is_among counted.effects.items ≡ takes_effect c.run.world.operations = λ i number. c.effects.each number i in
-      ap (λ (b : ℕ). due_text frame b s counted c.run.world) (sym split)
-      ∙ ap (λ (f : Frame). due_text f s.bits s counted c.run.world) is
+      ap (λ (b : ℕ). due_text frame view.legend.now b s counted c.run.world) (sym split)
+      ∙ ap (λ (f : Frame). due_text f view.legend.now s.bits s counted c.run.world) is
       ∙ ap
-      (λ (marked : ℕ → Bool). framed_text (frame_of view s.actors) marked c.run.world.steps s.bits s (take counted.run.made s.events)
+      (λ (marked : ℕ → Bool). framed_text (frame_of view s.actors) view.legend.now marked c.run.world.steps s.bits s (take counted.run.made s.events)
       (rest_text (frame_of view s.actors) s.bits c.run.world s.actors (slice_get s.events counted.run.made)))
       marks
 

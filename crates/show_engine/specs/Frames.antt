@@ -24,9 +24,9 @@ shown_of view actors = shown_within view (room_of (width_of view)) actors
 abbrev pub side_of : (room count : ℕ) → ℕ
 side_of room count = min room (25 + 12 * count)
 
--- the number of the last step that may be shown: the one asked for, or the hundredth one
+-- the number of the last step that may be shown: the one asked for, or the hundredth one, where that has 64 bits
 abbrev pub end_of : View → ℕ
-end_of view = if nat_eq view.to 0 then view.from + 99 else view.to
+end_of view = if nat_eq view.to 0 then min (view.from + 99) (2 ^ 64 - 1) else view.to
 
 -- what is shown of a run of so many actors, and where
 abbrev pub frame_of : View → (actors : ℕ) → Frame

@@ -2,6 +2,7 @@ pub mod Frames
 pub mod Rows
 pub mod Cells
 pub mod Chains
+pub mod Legends
 pub mod Pictures
 pub mod Standing
 pub mod Showing

@@ -14,11 +14,13 @@ use Rattle.step_machine.specs.Machine.{World, actor_of, mover, next}
 use Rattle.run_engine.specs.Runs.{opening_of}
 use Rattle.trace_engine.specs.Steps.{text_on}
 use Rattle.show_engine.specs.declared.framing.Frame.{Frame}
+use Rattle.show_engine.specs.declared.framing.Meaning.{Meaning}
 use Rattle.show_engine.specs.declared.framing.View.{View}
 use Rattle.show_engine.specs.Frames.{frame_of, shows}
 use Rattle.show_engine.specs.Rows.{names_row, number_text, queue_text, row_text, shown_text}
 use Rattle.show_engine.specs.Cells.{cell_text, gives_text, touch_text}
 use Rattle.show_engine.specs.Chains.{side_text, state_text}
+use Rattle.show_engine.specs.Legends.{legend_text, lines_in}
 use Rattle.show_engine.specs.Standing.{rest_text}
 
 -- these numbers, behind another one, if there is one
@@ -67,16 +69,22 @@ moves_text text (m ∷ ms) w = text_on (λ v. text w v m ++ moves_text text ms v
 abbrev pub rows_text : Frame → (marked : ℕ → Bool) → (bits : ℕ) → Schedule → List Event → List ℕ
 rows_text f marked bits s events = moves_text (drawn_text f marked bits) (moves_of events) (opening_of s)
 
--- a picture in a frame of these events of a schedule, which are so many steps, with these rows behind theirs
-abbrev pub framed_text : Frame → (marked : ℕ → Bool) → (steps bits : ℕ) → Schedule → List Event → (behind : List ℕ) → List ℕ
-framed_text f marked steps bits s events behind =
-    (((queue_text s ++ names_row f) ++ rows_text f marked bits s events) ++ behind) ++ shown_text f s.actors steps
+-- behind a text the lines above the rows, the rows of these events of a schedule, and these rows behind theirs
+abbrev pub made_text : (before : List ℕ) → Frame → (marked : ℕ → Bool) → (bits : ℕ) → Schedule → List Event → (behind : List ℕ) → List ℕ
+made_text before f marked bits s events behind =
+    ((before ++ (queue_text s ++ names_row f)) ++ rows_text f marked bits s events) ++ behind
+
+-- a picture in a frame of these events of a schedule, which are so many steps, with these rows behind theirs, and behind it what is
+-- told of the lines in theirs
+abbrev pub framed_text : Frame → List Meaning → (marked : ℕ → Bool) → (steps bits : ℕ) → Schedule → List Event → (behind : List ℕ) → List ℕ
+framed_text f legend marked steps bits s events behind =
+    made_text [] f marked bits s events behind ++ shown_text f s.actors steps ++ legend_text f legend (lines_in f s events)
 
 -- a picture of these events of a schedule, which lead to a world, with these rows behind theirs: a row is marked where an operation
 -- of that world takes effect
 abbrev pub events_text : View → Schedule → List Event → World → (behind : List ℕ) → List ℕ
 events_text view s events w behind =
-    framed_text (frame_of view s.actors) (takes_effect w.operations) w.steps s.bits s events behind
+    framed_text (frame_of view s.actors) view.legend.now (takes_effect w.operations) w.steps s.bits s events behind
 
 -- the picture of a schedule that leads to a world
 abbrev pub picture_text : View → Schedule → World → List ℕ

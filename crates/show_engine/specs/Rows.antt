@@ -25,6 +25,10 @@ number_text n = replicate (6 - length (decimal n)) 32 ++ decimal n ++ codes " "
 unfoldable pub row_text : Frame → (me : ℕ) → (start cell side : List ℕ) → List ℕ
 row_text f me start cell side = truncated_to f.width (beside f.side side (padded (column_of f me) start ++ cell)) ++ codes "\n"
 
+-- a row of two texts, the second one at a column
+unfoldable pub pair_row : Frame → (column : ℕ) → (first second : List ℕ) → List ℕ
+pair_row f column first second = truncated_to f.width (padded column first ++ second) ++ codes "\n"
+
 -- the numbers of so many actors, each at its column
 abbrev pub names_text : Frame → (count : ℕ) → List ℕ
 names_text f zero = codes " actor"

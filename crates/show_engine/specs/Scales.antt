@@ -1,5 +1,5 @@
 -- Which numbers of a history a timeline shows, and in which columns.
-use Rattle.std.specs.Prelude.{ℕ, ◌+◌, ◌-◌, ◌*◌, ◌/◌, ◌≤◌, ◌<◌, ◌^◌, min, max, List, [], ◌∷◌, Option, Some, None, Bool, true, ◌&&◌, ◌||◌, nat_eq, nat_le}
+use Rattle.std.specs.Prelude.{ℕ, ◌+◌, ◌-◌, ◌*◌, ◌/◌, ◌≤◌, min, max, List, [], ◌∷◌, Option, Some, None, Bool, true, ◌&&◌, ◌||◌, nat_eq, nat_le}
 use Rattle.history.specs.declared.operations.Stamped.{Stamped}
 use Rattle.show_engine.specs.declared.framing.View.{View}
 use Rattle.show_engine.specs.Frames.{end_of, width_of}
@@ -43,4 +43,3 @@ pub record IsFitting (s : Scale) : Type 0 where
   pub some : 40 ≤ s.width
   pub half : s.columns ≤ 95
   pub one : 1 ≤ s.columns
-  pub numbers : s.to < 2 ^ 33

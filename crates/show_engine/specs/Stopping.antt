@@ -1,5 +1,5 @@
 -- What is drawn of a schedule whose events are refused at one.
-use Rattle.std.specs.Prelude.{◌≡◌, ℕ, ◌⊎◌, List, take, Option, Result}
+use Rattle.std.specs.Prelude.{◌≡◌, ℕ, ◌⊎◌, List, [], ◌++◌, take, Option, Result}
 use Rattle.std.specs.List.{slice_get}
 use Rattle.std.specs.Io.KnownBytes.{Appends}
 use Rattle.engine_faults.specs.declared.faults.Fault.{Fault}
@@ -14,14 +14,24 @@ use Rattle.trace_engine.specs.Tracing.{OfSchedule}
 use Rattle.show_engine.specs.declared.counting.Counted.{Counted}
 use Rattle.show_engine.specs.declared.framing.Frame.{Frame}
 use Rattle.show_engine.specs.declared.framing.View.{View}
-use Rattle.show_engine.specs.Pictures.{framed_text, stopped_text}
+use Rattle.show_engine.specs.declared.framing.Meaning.{Meaning}
+use Rattle.show_engine.specs.Legends.{legend_text, lines_in}
+use Rattle.show_engine.specs.Pictures.{made_text, stopped_text}
+use Rattle.show_engine.specs.Rows.{shown_text}
 use Rattle.show_engine.specs.Showing.{HasShown, IsPictureOf, is_among}
 use Rattle.show_engine.specs.Standing.{rest_text}
 
--- the picture in a frame of the events of a schedule that can be made, which lead to a world, by what a run of it has left
-abbrev pub due_text : Frame → (bits : ℕ) → Schedule → Counted → World → List ℕ
-due_text f bits s counted w =
-    framed_text f (is_among counted.effects.items) w.steps bits s (take counted.run.made s.events) (rest_text f bits w s.actors (slice_get s.events counted.run.made))
+-- behind a text the lines above the rows, the rows of the events of a schedule that can be made, which lead to a world, by what a
+-- run of it has left, and those of where actors stand if the next one is refused
+abbrev pub made_due : (before : List ℕ) → Frame → (bits : ℕ) → Schedule → Counted → World → List ℕ
+made_due before f bits s counted w =
+    made_text before f (is_among counted.effects.items) bits s (take counted.run.made s.events)
+    (rest_text f bits w s.actors (slice_get s.events counted.run.made))
+
+-- the picture in a frame of these events, with what is told of their lines
+abbrev pub due_text : Frame → List Meaning → (bits : ℕ) → Schedule → Counted → World → List ℕ
+due_text f legend bits s counted w =
+    made_due [] f bits s counted w ++ shown_text f s.actors w.steps ++ legend_text f legend (lines_in f s (take counted.run.made s.events))
 
 -- the picture of a schedule whose events are refused at the one in this line: the rows of the events before it, and of where
 -- actors stand then

@@ -13,10 +13,11 @@ ghost use Rattle.show_engine.specs.Pictures.{drawn_text, moves_text};
 ghost use Rattle.show_engine.specs.Rows.{names_row, queue_text};
 ghost use Rattle.show_engine.specs.Showing.{IsCountOf, is_among};
 ghost use Rattle.show_engine.specs.Standing.{rest_text};
-ghost use Rattle.show_engine.specs.Stopping.{due_text};
+ghost use Rattle.show_engine.specs.Stopping.{due_text, made_due};
 
 use crate::counting::Counted;
-use crate::framing::Frame;
+use crate::framing::{Frame, Meaning};
+use crate::legends::{lines_in, write_end};
 use crate::moving::draw_move;
 use crate::rows::{names_line, queue_line, shown_line};
 use crate::standing::put_stands;
@@ -79,7 +80,7 @@ fn put_moves<const B: u32, W: Sink>(
 }
 
 /// The move of an event, and how often it is made.
-fn moves_in(event: Event) -> (Move, u32)
+pub(crate) fn moves_in(event: Event) -> (Move, u32)
     requires { IsEventInRange event }
     ensures moves { replicate result.1 result.0 ≡ moves_of_event event }
     ensures few { result.1 ≤ 1000000 }
@@ -155,6 +156,32 @@ fn put_rest<const B: u32, W: Sink>(
     }
 }
 
+/// Puts the lines above the rows, the rows of the events of a schedule that can be made, by what a run of it has left, and where actors
+/// stand if the next one is refused.
+fn draw_made<const B: u32, W: Sink>(
+    world: &mut WorldOf<B>,
+    schedule: &Schedule,
+    frame: Frame,
+    counted: &Counted,
+    block: &mut Block,
+    writer: &mut W,
+) -> Result<(), Refusal>
+    requires range { IsInRange schedule.now }
+    requires count { IsCountOf schedule.now counted.now }
+    requires opening { world.old ≡ opening_of schedule.now }
+    requires fits { IsFitting frame }
+    ensures { (w : World) → EventsLead (opening_of schedule.now)
+        (take counted.now.run.made schedule.now.events) w
+        → Tells (W.state writer.old) (W.state writer.new)
+        (made_due block.old frame B schedule.now counted.now w) block.new result }
+{
+    put_heading(schedule, frame, block, writer)?;
+    let events = first_events(schedule, counted.run.made);
+    let effects = counted.effects.as_slice();
+    put_all(world, frame, effects, events, block, writer)?;
+    put_rest(world, frame, schedule, counted.run.made, block, writer)
+}
+
 /// Writes the picture of the events of a schedule that can be made, by what a run of it has left, and where actors stand if the next
 /// one is refused.
 pub(crate) fn draw<const B: u32, W: Sink>(
@@ -162,6 +189,7 @@ pub(crate) fn draw<const B: u32, W: Sink>(
     schedule: &Schedule,
     frame: Frame,
     counted: &Counted,
+    legend: &[Meaning<'_>],
     writer: &mut W,
 ) -> Result<(), Refusal>
     requires range { IsInRange schedule.now }
@@ -170,24 +198,13 @@ pub(crate) fn draw<const B: u32, W: Sink>(
     requires fits { IsFitting frame }
     ensures { (w : World) → EventsLead (opening_of schedule.now)
         (take counted.now.run.made schedule.now.events) w → counted.now.run.steps ≡ w.steps
-        → Tells (W.state writer.old) (W.state writer.new) (due_text frame B schedule.now counted.now w) []
-        result }
+        → Tells (W.state writer.old) (W.state writer.new)
+        (due_text frame legend.now B schedule.now counted.now w) [] result }
 {
+    let lines = lines_in::<B>(alloc, schedule, frame, counted.run.made, legend)?;
     let mut world = opening_world::<B>(alloc, schedule)?;
     let mut block = Block::new();
-    put_heading(schedule, frame, &mut block, writer)?;
-    let events = first_events(schedule, counted.run.made);
-    let effects = counted.effects.as_slice();
-    put_all(&mut world, frame, effects, events, &mut block, writer)?;
-    put_rest(
-        &world,
-        frame,
-        schedule,
-        counted.run.made,
-        &mut block,
-        writer,
-    )?;
+    draw_made(&mut world, schedule, frame, counted, &mut block, writer)?;
     let last = shown_line(frame, schedule.actors, counted.run.steps);
-    block.put(writer, last.as_slice())?;
-    block.finish(writer)
+    write_end(&last, frame, legend, lines.as_slice(), block, writer)
 }

@@ -29,17 +29,17 @@ macro_rules! by_bits {
 fn show_with<const B: u32, W: Sink>(
     alloc: Global,
     schedule: &Schedule,
-    view: View,
+    view: View<'_>,
     writer: &mut W,
 ) -> Result<(), Fault>
     requires range { IsInRange schedule.now }
     requires bits { schedule.now.bits ≡ B }
-    ensures { Draws view schedule.now (W.state writer.old) (W.state writer.new)
+    ensures { Draws view.entry schedule.now (W.state writer.old) (W.state writer.new)
         (writer.new ≡ writer.old) result }
 {
     let counted = count::<B>(alloc, schedule)?;
     let frame = Frame::of(view, schedule.actors);
-    draw::<B, W>(alloc, schedule, frame, &counted, writer)?;
+    draw::<B, W>(alloc, schedule, frame, &counted, view.legend, writer)?;
     match counted.run.refusal {
         None => Ok(()),
         Some(refusal) => {
@@ -53,11 +53,11 @@ fn show_with<const B: u32, W: Sink>(
 fn show_in<W: Sink>(
     alloc: Global,
     schedule: &Schedule,
-    view: View,
+    view: View<'_>,
     writer: &mut W,
 ) -> Result<(), Fault>
     requires range { IsInRange schedule.now }
-    ensures { Draws view schedule.now (W.state writer.old) (W.state writer.new)
+    ensures { Draws view.entry schedule.now (W.state writer.old) (W.state writer.new)
         (writer.new ≡ writer.old) result }
 {
     let bits = schedule.bits;
@@ -70,9 +70,11 @@ fn show_in<W: Sink>(
 /// that changed one of them. The view says which steps and actors are shown, and the last line says it too. Where an event is refused,
 /// these are the rows of the events before it, and behind them a row for each actor with a column and a call says where it stands.
 ///
+/// Behind the picture stands of the view's legend each row whose line is at a row of a step or of a give.
+///
 /// The schedule's events are held, at most 1,000,000, and where its operations take effect. None of its steps is. The
 /// events are made twice, and those before one that is refused once more: first to find whether one is, and at last step by step as
-/// the rows are written.
+/// the rows are written. Where there is a legend, they are made once more before, to find which lines are at rows.
 ///
 /// A fault is, in this order: `Memory`, as soon as a growth is refused; `Read`, where a call of the
 /// reader fails; `Text`, where the bytes are no schedule; `Write`, where a call of the writer fails or takes nothing; the
@@ -82,29 +84,29 @@ pub fn show_text<R: Source, W: Sink>(
     alloc: Global,
     reader: &mut R,
     writer: &mut W,
-    view: View,
+    view: View<'_>,
 ) -> Result<(), Fault>
     //= program/picture (ok, quiet): The picture of the schedule read is written: the rows shown of its run, a star
     //=   exactly where an operation of the run's history has its place, and the chains, with Tail, and the holders of
-    //=   locks where these changed.
-    ensures ok { OnOk result (WritesPicture view (R.state reader.old).left (W.state writer.old)
+    //=   locks where these changed; behind it, of the view's legend, what each line in the rows does.
+    ensures ok { OnOk result (WritesPicture view.entry (R.state reader.old).left (W.state writer.old)
         (W.state writer.new)) }
     ensures quiet { OnOk result ((W.state writer.new).failures ≡ (W.state writer.old).failures) }
     //= program/prefix (prefix, write, memory, none_failed, unwritten)
     ensures prefix { IfErr result (λ fault. fault.refusal ≡ Refusal.Write
-        → BeginsPicture view (R.state reader.old).left (W.state writer.old) (W.state writer.new)) }
+        → BeginsPicture view.entry (R.state reader.old).left (W.state writer.old) (W.state writer.new)) }
     ensures write { IfErr result (λ fault. fault.refusal ≡ Refusal.Write
         → GivesUp (W.state writer.old) (W.state writer.new)) }
     // Where memory is refused, nothing or a prefix of it is, and no call of the writer failed.
     ensures memory { IfErr result (λ fault. fault.refusal ≡ Refusal.Memory → (writer.new ≡ writer.old)
-        ⊎ BeginsPicture view (R.state reader.old).left (W.state writer.old) (W.state writer.new)) }
+        ⊎ BeginsPicture view.entry (R.state reader.old).left (W.state writer.old) (W.state writer.new)) }
     ensures none_failed { IfErr result (λ fault. fault.refusal ≡ Refusal.Memory
         → (W.state writer.new).failures ≡ (W.state writer.old).failures) }
     // At any other fault without a line nothing is.
     ensures unwritten { IfErr result (λ fault. fault.line ≡ None → fault.refusal ≢ Refusal.Write
         → fault.refusal ≢ Refusal.Memory → writer.new ≡ writer.old) }
     //= program/stopped (stopped, none_failed_there)
-    ensures stopped { IfErr result (λ fault. IfSome fault.line (λ line. WritesStop view
+    ensures stopped { IfErr result (λ fault. IfSome fault.line (λ line. WritesStop view.entry
         (R.state reader.old).left line fault.refusal (W.state writer.old) (W.state writer.new))) }
     ensures none_failed_there { IfErr result (λ fault. IfSome fault.line (λ line.
         (W.state writer.new).failures ≡ (W.state writer.old).failures)) }

@@ -2,17 +2,29 @@
 ghost use Rattle.std.specs.Prelude.{◌≡◌, ◌≤◌, ◌<◌, ◌^◌};
 ghost use Rattle.show_engine.specs.Frames.{IsFitting, column_of, end_of, frame_of, has_column, shown_within, shows, width_of};
 
+use line_table::Line as At;
+
+/// What a line does, as it is told.
+#[derive(Clone, Copy, Debug)]
+pub struct Meaning<'a> {
+    pub line: At,
+    /// Its access of a shared word.
+    pub access: &'a str,
+}
+
 /// What of a run is shown.
 #[derive(Clone, Copy, Debug)]
-pub struct View {
+pub struct View<'a> {
     /// How many columns a row has at most, 40 to 190; below that it is 40, and above it 190.
     pub width: u32,
     /// The number of the first step.
-    pub from: u32,
+    pub from: u64,
     /// The number of the last step; 0 for a hundred steps.
-    pub to: u32,
+    pub to: u64,
     /// The one actor that is shown; 0 for as many as have room, from actor 1 on.
     pub actor: u32,
+    /// What is told behind a picture of each line in its rows, in this order.
+    pub legend: &'a [Meaning<'a>],
 }
 
 /// The columns of a picture, the numbers of its steps, and its actors.
@@ -34,10 +46,10 @@ pub struct Frame {
     pub count: u64,
 }
 
-impl View {
+impl View<'_> {
     /// How many columns a row has at most.
     pub(crate) fn columns(self) -> u32
-        ensures value { result ≡ width_of self }
+        ensures value { result ≡ width_of self.entry }
         ensures some { 40 ≤ result }
         ensures narrow { result ≤ 190 }
     {
@@ -46,21 +58,20 @@ impl View {
 
     /// The number of the last step that may be shown.
     pub(crate) fn last_step(self) -> u64
-        ensures value { result ≡ end_of self }
-        ensures few { result < 2 ^ 33 }
+        ensures { result ≡ end_of self.entry }
     {
         if self.to == 0 {
-            u64::from(self.from) + 99
+            self.from.saturating_add(99)
         } else {
-            u64::from(self.to)
+            self.to
         }
     }
 }
 
 /// How many of so many actors are shown, which have so many columns with the numbers.
-fn shown_of(view: View, room: u32, actors: u16) -> u32
+fn shown_of(view: View<'_>, room: u32, actors: u16) -> u32
     requires { 15 ≤ room }
-    ensures count { result ≡ shown_within view room actors }
+    ensures count { result ≡ shown_within view.entry room actors }
     ensures some { 1 ≤ actors → 1 ≤ result }
     ensures few { result < 2 ^ 16 }
 {
@@ -73,9 +84,9 @@ fn shown_of(view: View, room: u32, actors: u16) -> u32
 
 impl Frame {
     /// The frame of a view of a run of so many actors.
-    pub(crate) fn of(view: View, actors: u16) -> Frame
+    pub(crate) fn of(view: View<'_>, actors: u16) -> Frame
         requires { 1 ≤ actors }
-        ensures frame { result ≡ frame_of view actors }
+        ensures frame { result ≡ frame_of view.entry actors }
         ensures fits { IsFitting result }
     {
         let width = view.columns();
@@ -85,7 +96,7 @@ impl Frame {
             width: width as usize,
             side: room.min(25 + 12 * count) as usize,
             column: ((room - 7) / count).min(12) as usize,
-            from: u64::from(view.from),
+            from: view.from,
             to: view.last_step(),
             first: u64::from(view.actor.max(1)),
             count: u64::from(count),

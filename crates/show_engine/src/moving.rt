@@ -21,7 +21,7 @@ use step_machine::{Move, Stepped, WorldOf, step_in};
 use text_io::Line;
 
 /// Who makes a move.
-fn mover(one: &Move) -> u16
+pub(crate) fn mover(one: &Move) -> u16
     ensures { result ≡ mover one.now }
 {
     match *one {

@@ -2,7 +2,7 @@
 ghost use Rattle.std.specs.Prelude.{◌≡◌, ◌+◌, ◌-◌, ◌≤◌, ◌<◌, ◌++◌, List, ℕ, codes, length, decimal, replicate, take};
 ghost use Rattle.schedule_text.specs.Texts.{IsInRange};
 ghost use Rattle.show_engine.specs.Frames.{IsFitting};
-ghost use Rattle.show_engine.specs.Rows.{truncated_to, names_row, number_text, padded, queue_text, row_text, shown_text};
+ghost use Rattle.show_engine.specs.Rows.{truncated_to, names_row, number_text, padded, pair_row, queue_text, row_text, shown_text};
 
 use crate::framing::Frame;
 use schedule_text::{Schedule, name_of_kind};
@@ -80,6 +80,19 @@ pub(crate) fn row(frame: Frame, actor: u16, start: &[u8], cell: &[u8], side: &[u
         return truncate(line, frame.width);
     }
     put_at(&mut line, room, frame.side, side);
+    truncate(line, frame.width)
+}
+
+/// A row of two texts, the second one at a column.
+pub(crate) fn pair_line(frame: Frame, column: usize, first: &[u8], second: &[u8]) -> Line
+    requires fits { IsFitting frame }
+    requires column { column ≤ frame.width }
+    ensures { result ≡ pair_row frame column first.now second.now }
+{
+    let room = frame.width + 1;
+    let mut line = Line::new();
+    put_at(&mut line, room, 0, first);
+    put_at(&mut line, room, column, second);
     truncate(line, frame.width)
 }
 

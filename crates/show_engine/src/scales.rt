@@ -42,15 +42,15 @@ pub(crate) fn end_of_history(history: &[Stamped]) -> u64
 
 impl Scale {
     /// The scale of a view of a history that ends at a number.
-    pub(crate) fn of(view: View, last: u64) -> Scale
-        ensures scale { result ≡ scale_of view last }
+    pub(crate) fn of(view: View<'_>, last: u64) -> Scale
+        ensures scale { result ≡ scale_of view.entry last }
         ensures fits { IsFitting result }
     {
         let width = view.columns();
         Scale {
             width: width as usize,
             columns: u64::from(width / 2),
-            from: u64::from(view.from.max(1)),
+            from: view.from.max(1),
             to: view.last_step().min(last),
             actor: view.actor,
         }
@@ -62,8 +62,10 @@ impl Scale {
         requires shown { number ≤ self.to }
         ensures { result ≡ column_of self number }
     {
-        let span = self.to.saturating_sub(self.from) + 1;
-        number.saturating_sub(self.from) * self.columns / span
+        // A number of 64 bits has no room for the product.
+        let span = u128::from(self.to.saturating_sub(self.from)) + 1;
+        let ahead = u128::from(number.saturating_sub(self.from)) * u128::from(self.columns);
+        (ahead / span) as u64
     }
 
     /// Whether an operation is shown.

@@ -47,18 +47,18 @@ pub fn show_history<R: Source, W: Sink>(
     alloc: Global,
     reader: &mut R,
     writer: &mut W,
-    view: View,
+    view: View<'_>,
 ) -> Result<(), Refusal>
     //= program/timeline (ok, quiet, text, prefix, write, unwritten, refusal, reader): The timeline of the history
     //=   read is written, with the operations shown in their order. It is refused as `check_text` is.
-    ensures ok { OnOk result (WritesTimeline view (R.state reader.old).left (W.state writer.old)
+    ensures ok { OnOk result (WritesTimeline view.entry (R.state reader.old).left (W.state writer.old)
         (W.state writer.new)) }
     ensures quiet { OnOk result ((W.state writer.new).failures ≡ (W.state writer.old).failures) }
     // A text is refused by its first faulty line.
     ensures text { IfErr result (TellsFirstFault (R.state reader.old).left) }
     // Where writing fails, a prefix of that text is written.
     ensures prefix { IfErr result (λ refusal. refusal ≡ Refusal.Write
-        → BeginsTimeline view (R.state reader.old).left (W.state writer.old) (W.state writer.new)) }
+        → BeginsTimeline view.entry (R.state reader.old).left (W.state writer.old) (W.state writer.new)) }
     ensures write { IfErr result (λ refusal. refusal ≡ Refusal.Write
         → GivesUp (W.state writer.old) (W.state writer.new)) }
     // At any other refusal nothing is.

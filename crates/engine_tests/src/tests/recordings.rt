@@ -74,6 +74,44 @@ fn places_recordings_whatever_the_pieces(rt: HostRuntime) -> Result<(), Fail> {
     Ok(())
 }
 
+// The same with the lines of its operations: the take, its push, the push before that, and the take that began later.
+const WHY_OVERTAKEN: &str = "no 4 Order 3 2
+6 consumer deq from 5 to 6 reply value job-2
+5 other enq job-2 from 3 to 4 reply done
+4 producer enq job-1 from 1 to 2 reply done
+3 consumer deq from 7 to 8 reply value job-1
+";
+
+/// Recordings, the status, and what is written with the lines of a reason's operations.
+const FOUND_WHY: [(&str, u8, &str); 3] = [
+    (RECORDED, 0, ITS_POINTS),
+    (OVERTAKEN, 3, WHY_OVERTAKEN),
+    (
+        NEVER_PUSHED,
+        3,
+        "no 2 Sooner\n4 b deq from 3 to 4 reply value X\n",
+    ),
+];
+
+#[test]
+fn tells_lines_of_reasons_whatever_the_pieces(rt: HostRuntime) -> Result<(), Fail> {
+    for (text, status, want) in &FOUND_WHY {
+        does_by_any_piece(&rt, rt.alloc(), Engine::Why, text, *status, want)?;
+    }
+    Ok(())
+}
+
+#[test]
+fn writes_a_prefix_of_a_reason_with_its_lines(rt: HostRuntime) -> Result<(), Fail> {
+    writes_a_prefix(
+        &rt,
+        rt.alloc(),
+        Engine::Why,
+        OVERTAKEN,
+        WHY_OVERTAKEN.as_bytes(),
+    )
+}
+
 #[test]
 fn tells_the_end_of_each_truncated_text(rt: HostRuntime) -> Result<(), Fail> {
     tells_each_end(&rt, rt.alloc(), Engine::Place, RECORDED.as_bytes())
@@ -96,7 +134,12 @@ fn writes_a_prefix_of_what_is_found(rt: HostRuntime) -> Result<(), Fail> {
 }
 
 /// Texts that are faulty, for each engine, and the line that is said of them.
-const FAULTY: [(Engine, &str, &str); 6] = [
+const FAULTY: [(Engine, &str, &str); 7] = [
+    (
+        Engine::Place,
+        "msq record 1\noperations 2\na enq x from 1 to 2 reply done\nb deq from 4 to 3 reply value x\n",
+        "fault 10 Text line 4 Range\n",
+    ),
     (
         Engine::Place,
         "msq record 2\n",

@@ -20,6 +20,8 @@ pub enum Engine {
     Run,
     Check,
     Place,
+    /// Places with the lines of a reason's operations.
+    Why,
 }
 
 impl Engine {
@@ -36,12 +38,17 @@ impl Engine {
                 Ok(Ending::Well)
             }
             Engine::Check => Ok(Ending::from(check_text(alloc, reader, writer)?)),
-            Engine::Place => match place_text(alloc, reader, writer, 1_000)? {
-                Placed::History(_) => Ok(Ending::Well),
-                Placed::Impossible(_) => Ok(Ending::No),
-                Placed::Open(_) => Ok(Ending::Open),
-            },
+            Engine::Place => Ok(ending_of(&place_text(alloc, reader, writer, 1_000, false)?)),
+            Engine::Why => Ok(ending_of(&place_text(alloc, reader, writer, 1_000, true)?)),
         }
+    }
+}
+
+fn ending_of(found: &Placed) -> Ending {
+    match found {
+        Placed::History(_) => Ending::Well,
+        Placed::Impossible(_) => Ending::No,
+        Placed::Open(_) => Ending::Open,
     }
 }
 

@@ -8,16 +8,19 @@ use std::test::Fail;
 
 /// What a task's words ask for: 1 for a run, 2 for a check, 3 for work, 4 for posting, 5 for placing, 6 for a trace, 7 for a picture, 8 for an
 /// explanation; the workers, or the steps, the queue and the nodes.
-type Told = (u8, u32, u8, u32);
+type Told = (u8, u32, u8, u64);
 
 /// Words, what they ask for, and the file.
-const COMMANDS: [(&[&str], Told, &str); 28] = [
+const COMMANDS: [(&[&str], Told, &str); 32] = [
     (&[], (1, 0, 0, 0), "-"),
     (&["run", "-"], (1, 0, 0, 0), "-"),
     (&["run", "row.schedule"], (1, 0, 0, 0), "row.schedule"),
     (&["run", ""], (1, 0, 0, 0), ""),
     (&["run", "two words"], (1, 0, 0, 0), "two words"),
     (&["run", "--", "--help"], (1, 0, 0, 0), "--help"),
+    (&["run", "--expand", "-"], (9, 0, 0, 0), "-"),
+    (&["run", "a", "--expand"], (9, 0, 0, 0), "a"),
+    (&["run", "--", "--expand"], (1, 0, 0, 0), "--expand"),
     (&["trace", "-"], (6, 0, 0, 0), "-"),
     (&["trace", "row.schedule"], (6, 0, 0, 0), "row.schedule"),
     (&["check", "-"], (2, 0, 0, 0), "-"),
@@ -29,6 +32,7 @@ const COMMANDS: [(&[&str], Told, &str); 28] = [
         (5, 1_000_000_000, 0, 0),
         "a",
     ),
+    (&["place", "a", "--why"], (5, 1_000_000, 1, 0), "a"),
     (&["work", "a"], (3, 4, 2, 1024), "a"),
     (&["work", "a", "--workers", "1"], (3, 1, 2, 1024), "a"),
     (&["work", "--workers=64", "a"], (3, 64, 2, 1024), "a"),
@@ -77,26 +81,48 @@ const EXPLAINED: [(&[&str], bool); 18] = [
 ];
 
 /// Words that ask for a picture, its columns, its first and its last step, its actor, whether it is of a history, and the file.
-const PICTURES: [(&[&str], [u32; 4], bool, &str); 5] = [
-    (&["show", "a"], [80, 1, 0, 0], false, "a"),
-    (&["show", "--width", "40", "-"], [40, 1, 0, 0], false, "-"),
-    (&["show", "--history", "a"], [80, 1, 0, 0], true, "a"),
+const PICTURES: [(&[&str], [u64; 4], [bool; 2], &str); 6] = [
+    (&["show", "a"], [80, 1, 0, 0], [false, false], "a"),
     (
-        &["show", "a", "--from=4294967295", "--to", "4294967294"],
-        [80, 4_294_967_295, 4_294_967_294, 0],
-        false,
+        &["show", "--width", "40", "-"],
+        [40, 1, 0, 0],
+        [false, false],
+        "-",
+    ),
+    (
+        &["show", "--history", "a"],
+        [80, 1, 0, 0],
+        [true, false],
+        "a",
+    ),
+    (&["show", "a", "--lines"], [80, 1, 0, 0], [false, true], "a"),
+    (
+        &[
+            "show",
+            "a",
+            "--from=18446744073709551615",
+            "--to",
+            "18446744073709551614",
+        ],
+        [
+            80,
+            18_446_744_073_709_551_615,
+            18_446_744_073_709_551_614,
+            0,
+        ],
+        [false, false],
         "a",
     ),
     (
         &["show", "--width=190", "a", "--actor", "65535", "--history"],
         [190, 1, 0, 65_535],
-        true,
+        [true, false],
         "a",
     ),
 ];
 
 /// Words that ask for no command, and the status.
-const OTHERS: [(&[&str], u8); 47] = [
+const OTHERS: [(&[&str], u8); 54] = [
     (&["run"], 2),
     (&["run", "a", "b"], 2),
     (&["run", "--fast", "a"], 2),
@@ -108,6 +134,8 @@ const OTHERS: [(&[&str], u8); 47] = [
     (&["show", "a", "--width", "39"], 2),
     (&["show", "a", "--width", "191"], 2),
     (&["show", "a", "--from", "0"], 2),
+    (&["show", "a", "--from", "18446744073709551616"], 2),
+    (&["show", "a", "--to", "18446744073709551616"], 2),
     (&["show", "a", "--actor", "65536"], 2),
     (&["show", "a", "--history=true"], 2),
     (&["show", "--help"], 0),
@@ -117,6 +145,8 @@ const OTHERS: [(&[&str], u8); 47] = [
     (&["place", "a", "--steps", "1000000001"], 2),
     (&["work"], 2),
     (&["work", "a", "b"], 2),
+    (&["place", "a", "--why=1"], 2),
+    (&["check", "a", "--why"], 2),
     (&["work", "a", "--workers", "0"], 2),
     (&["work", "a", "--workers", "65"], 2),
     (&["work", "a", "--nodes", "1"], 2),
@@ -137,6 +167,9 @@ const OTHERS: [(&[&str], u8); 47] = [
     (&["explain", "--help"], 0),
     (&["run", "--explain"], 2),
     (&["run", "a", "--explain=true"], 2),
+    (&["run", "--expand"], 2),
+    (&["run", "a", "--expand", "--expand"], 2),
+    (&["trace", "a", "--expand"], 2),
     (&["run", "a", "--explain", "--explain"], 2),
     (&["--explain"], 2),
     (&["-"], 2),
@@ -150,12 +183,13 @@ fn told(task: Task) -> Told {
     match task {
         Task::Run => (1, 0, 0, 0),
         Task::Check => (2, 0, 0, 0),
-        Task::Work(crew) => (3, crew.workers, number_of(crew.kind), crew.nodes),
+        Task::Work(crew) => (3, crew.workers, number_of(crew.kind), u64::from(crew.nodes)),
         Task::Post(kind) => (4, 0, number_of(kind), 0),
-        Task::Place(steps) => (5, steps, 0, 0),
+        Task::Place(placing) => (5, placing.steps, u8::from(placing.tells_why), 0),
         Task::Trace => (6, 0, 0, 0),
         Task::Show(view) => (7, view.width, 0, view.to),
         Task::Explain => (8, 0, 0, 0),
+        Task::Expand => (9, 0, 0, 0),
     }
 }
 
@@ -203,7 +237,7 @@ fn reads_what_to_do_with_which_file(rt: HostRuntime) -> Result<(), Fail> {
 
 #[test]
 fn reads_what_a_picture_shows(rt: HostRuntime) -> Result<(), Fail> {
-    for (words, view, is_history, file) in &PICTURES {
+    for (words, view, flags, file) in &PICTURES {
         let answer = read_words(rt.alloc(), &strings(rt.alloc(), words)?);
         let found = match &answer {
             Ok(
@@ -213,13 +247,18 @@ fn reads_what_a_picture_shows(rt: HostRuntime) -> Result<(), Fail> {
                     ..
                 },
             ) => Some((
-                [view.width, view.from, view.to, view.actor],
-                view.is_history,
+                [
+                    u64::from(view.width),
+                    view.from,
+                    view.to,
+                    u64::from(view.actor),
+                ],
+                [view.is_history, view.has_legend],
                 file.as_str(),
             )),
             _ => None,
         };
-        let due = Some((*view, *is_history, *file));
+        let due = Some((*view, *flags, *file));
         same(&rt, found, due, format_args!("{words:?}"));
     }
     Ok(())

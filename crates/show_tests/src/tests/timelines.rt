@@ -9,11 +9,12 @@ use std::test::Fail;
 use text_io::{Script, Trouble};
 
 /// What is shown where nothing is chosen.
-const WHOLE: View = View {
+const WHOLE: View<'static> = View {
     width: 80,
     from: 1,
     to: 0,
     actor: 0,
+    legend: &[],
 };
 
 const HISTORY: &str = "history 6
@@ -57,7 +58,7 @@ steps 500 to 140 of 140, operations 1 of 6
 ";
 
 /// Histories, what is shown of them, and their timelines.
-const TIMELINES: [(&str, View, &str); 5] = [
+const TIMELINES: [(&str, View<'static>, &str); 5] = [
     (HISTORY, WHOLE, FIRST),
     (
         HISTORY,
@@ -75,6 +76,7 @@ const TIMELINES: [(&str, View, &str); 5] = [
             from: 4,
             to: 130,
             actor: 1,
+            legend: &[],
         },
         OF_ACTOR_1,
     ),
@@ -89,7 +91,7 @@ const FAULTS: [(&str, &str, u64, TextCause); 3] = [
 ];
 
 // What is written of a text that comes and goes in pieces of this size.
-fn by_piece(alloc: Global, text: &str, view: View, piece: usize) -> Result<String, Fail>
+fn by_piece(alloc: Global, text: &str, view: View<'_>, piece: usize) -> Result<String, Fail>
     requires { 0 < piece }
 {
     let mut reader = Script::reader(alloc, text.as_bytes(), piece)?;

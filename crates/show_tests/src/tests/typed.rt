@@ -2,6 +2,7 @@
 ghost use Rattle.std.specs.Prelude.{◌<◌};
 
 use crate::tests::comparing::same;
+use crate::tests::meanings::{LEGEND_PICTURE, MEANINGS};
 use engine_faults::Fault;
 use history::{Refusal, TextCause};
 use show_engine::{View, show_text};
@@ -10,11 +11,12 @@ use std::test::Fail;
 use text_io::{Script, Trouble};
 
 /// What is shown where nothing is chosen.
-const WHOLE: View = View {
+const WHOLE: View<'static> = View {
     width: 80,
     from: 1,
     to: 0,
     actor: 0,
+    legend: &[],
 };
 
 const FIRST: &str = "msq schedule 1
@@ -130,7 +132,7 @@ steps 49 to 50 of 50, actors 1 to 13 of 300
 ";
 
 /// Schedules, what is shown of them, and their pictures.
-const PICTURES: [(&str, View, &str); 7] = [
+const PICTURES: [(&str, View<'static>, &str); 8] = [
     (FIRST, WHOLE, FIRST_PICTURE),
     (FIRST, View { to: 19, ..WHOLE }, FIRST_PICTURE),
     (SHUT, WHOLE, SHUT_PICTURE),
@@ -141,6 +143,7 @@ const PICTURES: [(&str, View, &str); 7] = [
             from: 3,
             to: 3,
             actor: 65535,
+            legend: &[],
         },
         NARROW_PICTURE,
     ),
@@ -151,6 +154,7 @@ const PICTURES: [(&str, View, &str); 7] = [
             from: 3,
             to: 3,
             actor: 65535,
+            legend: &[],
         },
         NARROW_PICTURE,
     ),
@@ -166,10 +170,22 @@ const PICTURES: [(&str, View, &str); 7] = [
     (
         LONG,
         View {
+            width: 44,
+            from: 48,
+            to: 49,
+            actor: 4,
+            legend: &MEANINGS,
+        },
+        LEGEND_PICTURE,
+    ),
+    (
+        LONG,
+        View {
             width: u32::MAX,
             from: 49,
-            to: u32::MAX,
+            to: u64::MAX,
             actor: 0,
+            legend: &[],
         },
         WIDE_PICTURE,
     ),
@@ -256,7 +272,7 @@ steps 1 to 3 of 3, actors 2 to 2 of 2
 ";
 
 // What is written of a text that comes and goes in pieces of this size.
-fn by_piece(alloc: Global, text: &str, view: View, piece: usize) -> Result<String, Fail>
+fn by_piece(alloc: Global, text: &str, view: View<'_>, piece: usize) -> Result<String, Fail>
     requires { 0 < piece }
 {
     let mut reader = Script::reader(alloc, text.as_bytes(), piece)?;
@@ -297,7 +313,7 @@ fn writes_nothing_of_a_faulty_text(rt: HostRuntime) -> Result<(), Fail> {
 }
 
 // What the engine answers of a text, and what it draws.
-fn drawn(alloc: Global, text: &str, view: View) -> Result<(Result<(), Fault>, String), Fail> {
+fn drawn(alloc: Global, text: &str, view: View<'_>) -> Result<(Result<(), Fault>, String), Fail> {
     let mut reader = Script::reader(alloc, text.as_bytes(), 100)?;
     let mut writer = Script::writer(alloc, 2000, 100)?;
     let answer = show_text(alloc, &mut reader, &mut writer, view);

@@ -1,4 +1,4 @@
-use Rattle.std.proofs.Common.{◌≡◌, ◌-◌, ◌^◌, ap, ap₂, ◌∙◌, codes, rules}
+use Rattle.std.proofs.Common.{◌≡◌, ◌-◌, ◌^◌, ap, ap₂, ◌∙◌, codes}
 use Rattle.std.proofs.lemmas.Result.{IfOk-weaker}
 use Rattle.clap.specs.Words.{app_of, rule_of, with_rule}
 use Rattle.command_line.specs.Commands.{file_app, flag_rule, number_rule}
@@ -7,8 +7,8 @@ use Rattle.command_line.proofs.commands.show_command.Goals as goal
 pub returns : goal.returns
 returns c =
     let width = number_rule (codes "WIDTH") (codes "width") 40 190 (codes "80") in
-    let from = number_rule (codes "FROM") (codes "from") 1 (2 ^ 32 - 1) (codes "1") in
-    let to = number_rule (codes "TO") (codes "to") 0 (2 ^ 32 - 1) (codes "0") in
+    let from = number_rule (codes "FROM") (codes "from") 1 (2 ^ 64 - 1) (codes "1") in
+    let to = number_rule (codes "TO") (codes "to") 0 (2 ^ 64 - 1) (codes "0") in
     let actor = number_rule (codes "ACTOR") (codes "actor") 0 65535 (codes "0") in
     let width_is : rule_of c.help.result ≡ width = ap rule_of c.help.ensures ∙ c.number_option-width.ensures.rule in
     let from_is : rule_of c.help-2.result ≡ from = ap rule_of c.help-2.ensures ∙ c.number_option-from.ensures.rule in
@@ -26,4 +26,8 @@ returns c =
     let five : app_of c.in_ok-command-6.command ≡ with_rule (with_rule (with_rule (with_rule (with_rule (file_app (codes "show")) width) from) to) actor) (flag_rule (codes "HISTORY") (codes "history")) =
     c.in_ok-command-6.ensures.shape (ap (λ a. a.global) c.help-5.ensures ∙ c.flag_option-history.ensures.local) ∙ ap₂ with_rule four history_is in
     let page_is : rule_of c.help-6.result ≡ flag_rule (codes "HTML") (codes "html") = ap rule_of c.help-6.ensures ∙ c.flag_option-page.ensures.rule in
-    IfOk-weaker c.arg-6.result _ _ (λ r h. h.shape (ap (λ a. a.global) c.help-6.ensures ∙ c.flag_option-page.ensures.local) ∙ ap₂ with_rule five page_is) c.arg-6.ensures
+    let six : app_of c.in_ok-command-7.command
+    ≡ with_rule (with_rule (with_rule (with_rule (with_rule (with_rule (file_app (codes "show")) width) from) to) actor) (flag_rule (codes "HISTORY") (codes "history"))) (flag_rule (codes "HTML") (codes "html")) =
+    c.in_ok-command-7.ensures.shape (ap (λ a. a.global) c.help-6.ensures ∙ c.flag_option-page.ensures.local) ∙ ap₂ with_rule five page_is in
+    let lines_is : rule_of c.help-7.result ≡ flag_rule (codes "LINES") (codes "lines") = ap rule_of c.help-7.ensures ∙ c.flag_option-lines.ensures.rule in
+    IfOk-weaker c.arg-7.result _ _ (λ r h. h.shape (ap (λ a. a.global) c.help-7.ensures ∙ c.flag_option-lines.ensures.local) ∙ ap₂ with_rule six lines_is) c.arg-7.ensures

@@ -1,0 +1,167 @@
+-- The events that a recipe stands for, and why it stands for none.
+use Rattle.std.specs.Prelude.{◌≡◌, ◌≢◌, ℕ, ◌≤◌, true, List, [], ◌∷◌, ◌++◌, All, Option, Some, None, ⊤, IfSome}
+use Rattle.std.specs.Io.KnownBytes.{Appends}
+use Rattle.counted_ref.specs.Ref.{IsSplit}
+use Rattle.history.specs.declared.refusals.Refusal.{Refusal}
+use Rattle.history.specs.declared.refusals.Refusal.TheVariants.{Text, Write}
+use Rattle.schedule_text.specs.Schedules.{Schedule}
+use Rattle.schedule_text.specs.Texts.{greatest, least, schedule_text, IsActor, IsInRange, IsTold}
+use Rattle.schedule_text.specs.declared.fields.Field.TheVariants.{Nodes, Limit}
+use Rattle.schedule_text.specs.declared.schedules.Event.{Event}
+use Rattle.schedule_text.specs.declared.schedules.Version.{Version}
+use Rattle.schedule_text.specs.declared.schedules.Version.TheVariants.{One, Two}
+use Rattle.step_machine.specs.Calls.{setup_from}
+use Rattle.step_machine.specs.Machine.{World, opening}
+use Rattle.run_engine.specs.Runs.{EventLeads, EventRefused, IsRunFault}
+use Rattle.text_io.specs.Blocks.{TakesPrefix}
+use Rattle.text_io.specs.Devices.{SinkState, SourceState}
+use Rattle.text_io.specs.Readings.{EndsReadingAt, WereAll}
+use Rattle.text_lines.specs.declared.causes.TextCause.{TextCause}
+use Rattle.text_lines.specs.Grammars.{IsFirstFault}
+use Rattle.text_lines.specs.Numerals.{IsWithin}
+use Rattle.recipe_text.specs.Recipes.{IsActInRange, IsRecipe, is_act, recipe_lines}
+use Rattle.recipe_text.specs.Unrolling.{unrolled}
+use Rattle.recipe_text.specs.declared.recipes.Act.{Act}
+use Rattle.recipe_text.specs.declared.recipes.Due.TheVariants.{Version as VersionDue}
+use Rattle.recipe_text.specs.declared.recipes.Said.{Said}
+use Rattle.recipe_text.specs.declared.recipes.Said.TheVariants.{Happens, Until, Finish}
+use Rattle.recipe_text.specs.declared.recipes.Sizes.{Sizes}
+use Rattle.expand_engine.specs.Walks.{ComesTo, EndsCall, FinishRefused, UntilRefused, steps_told}
+
+-- an act leads from a world to another, and stands for these events: an event for itself, steps up to a line or an end
+-- for the least number of them that leads there
+abbrev pub ActLeads : World → Said → List Event → World → Type 0
+ActLeads w (Happens event) events v = (events ≡ event ∷ []) × EventLeads w event v
+ActLeads w (Until me line) events v = (count : ℕ) × (events ≡ steps_told me count) × ComesTo w me line count v
+ActLeads w (Finish me) events v = (count : ℕ) × (events ≡ steps_told me count) × EndsCall w me count v
+ActLeads w _ events v = ⊥
+
+-- an act is refused for this cause
+abbrev pub ActRefused : World → Said → Refusal → Type 0
+ActRefused w (Happens event) refusal = EventRefused w event refusal
+ActRefused w (Until me line) refusal = UntilRefused w me line refusal
+ActRefused w (Finish me) refusal = FinishRefused w me refusal
+ActRefused w _ refusal = ⊥
+
+-- acts, one after another, lead from a world to another, and stand for these events
+abbrev pub ActsLead : World → List Act → List Event → World → Type 0
+ActsLead w [] events v = (events ≡ []) × (w ≡ v)
+ActsLead w (act ∷ acts) events v =
+    (u : World) × (first : List Event) × (later : List Event) × (events ≡ first ++ later) × ActLeads w act.said first u × ActsLead u acts later v
+
+-- an act leads from a world to another, and the events that it stands for are added
+pub record DoesAct (w : World) (said : Said) (old new : List Event) (v : World) : Type 0 where
+  pub events : List Event
+  pub added : new ≡ old ++ events
+  pub leads : ActLeads w said events v
+
+-- an act is one, its numbers are in their ranges, and it stands behind the lines of a header
+pub record IsActOf (act : Act) : Type 0 where
+  pub is : is_act act.said ≡ true
+  pub range : IsActInRange act.said
+  pub behind : 7 ≤ act.line
+
+-- acts are refused at the one on this line, after those before it
+pub record ActsRefused (w : World) (acts : List Act) (line : ℕ) (refusal : Refusal) : Type 0 where
+  pub before : List Act
+  pub act : Act
+  pub later : List Act
+  pub split : acts ≡ before ++ act ∷ later
+  pub counted : line ≡ act.line
+  pub events : List Event
+  pub world : World
+  pub led : ActsLead w before events world
+  pub refused : ActRefused world act.said refusal
+
+-- the world of these sizes in which nothing happened yet
+abbrev pub opening_with : Sizes → World
+opening_with s = opening (setup_from s.bits s.kind s.nodes s.limit) s.actors
+
+-- each size is in its range
+pub record AreSizesInRange (s : Sizes) : Type 0 where
+  pub split : IsSplit s.bits
+  pub nodes : IsWithin (least Nodes) (greatest s.bits Nodes) s.nodes
+  pub limit : IsWithin (least Limit) (greatest s.bits Limit) s.limit
+  pub actors : IsActor s.actors
+
+-- the events that acts stand for, done from the opening of these sizes on
+pub record EventsOf (sizes : Sizes) (acts : List Act) (events : List Event) : Type 0 where
+  pub world : World
+  pub led : ActsLead (opening_with sizes) acts events world
+
+-- acts are refused at the one on this line, if at one
+abbrev pub RefusesAt : Sizes → List Act → (line : Option ℕ) → Refusal → Type 0
+RefusesAt sizes acts line refusal = IfSome line (λ line. ActsRefused (opening_with sizes) acts line refusal)
+
+-- the same of the lines of a recipe
+abbrev pub RefusesRecipeAt : Sizes → List Said → (line : Option ℕ) → Refusal → Type 0
+RefusesRecipeAt sizes saids line refusal = RefusesAt sizes (unrolled 1 None saids) line refusal
+
+-- version 1 has a text of these events, where so many bits hold a node
+pub record SufficesOne (bits : ℕ) (events : List Event) : Type 0 where
+  pub usual : bits ≡ 24
+  pub told : All (IsTold One) events
+
+-- the version of a schedule's text: 1 where that suffices
+abbrev pub IsVersionOf : (bits : ℕ) → List Event → Version → Type 0
+IsVersionOf bits events One = SufficesOne bits events
+IsVersionOf bits events Two = ¬ SufficesOne bits events
+
+-- the lines of a recipe, with its sizes, stand for a schedule
+pub record IsExpanded (sizes : Sizes) (saids : List Said) (s : Schedule) : Type 0 where
+  pub events : EventsOf sizes (unrolled 1 None saids) s.events
+  pub version : IsVersionOf s.bits s.events s.version
+  pub kind : s.kind ≡ sizes.kind
+  pub bits : s.bits ≡ sizes.bits
+  pub nodes : s.nodes ≡ sizes.nodes
+  pub limit : s.limit ≡ sizes.limit
+  pub actors : s.actors ≡ sizes.actors
+
+-- known bytes were the text of a recipe that stands for this schedule
+pub record IsExpansionOf (given : Option (List ℕ)) (schedule : Schedule) : Type 0 where
+  pub text : List ℕ
+  pub read : WereAll given text
+  pub sizes : Sizes
+  pub saids : List Said
+  pub recipe : IsRecipe text sizes saids
+  pub expands : IsExpanded sizes saids schedule
+  pub range : IsInRange schedule
+
+-- the text of that schedule was written
+pub record WritesExpansion (given : Option (List ℕ)) (old new : SinkState) : Type 0 where
+  pub schedule : Schedule
+  pub expansion : IsExpansionOf given schedule
+  pub written : Appends old.contents new.contents (schedule_text schedule)
+
+-- a prefix of that text was written
+pub record BeginsExpansion (given : Option (List ℕ)) (old new : SinkState) : Type 0 where
+  pub schedule : Schedule
+  pub expansion : IsExpansionOf given schedule
+  pub begun : TakesPrefix old.contents new.contents (schedule_text schedule)
+
+-- known bytes were the text of a recipe, whose acts are refused at the one on this line
+pub record ExpansionRefused (given : Option (List ℕ)) (line : ℕ) (refusal : Refusal) : Type 0 where
+  pub text : List ℕ
+  pub read : WereAll given text
+  pub sizes : Sizes
+  pub saids : List Said
+  pub recipe : IsRecipe text sizes saids
+  pub refused : ActsRefused (opening_with sizes) (unrolled 1 None saids) line refusal
+
+-- known bytes have their first faulty line as a recipe here, with this cause
+abbrev pub IsFaultyAt : (given : Option (List ℕ)) → (line : ℕ) → TextCause → Type 0
+IsFaultyAt None line cause = ⊤
+IsFaultyAt (Some text) line cause = IsFirstFault recipe_lines VersionDue text line cause
+
+-- where known bytes are refused as a text, that is their first faulty line as a recipe, and what is wrong with it
+abbrev pub TellsFaultyLine : (given : Option (List ℕ)) → Refusal → Type 0
+TellsFaultyLine given (Text line cause) = IsFaultyAt given line cause
+TellsFaultyLine given _ = ⊤
+
+-- an expansion stops before anything is written, for this cause and at this line of an act, if at one
+pub record StopsExpansion (old new : SourceState) (refusal : Refusal) (line : Option ℕ) : Type 0 where
+  pub fault : IsRunFault refusal line
+  pub text : TellsFaultyLine old.left refusal
+  pub refused : IfSome line (λ line. ExpansionRefused old.left line refusal)
+  pub unwritten : refusal ≢ Write
+  pub reader : EndsReadingAt refusal old new

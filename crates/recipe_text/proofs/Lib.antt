@@ -1,0 +1,5 @@
+pub mod Spoken
+pub mod Marks
+pub mod SoFar
+pub mod Unrolled
+pub mod OneRecipe

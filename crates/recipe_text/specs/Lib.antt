@@ -1,0 +1,2 @@
+pub mod Recipes
+pub mod Unrolling
