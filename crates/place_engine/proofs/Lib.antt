@@ -1,2 +1,4 @@
 mod Saying
 mod OfTexts
+mod Lines
+mod Places

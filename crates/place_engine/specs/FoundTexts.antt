@@ -3,7 +3,6 @@ use Rattle.std.specs.Prelude.{ℕ, List, [], ◌++◌, codes, decimal}
 use Rattle.std.specs.List.{flat_map}
 use Rattle.placing.specs.declared.answers.Held.{Held}
 use Rattle.placing.specs.declared.answers.Held.TheVariants.{Value, Left}
-use Rattle.placing.specs.declared.answers.Span.{Span}
 use Rattle.placing.specs.declared.answers.Reason.{Reason}
 use Rattle.placing.specs.declared.answers.Reason.TheVariants.{Shape, Span as Spans, Reply, Sooner, Order, Full, Late, Twice, Unshut, Undrained}
 use Rattle.placing.specs.declared.answers.Unknown.{Unknown}

@@ -1,3 +1,4 @@
 pub mod FoundTexts
 pub mod OfTexts
 pub mod Places
+pub mod WhyTexts

@@ -1,5 +1,5 @@
 -- What placing the text of a recorded history reads, answers and writes.
-use Rattle.std.specs.Prelude.{ℕ, List, Option}
+use Rattle.std.specs.Prelude.{ℕ, Bool, List, Option}
 use Rattle.std.specs.Io.KnownBytes.{Appends}
 use Rattle.text_io.specs.Devices.{SinkState}
 use Rattle.text_io.specs.Blocks.{TakesPrefix}
@@ -8,7 +8,7 @@ use Rattle.placing.specs.declared.answers.Placed.{Placed}
 use Rattle.placing.specs.declared.answers.Placed.TheVariants.{History, Impossible, Open}
 use Rattle.placing.specs.Calls.{IsOfQueue}
 use Rattle.placing.specs.Answers.{IsAnswer, HasCause}
-use Rattle.place_engine.specs.FoundTexts.{found_text}
+use Rattle.place_engine.specs.WhyTexts.{answer_text}
 use Rattle.recorded_source.specs.Given.{IsRecordOf}
 
 -- what an answer says of a recorded history: that it is one of a queue, that it isn't, or neither
@@ -18,21 +18,24 @@ SaysOf ops (Impossible reason) = IsOfQueue ops → ⊥
 SaysOf ops (Open cause) = Unit {0}
 
 -- known bytes were the text of a recorded history or of a recording, the answer is one of it, by a search of at most so
--- many steps, and says what is so, and the text that tells it was written
-pub record TellsPlaces (given : Option (List ℕ)) (steps : ℕ) (old new : SinkState) (answer : Placed) : Type 0 where
+-- many steps, and says what is so, and the text that tells it was written, with the lines of a reason's operations where
+-- they were asked for
+pub record TellsPlaces (given : Option (List ℕ)) (steps : ℕ) (why : Bool) (old new : SinkState) (answer : Placed) : Type 0 where
+  pub text : List ℕ
   pub operations : List Stamped
-  pub history : IsRecordOf given operations
+  pub history : IsRecordOf given text operations
   pub answers : IsAnswer operations answer
   pub cause : HasCause operations steps answer
   pub right : SaysOf operations answer
-  pub written : Appends old.contents new.contents (found_text answer)
+  pub written : Appends old.contents new.contents (answer_text why text answer)
 
 -- known bytes were the text of a recorded history or of a recording, and a prefix of the text that tells an answer of
 -- it was written, by a search of at most so many steps
-pub record BeginsPlaces (given : Option (List ℕ)) (steps : ℕ) (old new : SinkState) : Type 0 where
+pub record BeginsPlaces (given : Option (List ℕ)) (steps : ℕ) (why : Bool) (old new : SinkState) : Type 0 where
+  pub text : List ℕ
   pub operations : List Stamped
   pub answer : Placed
-  pub history : IsRecordOf given operations
+  pub history : IsRecordOf given text operations
   pub answers : IsAnswer operations answer
   pub cause : HasCause operations steps answer
-  pub begun : TakesPrefix old.contents new.contents (found_text answer)
+  pub begun : TakesPrefix old.contents new.contents (answer_text why text answer)

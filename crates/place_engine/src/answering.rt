@@ -16,7 +16,8 @@ use text_io::{Sink, Source};
 /// Finds linearization points for the recorded history whose text the reader gives, or which the recording stands for
 /// whose text it gives, and writes that history with them; or writes one line, `no` with a reason why there are none, or
 /// `open` where neither was found. Points in the text are not read. Where values are pushed more than once, or the queue is
-/// shut, it may search for an order, for at most so many steps.
+/// shut, it may search for an order, for at most so many steps. Behind a reason it writes the lines of the text that say its
+/// operations, each with its number, where these are asked for.
 ///
 /// It is refused, in this order, by `Memory`, as soon as a growth is refused; `Read`, where a call of the reader
 /// fails; `Text`, where the bytes are neither a history nor a recording; `Write`, where a call of the writer fails or
@@ -26,18 +27,22 @@ pub fn place_text<R: Source, W: Sink>(
     reader: &mut R,
     writer: &mut W,
     steps: u64,
+    tells_why: bool,
 ) -> Result<Placed, Refusal>
     //= program/place (ok, quiet): `place_text` answers points, a reason or that it is open, for the history read or the
     //=   recording's, and its text is written. With points the history is one of a queue, with a reason it isn't.
     //= program/judge_refusals (ok, text, prefix, write, unwritten, refusal, reader)
-    ensures ok { IfOk result (TellsPlaces (R.state reader.old).left steps (W.state writer.old)
-        (W.state writer.new)) }
+    //= program/why (ok, prefix): Where they are asked for, `place_text` writes behind the line of a reason, for each operation of it,
+    //=   the number of its line in the text and that line itself, byte for byte (`why_text`).
+    ensures ok { IfOk result (TellsPlaces (R.state reader.old).left steps tells_why
+        (W.state writer.old) (W.state writer.new)) }
     ensures quiet { OnOk result ((W.state writer.new).failures ≡ (W.state writer.old).failures) }
     // A text is refused by its first faulty line.
     ensures text { IfErr result (TellsFaultOfRecord (R.state reader.old).left) }
     // Where writing fails, a prefix of the text that tells an answer is written.
     ensures prefix { IfErr result (λ refusal. refusal ≡ Refusal.Write
-        → BeginsPlaces (R.state reader.old).left steps (W.state writer.old) (W.state writer.new)) }
+        → BeginsPlaces (R.state reader.old).left steps tells_why (W.state writer.old)
+        (W.state writer.new)) }
     ensures write { IfErr result (λ refusal. refusal ≡ Refusal.Write
         → GivesUp (W.state writer.old) (W.state writer.new)) }
     // At any other refusal nothing is.
@@ -46,8 +51,8 @@ pub fn place_text<R: Source, W: Sink>(
     ensures refusal { IfErr result IsRunRefusal }
     ensures reader { EndsReadingFor result (R.state reader.old) (R.state reader.new) }
 {
-    let history = record_in(alloc, reader)?;
-    let found = place(alloc, &history, steps)?;
-    tell(alloc, &found, writer)?;
+    let given = record_in(alloc, reader)?;
+    let found = place(alloc, &given.history, steps)?;
+    tell(alloc, &found, tells_why, &given.text, writer)?;
     Ok(found)
 }

@@ -1,13 +1,31 @@
-//! What an answer of a recording's history says of the recording, as the contract of a function that does nothing.
-ghost use Rattle.std.specs.Prelude.{◌↔◌, List};
+//! What an answer of a recording's history says of the recording, and its lines, as contracts of functions that do nothing.
+ghost use Rattle.std.specs.Prelude.{◌≡◌, ◌↔◌, List, All};
+ghost use Rattle.history.specs.declared.operations.Stamped.{Stamped};
+ghost use Rattle.placing.specs.declared.answers.Reason.{Reason};
+ghost use Rattle.placing.specs.Reasons.{IsReason};
 ghost use Rattle.placing.specs.Calls.{IsOfQueue};
 ghost use Rattle.recording_text.specs.Recordings.{Recorded};
 ghost use Rattle.recording_text.specs.Numbering.{history_of};
+ghost use Rattle.recording_text.specs.RecordingLines.{recording_text, IsRecordingInRange};
+ghost use Rattle.recorded_source.specs.Given.{header_of};
 ghost use Rattle.place_engine.specs.OfTexts.{IsOfTextQueue};
+ghost use Rattle.place_engine.specs.WhyTexts.{lines_in, lines_of_recording, places_of, IsPlaceIn};
 
 /// A recording is one of a queue of texts exactly where the history that it stands for is one of a queue.
 pub fn a_recording_is_of_a_queue_as_its_history_is()
     //= program/recorded: A recording is one of a queue of texts exactly where the history that it stands for is one of
     //=   a queue.
     ensures { (rs : List Recorded) → IsOfTextQueue rs ↔ IsOfQueue (history_of rs) }
+{}
+
+/// The lines of a recording are two and then those of its operations, in their order; and each operation of a reason that is so
+/// is one of the list. So none of its lines is left out.
+pub fn each_operation_of_a_reason_has_its_line()
+    //= program/why_lines (lines, header, stands): Behind its first two lines a recording has those of its operations, in their
+    //=   order, and each operation of a reason is one of the list: none of its lines is left out.
+    ensures lines { (rs : List Recorded) → IsRecordingInRange rs
+        → lines_in (recording_text rs) ≡ lines_of_recording rs }
+    ensures header { (rs : List Recorded) → header_of (recording_text rs) ≡ 2 }
+    ensures stands { (ops : List Stamped) (reason : Reason) → IsReason ops reason
+        → All (IsPlaceIn ops) (places_of reason) }
 {}

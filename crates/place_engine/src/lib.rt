@@ -4,5 +4,6 @@
 mod answering;
 pub mod laws;
 mod telling;
+mod why;
 
 pub use answering::place_text;

@@ -4,18 +4,27 @@ ghost use Rattle.std.specs.Io.KnownBytes.{Appends};
 ghost use Rattle.std.specs.List.{flat_map};
 ghost use Rattle.text_io.specs.Blocks.{TakesPrefix, GivesUp};
 ghost use Rattle.place_engine.specs.FoundTexts as texts;
-ghost use Rattle.place_engine.specs.FoundTexts.{place_text, held_text, head_text, others_text, no_text, unknown_name, open_text, found_text};
+ghost use Rattle.place_engine.specs.FoundTexts.{place_text, held_text, head_text, others_text, no_text, unknown_name, open_text};
+ghost use Rattle.place_engine.specs.WhyTexts.{reason_text, answer_text};
 
+use crate::why::push_why;
 use history::Refusal;
 use history_text::print_history;
 use placing::{Held, Placed, Reason, Span, Unknown};
 use std::alloc::{AllocError, Global};
 use text_io::{Line, Sink, send};
 
-/// Writes the text that tells what is found: a history with points, or one line.
-pub(crate) fn tell<W: Sink>(alloc: Global, found: &Placed, writer: &mut W) -> Result<(), Refusal>
+/// Writes the text that tells what is found of a text: a history with points, or one line, and behind a reason the lines of its
+/// operations, where they are asked for.
+pub(crate) fn tell<W: Sink>(
+    alloc: Global,
+    found: &Placed,
+    tells_why: bool,
+    text: &[u8],
+    writer: &mut W,
+) -> Result<(), Refusal>
     ensures ok { OnOk result (Appends (W.state writer.old).contents (W.state writer.new).contents
-        (found_text found.now)) }
+        (answer_text tells_why text.now found.now)) }
     ensures quiet { OnOk result ((W.state writer.new).failures ≡ (W.state writer.old).failures) }
     ensures only { IfErr result
         (λ refusal. (refusal ≡ Refusal.Memory) ⊎ (refusal ≡ Refusal.Write)) }
@@ -23,18 +32,35 @@ pub(crate) fn tell<W: Sink>(alloc: Global, found: &Placed, writer: &mut W) -> Re
         (λ refusal. refusal ≡ Refusal.Memory → writer.new ≡ writer.old) }
     ensures prefix { IfErr result (λ refusal. refusal ≡ Refusal.Write
         → TakesPrefix (W.state writer.old).contents (W.state writer.new).contents
-        (found_text found.now)) }
+        (answer_text tells_why text.now found.now)) }
     ensures cause { IfErr result (λ refusal. refusal ≡ Refusal.Write
         → GivesUp (W.state writer.old) (W.state writer.new)) }
 {
     match found {
         Placed::History(new) => print_history(new, writer),
-        Placed::Impossible(reason) => match no_line(alloc, reason) {
-            Ok(line) => send(&line, writer),
+        Placed::Impossible(reason) => match reason_lines(alloc, reason, tells_why, text) {
+            Ok(lines) => send(&lines, writer),
             Err(_) => Err(Refusal::Memory),
         },
         Placed::Open(cause) => send(open_line(*cause).as_slice(), writer),
     }
+}
+
+// The line that tells a reason, and those of its operations, where they are asked for.
+fn reason_lines(
+    alloc: Global,
+    reason: &Reason,
+    tells_why: bool,
+    text: &[u8],
+) -> Result<Vec<u8>, AllocError>
+    ensures { IfOk result
+        (λ lines. lines.items ≡ reason_text tells_why text.now reason.now) }
+{
+    let mut lines = no_line(alloc, reason)?;
+    if tells_why {
+        push_why(alloc, &mut lines, text, reason)?;
+    }
+    Ok(lines)
 }
 
 // The line that tells a reason.

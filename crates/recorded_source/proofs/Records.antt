@@ -1,19 +1,14 @@
 -- Which of two grammars a text is in, by its first byte.
-use Rattle.std.proofs.Common.{◌≡◌, ℕ, List, [], ◌∷◌, ◌++◌, true, false, refl, sym, ap, ◌∙◌, codes, inl, inr, Option, Some, None, MatchOption}
-use Rattle.std.specs.Option.{option_map_or}
+use Rattle.std.proofs.Common.{◌≡◌, ℕ, List, ◌++◌, true, false, refl, ap, ◌∙◌, Option, Some, None}
 use Rattle.text_lines.specs.Lines.{line}
 use Rattle.text_lines.specs.Grammars.{Says}
 use Rattle.text_io.specs.Prefixes.{IsRefusedBy, IsRefusedReading}
-use Rattle.text_io.specs.Readings.{WereAll}
-use Rattle.history.specs.declared.operations.Stamped.{Stamped}
 use Rattle.history.specs.declared.refusals.Refusal.{Refusal}
 use Rattle.history.specs.declared.refusals.Refusal.TheVariants.{Text, Memory}
-use Rattle.history_text.specs.HistoryLines.{HistoryLine, Count as HistoryCount, Operation as HistoryOperation, First, IsFirstFaultOfHistory, IsHistoryInRange, history_grammar}
-use Rattle.history_text.specs.HistoryText.{history_text}
+use Rattle.history_text.specs.HistoryLines.{HistoryLine, Count as HistoryCount, Operation as HistoryOperation, First, IsFirstFaultOfHistory, history_grammar}
 use Rattle.recording_text.specs.RecordingLines.{RecordingLine, Version, Count, Operation, VersionDue, IsFirstFaultOfRecording, recording_grammar}
-use Rattle.recording_text.specs.RecordingReading.{StandsFor}
 use Rattle.recorded_source.specs.EitherGrammars.{Start}
-use Rattle.recorded_source.specs.Given.{begins_as_recording, recorded_grammar, IsRecordOf, TellsFaultOfRecord}
+use Rattle.recorded_source.specs.Given.{begins_as_recording, recorded_grammar, TellsFaultOfRecord}
 use Rattle.recorded_source.proofs.Eithers.{first_fault-one, first_fault-other}
 
 -- a text with another first byte has no first line of a recording
@@ -42,13 +37,7 @@ refused-recording text (Text number cause) begins fault = first_fault-other hist
 refused-recording text Memory begins fault = tt
 refused-recording text _ begins fault = absurd fault
 
--- what was given, by what was read
-pub record-read : {X : Type 0} (bytes : X → List ℕ) (given : Option (List ℕ)) (recording : Option X) (ops : List Stamped) → WereAll given (option_map_or bytes recording (history_text ops))
-    → MatchOption recording (IsHistoryInRange ops) (λ text. StandsFor (bytes text) ops) → IsRecordOf given ops
-record-read bytes given None ops read range = inl (record { in_range = range; read = read })
-record-read bytes given (Some text) ops read range = inr (record { text = bytes text; read = read; stands = range })
-
--- and what known bytes are refused for
+-- what known bytes are refused for
 pub fault-read : (given : Option (List ℕ)) (refusal : Refusal) → IsRefusedReading recorded_grammar Start given refusal → TellsFaultOfRecord given refusal
 fault-read None refusal refused = tt
 fault-read (Some text) (Text number cause) refused = refused

@@ -1,5 +1,5 @@
 -- The texts that `place` reads: of a history, or of a recording, which stands for one.
-use Rattle.std.specs.Prelude.{ℕ, ◌⊎◌, Bool, false, nat_eq, List, Option, slice_get, Some, None, MatchOption, ⊤}
+use Rattle.std.specs.Prelude.{◌≡◌, ◌⊎◌, ℕ, Bool, false, nat_eq, if◌then◌else◌, List, Option, slice_get, Some, None, ⊤}
 use Rattle.std.specs.Option.{option_map_or}
 use Rattle.text_lines.specs.Grammars.{Grammar, IsFirstFault}
 use Rattle.text_io.specs.Readings.{WereAll}
@@ -10,7 +10,6 @@ use Rattle.history_text.specs.HistoryLines.{HistoryDue, HistoryLine, First, IsHi
 use Rattle.history_text.specs.HistoryText.{history_text}
 use Rattle.recording_text.specs.RecordingLines.{RecordingDue, RecordingLine, VersionDue, recording_grammar}
 use Rattle.recording_text.specs.RecordingReading.{StandsFor}
-use Rattle.check_engine.specs.Checks.{IsTextOf}
 use Rattle.recorded_source.specs.EitherGrammars.{EitherDue, EitherLine, Start, either_grammar}
 use Rattle.recorded_source.specs.declared.texts.Given.{Given}
 
@@ -24,21 +23,29 @@ recorded_grammar = either_grammar history_grammar recording_grammar First Versio
 
 -- the text that was given
 abbrev pub given_text : Given → List ℕ
-given_text found = option_map_or (λ text. text.items) found.recording (history_text found.history.items)
+given_text given = given.text.items
 
--- it is that of a history in range, or of a recording in range that stands for one
+-- how many lines of a text come before those of its operations: two of a recording, one of a history
+abbrev pub header_of : List ℕ → ℕ
+header_of text = if begins_as_recording text then 2 else 1
+
+-- a text is that of these operations
+pub record IsHistoryText (text : List ℕ) (ops : List Stamped) : Type 0 where
+  pub in_range : IsHistoryInRange ops
+  pub spelled : text ≡ history_text ops
+
+-- a text is that of these operations, or of a recording that stands for them
+abbrev pub IsRecordText : List ℕ → List Stamped → Type 0
+IsRecordText text ops = IsHistoryText text ops ⊎ StandsFor text ops
+
+-- the text and the history go together
 abbrev pub IsGivenInRange : Given → Type 0
-IsGivenInRange found = MatchOption found.recording (IsHistoryInRange found.history.items) (λ text. StandsFor text.items found.history.items)
+IsGivenInRange given = IsRecordText given.text.items given.history.items
 
--- known bytes were the text of a recording that stands for these operations
-pub record IsRecordingFor (given : Option (List ℕ)) (ops : List Stamped) : Type 0 where
-  pub text : List ℕ
+-- known bytes were this text, which is that of these operations, or of a recording that stands for them
+pub record IsRecordOf (given : Option (List ℕ)) (text : List ℕ) (ops : List Stamped) : Type 0 where
   pub read : WereAll given text
-  pub stands : StandsFor text ops
-
--- known bytes were the text of these operations, or of a recording that stands for them
-abbrev pub IsRecordOf : (given : Option (List ℕ)) → List Stamped → Type 0
-IsRecordOf given ops = IsTextOf given ops ⊎ IsRecordingFor given ops
+  pub stands : IsRecordText text ops
 
 -- where known bytes are refused as a text, that is their first faulty line as a history or a recording, and what is wrong
 abbrev pub TellsFaultOfRecord : (given : Option (List ℕ)) → Refusal → Type 0

@@ -5,3 +5,4 @@ mod reading;
 mod texts;
 
 pub use reading::record_in;
+pub use texts::{Given, header_of};

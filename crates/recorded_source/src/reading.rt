@@ -4,23 +4,23 @@ ghost use Rattle.text_io.specs.Readings.{EndsReadingFor};
 ghost use Rattle.engine_faults.specs.Faults.{IsRunRefusal};
 ghost use Rattle.recorded_source.specs.Given.{IsRecordOf, TellsFaultOfRecord};
 
-use crate::texts::RecordedTexts;
-use history::{Refusal, Stamped};
+use crate::texts::{Given, RecordedTexts};
+use history::Refusal;
 use std::alloc::Global;
 use text_io::{Source, parse_source};
 
-/// The history whose text a source gives, or which the recording stands for whose text it gives.
+/// The text that a source gives, and the history whose text it is, or which the recording stands for whose text it is.
 ///
 /// It is refused, in this order, by `Memory`, as soon as a growth is refused; `Read`, where a call of the reader fails;
 /// `Text`, where the bytes are neither a history nor a recording. It takes memory; whether it waits is up to the reader.
-pub fn record_in<R: Source>(alloc: Global, reader: &mut R) -> Result<Vec<Stamped>, Refusal>
-    ensures ok { IfOk result (λ history. IsRecordOf (R.state reader.old).left history.items) }
+pub fn record_in<R: Source>(alloc: Global, reader: &mut R) -> Result<Given, Refusal>
+    ensures ok { IfOk result
+        (λ given. IsRecordOf (R.state reader.old).left given.text.items given.history.items) }
     ensures text { IfErr result (TellsFaultOfRecord (R.state reader.old).left) }
     //= program/readings (unwritten, refusal, reader)
     ensures unwritten { IfErr result (λ refusal. refusal ≢ Refusal.Write) }
     ensures refusal { IfErr result IsRunRefusal }
     ensures reader { EndsReadingFor result (R.state reader.old) (R.state reader.new) }
 {
-    let given = parse_source::<RecordedTexts, R>(alloc, reader)?;
-    Ok(given.history)
+    Ok(parse_source::<RecordedTexts, R>(alloc, reader)?)
 }

@@ -2,6 +2,7 @@
 ghost use Rattle.std.specs.Prelude.{◌≡◌, IfErr, IfOk, false, true};
 ghost use Rattle.text_io.specs.Prefixes.{IsRefusedBy};
 ghost use Rattle.recorded_source.specs.EitherGrammars.{Start};
+ghost use Rattle.recorded_source.specs.Given as texts;
 ghost use Rattle.recorded_source.specs.Given.{begins_as_recording, recorded_grammar, given_text, IsGivenInRange};
 
 use history::{Refusal, Stamped};
@@ -13,8 +14,8 @@ use text_io::Parser;
 /// What a text gives.
 #[derive(Drop)]
 pub struct Given {
-    /// The text, where it is a recording's: many texts stand for one history.
-    pub recording: Option<Vec<u8>>,
+    /// The text itself: many recordings stand for one history.
+    pub text: Vec<u8>,
     /// The history whose text it is, or for which the recording stands.
     pub history: Vec<Stamped>,
 }
@@ -51,6 +52,13 @@ impl Parser for RecordedTexts {
     }
 }
 
+/// How many lines of a text come before those of its operations: two of a recording, one of a history.
+pub fn header_of(text: &[u8]) -> u64
+    ensures { result ≡ texts.header_of text.now }
+{
+    if may_be_recording(text) { 2 } else { 1 }
+}
+
 fn may_be_recording(text: &[u8]) -> bool
     ensures { result ≡ begins_as_recording text.now }
 {
@@ -68,13 +76,11 @@ fn history_of(alloc: Global, text: &[u8]) -> Result<Given, Refusal>
     ensures err { IfErr result (IsRefusedBy recorded_grammar Start text.now) }
 {
     let history = parse_history(alloc, text)?;
-    Ok(Given {
-        recording: None,
-        history,
-    })
+    let text = copy_of(alloc, text)?;
+    Ok(Given { text, history })
 }
 
-/// The history that a recording stands for, with a copy of the recording's text.
+/// The history that a recording stands for.
 fn recording_of(alloc: Global, text: &[u8]) -> Result<Given, Refusal>
     requires { begins_as_recording text.now ≡ true }
     ensures text { IfOk result (λ given. text.now ≡ given_text given) }
@@ -82,12 +88,17 @@ fn recording_of(alloc: Global, text: &[u8]) -> Result<Given, Refusal>
     ensures err { IfErr result (IsRefusedBy recorded_grammar Start text.now) }
 {
     let history = parse_recording(alloc, text)?;
+    let text = copy_of(alloc, text)?;
+    Ok(Given { text, history })
+}
+
+fn copy_of(alloc: Global, text: &[u8]) -> Result<Vec<u8>, Refusal>
+    ensures ok { IfOk result (λ copy. copy.items ≡ text.now) }
+    ensures err { IfErr result (λ refusal. refusal ≡ Refusal.Memory) }
+{
     let mut copy = Vec::new(alloc);
     match copy.extend_from_slice(text) {
-        Ok(()) => Ok(Given {
-            recording: Some(copy),
-            history,
-        }),
+        Ok(()) => Ok(copy),
         Err(_) => Err(Refusal::Memory),
     }
 }

@@ -1,5 +1,5 @@
 -- The grammar of recordings: what each line may say, in which words, and which of this is in range.
-use Rattle.std.specs.Prelude.{◌<◌, ◌≤◌, ◌-◌, ℕ, zero, suc, List, [], ◌∷◌, ◌++◌, Option, Some, None, Bool, true, false, IsTrue, ◌||◌, nat_eq, length, codes, map, All}
+use Rattle.std.specs.Prelude.{◌<◌, ◌≤◌, ◌-◌, ℕ, zero, suc, List, [], ◌∷◌, ◌++◌, Option, Some, None, IfSome, Bool, true, false, IsTrue, ◌||◌, nat_eq, length, codes, map, All}
 use Rattle.std.specs.Char.{is_ascii_alphanumeric}
 use Rattle.text_lines.specs.declared.causes.TextCause.{TextCause}
 use Rattle.text_lines.specs.Lines.{spaced}
@@ -104,12 +104,17 @@ abbrev pub IsToldInRange : Option Told → Type 0
 IsToldInRange (Some (Value text)) = IsShortText text
 IsToldInRange _ = Unit {0}
 
+-- a call that ended didn't do so before it began
+abbrev pub IsInTime : (first : ℕ) (last : Option ℕ) → Type 0
+IsInTime first last = IfSome last (λ last. first ≤ last)
+
 -- the numbers and texts of an operation are in range
 pub record IsOperationInRange (r : Recorded) : Type 0 where
   pub name : IsShortText r.name
   pub call : IsCallInRange r.call
   pub first : IsStep r.first
   pub last : IsStepInRange r.last
+  pub in_time : IsInTime r.first r.last
   pub told : IsToldInRange r.told
 
 -- an operation is one that a line of a recording may say

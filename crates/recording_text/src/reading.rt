@@ -6,7 +6,7 @@ ghost use Rattle.history_text.specs.HistoryLines.{step_word, IsStep, IsStepInRan
 ghost use Rattle.recording_text.specs.Recordings.{Recorded};
 ghost use Rattle.recording_text.specs.RecordingLines as lines;
 ghost use Rattle.recording_text.specs.RecordingLines.{IsTextByte, IsShortText, IsCallInRange};
-ghost use Rattle.recording_text.specs.RecordingLines.{IsToldInRange, IsOperationInRange};
+ghost use Rattle.recording_text.specs.RecordingLines.{IsToldInRange, IsOperationInRange, IsInTime};
 ghost use Rattle.recording_text.specs.RecordingReading.{said_of, said_call, said_told, bytes_of, KeepsAs};
 ghost use Rattle.recording_text.specs.RecordingReading.{ReadsText, ReadsCall, ReadsWordsOfOperation, ReadsOperation};
 ghost use Rattle.recording_text.specs.RecordingReading.{AreOfCount, SaysCount, IsCount, KeepsPush, step_words};
@@ -99,13 +99,27 @@ fn operation<'a>(
         → ReadsBack IsStepInRange r.last last → KeepsAs said_told IsToldInRange r.told reply.entry
         → KeepsAs said_of IsOperationInRange r result }
 {
+    let (first, last) = (first?, last?);
+    if !is_in_time(first, last) {
+        return None;
+    }
     Some(ReadOperation {
         name: name?,
         call: call?,
-        first: first?,
-        last: last?,
+        first,
+        last,
         reply: reply?,
     })
+}
+
+/// Whether a call that ended didn't do so before it began.
+fn is_in_time(first: u64, last: Option<u64>) -> bool
+    ensures { MatchBool result (IsInTime first last) (¬ IsInTime first last) }
+{
+    match last {
+        Some(last) => first <= last,
+        None => true,
+    }
 }
 
 fn is_text_byte(byte: u8) -> bool

@@ -50,12 +50,12 @@ _ enq b from 15 to 18446744073709551615 reply done
 operations 3
 A enq 0123456789abcdefghijklmnopqrstuvwxyzABCDEFGHIJKLMNOPQRSTUVWXYZ_. from 1 to 2 reply refused
 A enq 7 from 3 to 4 reply closed
-B shut from 3 to 2 reply done
+B shut from 3 to 3 reply done
 ",
         "history 3
 1 enq 1 first 1 last 2 at - reply refused 1
 1 enq 2 first 3 last 4 at - reply refused 16
-1 shut first 3 last 2 at - reply done
+1 shut first 3 last 3 at - reply done
 ",
     ),
     // Of two texts in one line the call's comes first; texts that differ in case, length or a zero are different.
@@ -138,9 +138,10 @@ fn text_of(alloc: Global, line: &[u8]) -> Result<Vec<u8>, AllocError> {
 }
 
 /// Lines that are faulty in the place of an operation, and for what.
-const OPERATIONS: [(&str, TextCause); 26] = [
+const OPERATIONS: [(&str, TextCause); 27] = [
     ("a enq x from 0 to 4 reply done", TextCause::Range),
     ("a enq x from 1 to 0 reply done", TextCause::Range),
+    ("a enq x from 4 to 3 reply done", TextCause::Range),
     (
         "a enq x from 18446744073709551616 to 4 reply done",
         TextCause::Range,
