@@ -9,13 +9,13 @@ use crate::deadlines::{At, InTime, Late, Never, is_over};
 use crate::queue::BlockingCarrier;
 use blocking_queue::Deadline;
 use carriers::{Carrier, ItemOf};
+use crossbeam_utils::Backoff;
 use history::Refusal;
-use std::hint;
 use std::sync::Wait;
 use std::time::{Clock, Duration, Instant};
 
-/// How often a call looks before it sleeps.
-const LOOKS: u32 = 100;
+/// How often a call looks before it sleeps: until a `Backoff` is completed.
+const LOOKS: u32 = 11;
 
 impl<C: Carrier> BlockingCarrier<C> {
     /// Takes the value at the front, and sleeps while there is none, until a push or a shut wakes it. The seat may pop.
@@ -174,10 +174,11 @@ impl<C: Carrier> BlockingCarrier<C> {
         ensures caused { IfErr result (EndsAfterWaitOf C.is_seat C.known C.pop_cause
             (queue_of self.now) seat.old seat.new 8) }
     {
+        let backoff = Backoff::new();
         for _ in 0..LOOKS {
             match self.pop(rt, seat) {
                 Ok(Some(front)) => return Ok(Some(front)),
-                Ok(None) => hint::spin_loop(),
+                Ok(None) => backoff.snooze(),
                 Err(refusal) => return Err(refusal),
             }
         }

@@ -11,13 +11,13 @@ use crate::deadlines::{At, InTime, Never, Unsent, is_over};
 use crate::queue::BlockingCarrier;
 use blocking_queue::Deadline;
 use carriers::{Carrier, Unpushed};
+use crossbeam_utils::Backoff;
 use history::Refusal;
-use std::hint;
 use std::sync::Wait;
 use std::time::{Clock, Duration, Instant};
 
-/// How often a call tries before it sleeps.
-const TRIES: u32 = 100;
+/// How often a call tries before it sleeps: until a `Backoff` is completed.
+const TRIES: u32 = 11;
 
 impl<C: Carrier> BlockingCarrier<C> {
     /// Pushes a value at the back, and sleeps while there is no node for it, until a pop or a shut wakes it. The seat may
@@ -219,13 +219,14 @@ impl<C: Carrier> BlockingCarrier<C> {
         ensures caused { IfErr result (λ unpushed. EndsByTryOf C.is_seat C.known C.push_cause
             (queue_of self.now) seat.old seat.new 8 unpushed.refusal) }
     {
+        let backoff = Backoff::new();
         for _ in 1..TRIES {
             match self.push(rt, seat, value) {
                 Ok(()) => return Ok(()),
                 Err(unpushed) => match unpushed.refusal {
                     Refusal::NoNode => {
                         value = unpushed.value;
-                        hint::spin_loop();
+                        backoff.snooze();
                     }
                     _ => return Err(unpushed),
                 },

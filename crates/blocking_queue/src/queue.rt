@@ -93,6 +93,7 @@ impl<Q: Fifo> Fifo for BlockingQueue<Q> {
     ghost seat_prop = { λ q. Q.seat_prop (queue_of q) };
 
     // (A call that is refused `WornOut` may have been woken, and leaves what woke it: so it wakes the next one.)
+    #[inline(always)]
     fn try_push(&self, seat: &mut Q::Seat, body: Body, turns: u32) -> Result<(), Refusal> {
         let answer = self.queue.try_push(seat, body, turns);
         match answer {
@@ -104,6 +105,7 @@ impl<Q: Fifo> Fifo for BlockingQueue<Q> {
     }
 
     // (A pop gives nodes back also where it takes no value.)
+    #[inline(always)]
     fn try_pop(&self, seat: &mut Q::Seat, turns: u32) -> Result<Option<Taken>, Refusal> {
         let answer = self.queue.try_pop(seat, turns);
         if let Err(Refusal::WornOut(_)) = answer {

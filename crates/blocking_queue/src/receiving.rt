@@ -7,13 +7,13 @@ ghost use Rattle.blocking_queue.specs.Answers.{Received, RecvRefused, RecvAnswer
 
 use crate::deadlines::{At, Deadline, InTime, Never, is_over};
 use crate::queue::BlockingQueue;
+use crossbeam_utils::Backoff;
 use history::{Fifo, Refusal, Taken};
-use std::hint;
 use std::sync::Wait;
 use std::time::{Clock, Duration, Instant};
 
-/// How often a call looks before it sleeps.
-const LOOKS: u32 = 100;
+/// How often a call looks before it sleeps: until a `Backoff` is completed.
+const LOOKS: u32 = 11;
 
 impl<Q: Fifo> BlockingQueue<Q> {
     /// Takes the value at the front, and sleeps while there is none, until a push or a shut wakes it. The seat may pop.
@@ -172,10 +172,11 @@ impl<Q: Fifo> BlockingQueue<Q> {
         ensures caused { IfErr result (EndsAfterWait Q.is_seat Q.known Q.pop_cause
             (queue_of self.now) seat.old seat.new 8) }
     {
+        let backoff = Backoff::new();
         for _ in 0..LOOKS {
             match self.pop(rt, seat) {
                 Ok(Some(taken)) => return Ok(Some(taken)),
-                Ok(None) => hint::spin_loop(),
+                Ok(None) => backoff.snooze(),
                 Err(refusal) => return Err(refusal),
             }
         }

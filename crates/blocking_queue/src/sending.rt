@@ -7,13 +7,13 @@ ghost use Rattle.blocking_queue.specs.Answers.{SendAnswers, EndsSend, Ends};
 
 use crate::deadlines::{At, Deadline, InTime, Never, is_over};
 use crate::queue::BlockingQueue;
+use crossbeam_utils::Backoff;
 use history::{Body, Fifo, Refusal};
-use std::hint;
 use std::sync::Wait;
 use std::time::{Clock, Duration, Instant};
 
-/// How often a call tries before it sleeps.
-const TRIES: u32 = 100;
+/// How often a call tries before it sleeps: until a `Backoff` is completed.
+const TRIES: u32 = 11;
 
 impl<Q: Fifo> BlockingQueue<Q> {
     /// Pushes a body at the back, and sleeps while there is no node for it, until a pop or a shut wakes it. The seat may
@@ -177,10 +177,11 @@ impl<Q: Fifo> BlockingQueue<Q> {
         ensures caused { IfErr result (EndsByTry Q.is_seat Q.known Q.push_cause (queue_of self.now)
             seat.old seat.new 8) }
     {
+        let backoff = Backoff::new();
         for _ in 1..TRIES {
             match self.push(rt, seat, body) {
                 Ok(()) => return Ok(()),
-                Err(Refusal::NoNode) => hint::spin_loop(),
+                Err(Refusal::NoNode) => backoff.snooze(),
                 Err(refusal) => return Err(refusal),
             }
         }

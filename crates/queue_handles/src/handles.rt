@@ -13,7 +13,7 @@ use std::sync::Arc;
 #[derive(Drop)]
 pub struct Handle<Q: Fifo + Drop> {
     pub(crate) queue: Arc<BlockingQueue<Q>, Global>,
-    side: Arc<Side<Q>, Global>,
+    pub(crate) side: Arc<Side<Q>, Global>,
     pub(crate) seat: Q::Seat,
     ghost sits: { ∥ Q.is_seat (queue_within queue.value) seat ∥₁ },
 }

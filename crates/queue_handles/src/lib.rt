@@ -1,6 +1,7 @@
 //! Handles of a queue whose last sender, or last receiver, shuts it as it is dropped.
 #![tactic(auto)]
 
+mod cloning;
 mod dealing;
 mod handles;
 mod receiving;

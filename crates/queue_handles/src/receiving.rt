@@ -3,6 +3,7 @@ ghost use Rattle.std.specs.Prelude.{◌≡◌, IfErr, IfOk};
 ghost use Rattle.history.specs.Seats.{MayPop};
 ghost use Rattle.history.specs.Answers.{PopAnswers, PopRefused, StopsPop, EndsPop};
 ghost use Rattle.blocking_queue.specs.Answers.{Received, RecvRefused, RecvAnswers, EndsAfterWait};
+ghost use Rattle.queue_handles.specs.Ends.{AnswersToEnd, IsWornOut, IfEnd};
 
 use crate::TURNS;
 use crate::handles::Handle;
@@ -37,6 +38,33 @@ impl<Q: Fifo + Drop> Handle<Q> {
             (queue_of self.old) (seat_of self.old) (seat_of self.new) 8) }
     {
         self.queue.recv(rt, &mut self.seat)
+    }
+
+    /// The next value, for which it sleeps; none once the queue is shut and empty. The seat may pop.
+    ///
+    /// Refusals: `WornOut`. Takes no memory, and waits.
+    ///
+    /// ```rust
+    /// while let Some(taken) = receiver.recv_or_end(rt)? {
+    ///     work_on(taken.body);
+    /// }
+    /// ```
+    pub fn recv_or_end<R: Wait>(&mut self, rt: &R) -> Result<Option<Taken>, Refusal>
+        requires role { MayPop (Q.permits (queue_of self.old)) (Q.known (seat_of self.old)).number }
+        //= queues/handled_to_the_end (queue, number, next, refusal, caused): A `recv_or_end` by a handle answers as its
+        //=   `recv`, but none where that is refused `Closed`, with the same cause.
+        ensures queue { queue_of self.new ≡ queue_of self.old }
+        ensures number { (Q.known (seat_of self.new)).number ≡ (Q.known (seat_of self.old)).number }
+        ensures next { AnswersToEnd (Q.known (seat_of self.old)) result (Q.known (seat_of self.new)) }
+        ensures refusal { IfErr result IsWornOut }
+        ensures caused { IfEnd result (EndsAfterWait Q.is_seat Q.known Q.pop_cause
+            (queue_of self.old) (seat_of self.old) (seat_of self.new) 8) }
+    {
+        match self.recv(rt) {
+            Ok(taken) => Ok(Some(taken)),
+            Err(Refusal::Closed) => Ok(None),
+            Err(refusal) => Err(refusal),
+        }
     }
 
     /// Takes the value at the front, and sleeps while there is none, for this time at most; then it looks once more. The

@@ -25,10 +25,10 @@ use Rattle.seat_pool.specs.declared.leases.Held.{Held}
 use Rattle.history.specs.declared.queues.Fifo.{Ghosts}
 use Rattle.seat_pool.proofs.Numbers.{one_part, no_part}
 
-MayPush-prop : (permits : List Permit) (n : ℕ) → IsProp (MayPush permits n)
+pub MayPush-prop : (permits : List Permit) (n : ℕ) → IsProp (MayPush permits n)
 MayPush-prop permits n = hlevel (props, IsSomeAnd-prop (slice_get permits (n - 1)) (λ p. IsTrue p.pushes) (λ p. hlevel props))
 
-MayPop-prop : (permits : List Permit) (n : ℕ) → IsProp (MayPop permits n)
+pub MayPop-prop : (permits : List Permit) (n : ℕ) → IsProp (MayPop permits n)
 MayPop-prop permits n = hlevel (props, IsSomeAnd-prop (slice_get permits (n - 1)) (λ p. IsTrue p.pops) (λ p. hlevel props))
 
 module _ {A : Type 0} where

@@ -11,6 +11,9 @@ use Rattle.std.proofs.Crossing as heap
 use Rattle.std.specs.contracts.option.Option as option
 use Rattle.seat_pool.specs.contracts.pools.SeatPool as pool
 use Rattle.seat_pool.specs.contracts.pools.Store as store
+use Rattle.seat_pool.specs.contracts.leases.Held as held
+use Rattle.seat_pool.specs.contracts.leases.Lease as lease
+use Rattle.seat_pool.specs.contracts.parts.Part as part
 use Rattle.seat_pool.specs.contracts.places.Home as home
 use Rattle.seat_pool.specs.contracts.places.Places as places
 use Rattle.seat_pool.specs.contracts.places.PlacesTableRuleOptionSeatHomeHome.TheImpl as kept
@@ -18,6 +21,7 @@ use Rattle.std.specs.contracts.alloc.Global as global
 use Rattle.std.specs.contracts.impls.GlobalAllocator.TheImpl.{ghosts}
 use Rattle.atomic_table.specs.contracts.owned.Table as table
 use Rattle.atomic_table.proofs.shared.Shared.TheSendSync.{the_send as table_send, the_sync as table_sync}
+use Rattle.atomic_table.proofs.shared.Seat.TheSendSync.{the_send as token_send}
 use Rattle.atomic_table.proofs.send_lease.SendLease.TheSendSync.{the_send as lease_send, the_sync as lease_sync}
 use Rattle.atomic_table.specs.declared.shared.TableRule as rule
 use Rattle.std.specs.declared.alloc.Allocator as alloc
@@ -52,6 +56,14 @@ module _ (Q S : RattleType) (fifo : Ghosts Q.Denot S.Denot) (send : IsSend Q) (s
 
   pub pool_sync : IsSync (pool.the_row Q S fifo)
   pool_sync = declared_sync (pool.the_type Q S fifo) (Arc-sync (store.the_row Q S fifo) store_send store_sync, tt)
+
+  held_send : IsSend (held.the_row Q S fifo)
+  held_send = declared_send (held.the_type Q S fifo)
+      (search (crosses, sendable), (token_send (option.the_row S) (home.the_row Q S) slot, (as_row_send (row_field S) seat, (as_row_send usize-field (search sendable), (as_row_send part.the_field (search sendable depth 20), tt)))))
+
+  -- a lease may go to a thread
+  pub leased_send : IsSend (lease.the_row Q S fifo)
+  leased_send = declared_send (lease.the_type Q S fifo) (Arc-send (store.the_row Q S fifo) store_send store_sync, (held_send, tt))
 
   -- a reference to a pool may go to a thread
   pub pool_lent : (ℓ : NamedLft) → IsSend (shr_ref_field ℓ (pool.the_row Q S fifo) tt).row

@@ -3,4 +3,5 @@ pub mod Leases
 pub mod Parts
 pub mod Places
 pub mod Pools
+pub mod Queues
 pub mod Words

@@ -1,7 +1,8 @@
 //! A seat that was leased, and the calls of its queue.
-ghost use Rattle.std.specs.Prelude.{◌≡◌, ◌<◌, ◌≤◌, [], ◌∷◌, None, IsTrue, IfOk, IfErr, OnOk};
+ghost use Rattle.std.specs.Prelude.{◌≡◌, ◌<◌, ◌≤◌, [], ◌∷◌, None, IsTrue, IfOk, IfErr, IfSome, OnOk};
 ghost use Rattle.history.specs.Answers.{Pushed, PopAnswers, DidShut, PushRefused, PopRefused, Meets};
 ghost use Rattle.history.specs.Answers.{StopsPush, StopsPop, StopsShut};
+ghost use Rattle.history.specs.Answers.{EndsPush, EndsPop, EndsShut, EndsByTry};
 ghost use Rattle.seat_pool.specs.Parts as parts;
 ghost use Rattle.seat_pool.specs.Places.{Belongs};
 
@@ -11,7 +12,7 @@ use crate::pools::Store;
 use history::{Body, Fifo, Refusal, Taken};
 use std::alloc::Global;
 use std::snapshot::Snapshot;
-use std::sync::Arc;
+use std::sync::{Arc, Wait};
 
 /// A seat out of its place, with the token that keeps the place.
 #[derive(Drop)]
@@ -50,11 +51,12 @@ impl<Q: Fifo + Drop> Held<Q> {
 }
 
 impl<Q: Fifo + Drop> Lease<Q> {
-    ghost use Rattle.seat_pool.specs.Leases.{pool_of, part_of, queue_of, seat_of, IsSameLease};
+    ghost use Rattle.seat_pool.specs.Leases.{pool_of, part_of, queue_of, seat_of, IsAble, IsSameLease};
 
     /// Pushes a body at the back, in so many turns at most, 1 or more. The seat may push.
     ///
     /// Refusals: as those of the queue's `try_push`. Takes no memory and doesn't wait.
+    #[inline(always)]
     pub fn try_push(&mut self, body: Body, turns: u32) -> Result<(), Refusal>
         requires part { IsTrue (parts.pushes (part_of self.old)) }
         requires turns { 1 ≤ turns }
@@ -81,6 +83,7 @@ impl<Q: Fifo + Drop> Lease<Q> {
     /// pop.
     ///
     /// Refusals: as those of the queue's `try_pop`. Takes no memory and doesn't wait.
+    #[inline(always)]
     pub fn try_pop(&mut self, turns: u32) -> Result<Option<Taken>, Refusal>
         requires part { IsTrue (parts.pops (part_of self.old)) }
         requires turns { 1 ≤ turns }
@@ -121,6 +124,68 @@ impl<Q: Fifo + Drop> Lease<Q> {
         self.pool.home.queue.try_shut(&mut self.held.seat, turns)
     }
 
+    /// Pushes a body at the back, by tries of 8 turns each, and tries again while others are in the way. The seat may push.
+    ///
+    /// Refusals: as those of the queue's `push`. Takes no memory, and waits.
+    pub fn push<R: Wait>(&mut self, rt: &R, body: Body) -> Result<(), Refusal>
+        requires part { IsTrue (parts.pushes (part_of self.old)) }
+        //= leases/calls (same, number, pushed, refused, refusal, caused)
+        ensures same { IsSameLease self.old self.new }
+        ensures number { (Q.known (seat_of self.new)).number ≡ (Q.known (seat_of self.old)).number }
+        ensures pushed { OnOk result
+            (Pushed (Q.known (seat_of self.old)) body (Q.known (seat_of self.new))) }
+        ensures refused { IfErr result
+            (λ refusal. PushRefused (Q.known (seat_of self.old)) refusal
+            (Q.known (seat_of self.new))) }
+        ensures refusal { IfErr result EndsPush }
+        ensures caused { IfErr result (EndsByTry Q.is_seat Q.known Q.push_cause (queue_of self.old)
+            (seat_of self.old) (seat_of self.new) 8) }
+    {
+        self.pool.home.queue.push(rt, &mut self.held.seat, body)
+    }
+
+    /// Takes the value at the front, by tries of 8 turns each, and tries again while others are in the way; none where the
+    /// queue was empty. The seat may pop.
+    ///
+    /// Refusals: as those of the queue's `pop`. Takes no memory, and waits.
+    pub fn pop<R: Wait>(&mut self, rt: &R) -> Result<Option<Taken>, Refusal>
+        requires part { IsTrue (parts.pops (part_of self.old)) }
+        //= leases/calls (same, number, answer, refused, refusal, caused)
+        ensures same { IsSameLease self.old self.new }
+        ensures number { (Q.known (seat_of self.new)).number ≡ (Q.known (seat_of self.old)).number }
+        ensures answer { IfOk result
+            (λ taken. PopAnswers (Q.known (seat_of self.old)) taken (Q.known (seat_of self.new))) }
+        ensures refused { IfErr result
+            (λ refusal. PopRefused (Q.known (seat_of self.old)) refusal
+            (Q.known (seat_of self.new))) }
+        ensures refusal { IfErr result EndsPop }
+        ensures caused { IfErr result (EndsByTry Q.is_seat Q.known Q.pop_cause (queue_of self.old)
+            (seat_of self.old) (seat_of self.new) 8) }
+    {
+        self.pool.home.queue.pop(rt, &mut self.held.seat)
+    }
+
+    /// Shuts the queue, by tries of 8 turns each, and tries again while others are in the way: no push stands after it, and
+    /// what is in the queue stays to be popped. The seat may push.
+    ///
+    /// Refusals: as those of the queue's `shut`. Takes no memory, and waits.
+    pub fn shut<R: Wait>(&mut self, rt: &R) -> Result<(), Refusal>
+        requires part { IsTrue (parts.pushes (part_of self.old)) }
+        //= leases/calls (same, number, shut, refused, refusal, caused)
+        ensures same { IsSameLease self.old self.new }
+        ensures number { (Q.known (seat_of self.new)).number ≡ (Q.known (seat_of self.old)).number }
+        ensures shut { OnOk result
+            (DidShut (Q.known (seat_of self.old)) (Q.known (seat_of self.new))) }
+        ensures refused { IfErr result
+            (λ refusal. PushRefused (Q.known (seat_of self.old)) refusal
+            (Q.known (seat_of self.new))) }
+        ensures refusal { IfErr result EndsShut }
+        ensures caused { IfErr result (EndsByTry Q.is_seat Q.known Q.shut_cause (queue_of self.old)
+            (seat_of self.old) (seat_of self.new) 8) }
+    {
+        self.pool.home.queue.shut(rt, &mut self.held.seat)
+    }
+
     /// Afterwards the seats of both leases, which are of one pool, have seen one history, which begins with what each had
     /// seen. Takes no memory and doesn't wait.
     pub fn meet(&mut self, other: &mut Lease<Q>)
@@ -134,6 +199,23 @@ impl<Q: Fifo + Drop> Lease<Q> {
     {
         let queue = &self.pool.home.queue;
         queue.meet(&mut self.held.seat, &mut other.held.seat);
+    }
+
+    /// One more lease of this pool, by a seat that may do the same. None where each such seat was found leased.
+    ///
+    /// Takes no memory and doesn't wait.
+    pub fn try_clone(&self) -> Option<Lease<Q>>
+        //= leases/lease (pool, part, able): A lease is of the pool that gave it, and its seat has the part asked for, so it may push,
+        //=   and may pop, just as that part says. While it lasts nobody else has the seat.
+        ensures pool { IfSome result (λ lease. pool_of lease ≡ pool_of self.now) }
+        ensures part { IfSome result (λ lease. part_of lease ≡ part_of self.now) }
+        ensures able { IfSome result (IsAble Q.permits Q.known) }
+    {
+        let Ok(pool) = Arc::try_clone(&self.pool) else {
+            return None;
+        };
+        let held = pool.find(self.held.part)?;
+        Some(Lease { pool, held })
     }
 
     /// What the seat may do. Takes no memory and doesn't wait.

@@ -6,6 +6,7 @@ mod leases;
 mod parts;
 mod places;
 mod pools;
+mod queue;
 
 pub use closing::Unclosed;
 pub use leases::Lease;

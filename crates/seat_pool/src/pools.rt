@@ -143,7 +143,7 @@ impl<Q: Fifo + Drop> Store<Q> {
     }
 
     // Takes a seat of this part from the first place where one lies.
-    fn find(&self, part: Part) -> Option<Held<Q>>
+    pub(crate) fn find(&self, part: Part) -> Option<Held<Q>>
         ensures from { IfSome result (IsFrom self.now) }
         ensures part { IfSome result (λ held. held.part ≡ part) }
     {
@@ -176,7 +176,7 @@ impl<Q: Fifo + Drop> Store<Q> {
 
 impl<Q: Fifo + Drop> SeatPool<Q> {
     ghost use Rattle.seat_pool.specs.Pools.{store_of, queue_in, numbers_of};
-    ghost use Rattle.seat_pool.specs.Leases.{pool_of, part_of};
+    ghost use Rattle.seat_pool.specs.Leases.{pool_of, part_of, IsAble};
 
     /// A pool of this queue's seats.
     ///
@@ -212,10 +212,10 @@ impl<Q: Fifo + Drop> SeatPool<Q> {
     ///
     /// Takes no memory and doesn't wait.
     pub fn lease(&self, part: Part) -> Option<Lease<Q>>
-        //= leases/lease (pool, part): A lease is of the pool that gave it, and its seat has the part asked for, so it may push,
-        //=   and may pop, just as that part says. While it lasts nobody else has the seat.
+        //= leases/lease (pool, part, able)
         ensures pool { IfSome result (λ lease. pool_of lease ≡ store_of self.now) }
         ensures part { IfSome result (λ lease. part_of lease ≡ part) }
+        ensures able { IfSome result (IsAble Q.permits Q.known) }
     {
         let Ok(pool) = Arc::try_clone(&self.store) else {
             return None;
@@ -228,9 +228,10 @@ impl<Q: Fifo + Drop> SeatPool<Q> {
     ///
     /// Takes no memory, and waits.
     pub fn lease_waiting<R: Wait>(&self, rt: &R, part: Part) -> Lease<Q>
-        //= leases/lease (pool, part)
+        //= leases/lease (pool, part, able)
         ensures pool { pool_of result ≡ store_of self.now }
         ensures part { part_of result ≡ part }
+        ensures able { IsAble Q.permits Q.known result }
     {
         let backoff = Backoff::new();
         for _ in rt.forever() {

@@ -1,4 +1,4 @@
-//! Tests of seats that own a share of their queue: what no clause says.
+//! Tests of seats that own a share of their queue, and of leased ones: what no clause says.
 #![tactic(auto)]
 
 #[cfg(test)]

@@ -1,0 +1,201 @@
+//! A handle whose seat is leased gives further ones, and the queue ends as the last of them is dropped.
+use super::common::{AMPLE_COUNT, EACH, PAUSE, got};
+use blocking_queue::BlockingQueue;
+use history::{Body, Fifo, Refusal};
+use node_arena::Role;
+use nonblocking::MsQueue;
+use queue_handles::{Handle, deal_side};
+use seat_pool::{Part, SeatPool};
+use std::alloc::Global;
+use std::process::Abort;
+use std::sync::{Arc, Wait};
+use std::test::Fail;
+use std::thread::{Threads, join};
+use std::time::{Clock, Duration};
+use two_lock::TwoLockQueue;
+
+/// A seat that pushes for each closer, three for senders, and three that pop.
+const EIGHT: [Role; 8] = [
+    Role::Giver,
+    Role::Giver,
+    Role::Giver,
+    Role::Giver,
+    Role::Giver,
+    Role::Taker,
+    Role::Taker,
+    Role::Taker,
+];
+
+// A handle of a new side of this queue.
+fn one_handle<Q: Fifo + Send + Sync + Drop>(
+    alloc: Global,
+    pool: &SeatPool<Q>,
+    queue: &Arc<BlockingQueue<SeatPool<Q>>, Global>,
+    part: Part,
+) -> Result<Handle<SeatPool<Q>>, Refusal> {
+    let (Some(closer), Some(seat)) = (pool.lease(Part::Giver), pool.lease(part)) else {
+        return Err(Refusal::BadSize);
+    };
+    let mut seats = Vec::new(alloc);
+    if seats.push(seat).is_err() {
+        return Err(Refusal::Memory);
+    }
+    let mut handles = deal_side(alloc, queue, closer, seats)?;
+    handles.pop().ok_or(Refusal::BadSize)
+}
+
+// The first sender and the first receiver of a queue whose seats are leased.
+fn opened<Q: Fifo + Send + Sync + Drop>(
+    alloc: Global,
+    queue: Q,
+    seats: Vec<Q::Seat>,
+) -> Result<(Handle<SeatPool<Q>>, Handle<SeatPool<Q>>), Refusal> {
+    let pool = SeatPool::new(alloc, queue, seats)?;
+    let Some(shared) = pool.share() else {
+        return Err(Refusal::Memory);
+    };
+    let Ok(queue) = Arc::new(alloc, BlockingQueue::new(shared)) else {
+        return Err(Refusal::Memory);
+    };
+    let sender = one_handle(alloc, &pool, &queue, Part::Giver)?;
+    let receiver = one_handle(alloc, &pool, &queue, Part::Taker)?;
+    Ok((sender, receiver))
+}
+
+// The body of the next value that this receiver takes; none where none comes in time.
+fn next_body<R: Wait + Clock, Q: Fifo + Drop>(
+    rt: &R,
+    receiver: &mut Handle<Q>,
+) -> Result<Option<u64>, Refusal> {
+    got(receiver.recv_timeout(rt, Duration::from_millis(PAUSE)))
+}
+
+fn ends_by_the_last_clone<R: Abort + Wait + Clock, Q: Fifo + Send + Sync + Drop>(
+    rt: &R,
+    alloc: Global,
+    queue: Q,
+    seats: Vec<Q::Seat>,
+) -> Result<(), Fail> {
+    let (mut sender, mut receiver) = opened(alloc, queue, seats)?;
+    let (Some(one), Some(two)) = (Body::new(1), Body::new(2)) else {
+        return Err(Refusal::BadSize.into());
+    };
+    let Some(mut other) = sender.try_clone() else {
+        return Err(Refusal::BadSize.into());
+    };
+    assert_eq!(rt; (sender.handles(), receiver.handles()), (2, 1));
+    sender.send(rt, one)?;
+    other.send(rt, two)?;
+    let (first, second) = (receiver.recv(rt)?, receiver.recv(rt)?);
+    assert!(rt; first.from != second.from, "a clone has a seat of its own");
+    drop(sender);
+    assert_eq!(rt; other.handles(), 1);
+    assert_eq!(rt; next_body(rt, &mut receiver), Ok(None), "a clone is left");
+    other.send(rt, one)?;
+    drop(other);
+    assert_eq!(rt;
+        next_body(rt, &mut receiver),
+        Ok(Some(1)),
+        "what was sent is left"
+    );
+    assert_eq!(rt;
+        next_body(rt, &mut receiver),
+        Err(Refusal::Closed),
+        "the last clone has ended it"
+    );
+    Ok(())
+}
+
+fn runs_out_of_seats<R: Abort, Q: Fifo + Send + Sync + Drop>(
+    rt: &R,
+    alloc: Global,
+    queue: Q,
+    seats: Vec<Q::Seat>,
+) -> Result<(), Fail> {
+    let (sender, receiver) = opened(alloc, queue, seats)?;
+    let (a, b) = (sender.try_clone(), sender.try_clone());
+    assert!(rt; a.is_some() && b.is_some() && receiver.try_clone().is_some());
+    assert!(rt;
+        sender.try_clone().is_none(),
+        "each seat that pushes is leased"
+    );
+    assert_eq!(rt; sender.handles(), 3, "what isn't cloned doesn't count");
+    drop(a);
+    assert!(rt;
+        sender.try_clone().is_some(),
+        "a dropped handle gave its seat back"
+    );
+    Ok(())
+}
+
+// Sends so many bodies by a handle, and drops it.
+fn sends_and_goes<R: Wait, Q: Fifo + Drop>(rt: &R, mut handle: Handle<Q>) -> u64 {
+    let mut sent = 0u64;
+    for number in 0..EACH {
+        if let Some(body) = Body::new(number) {
+            if handle.send(rt, body).is_ok() {
+                sent = sent.wrapping_add(1);
+            }
+        }
+    }
+    sent
+}
+
+// How many values come by this handle, until the queue is shut and empty.
+fn count_all<R: Wait, Q: Fifo + Drop>(rt: &R, mut handle: Handle<Q>) -> u64 {
+    let mut count = 0u64;
+    for _ in rt.forever() {
+        match handle.recv_or_end(rt) {
+            Ok(Some(_)) => count = count.wrapping_add(1),
+            _ => break,
+        }
+    }
+    count
+}
+
+fn ends_on_threads<
+    R: Abort + Threads + Wait + Clock + Sync,
+    Q: Fifo<Seat: Sync> + Sync + Send + Drop,
+>(rt: &R, alloc: Global, queue: Q, seats: Vec<Q::Seat>) -> Result<(), Fail> {
+    let (sender, receiver) = opened(alloc, queue, seats)?;
+    let (Some(other), Some(second)) = (sender.try_clone(), receiver.try_clone()) else {
+        return Err(Refusal::BadSize.into());
+    };
+    assert_eq!(rt; (sender.handles(), receiver.handles()), (2, 2));
+    let ((one, two), (first, last)) = join(
+        rt,
+        || join(rt, || count_all(rt, receiver), || count_all(rt, second)),
+        || join(
+            rt,
+            || sends_and_goes(rt, sender),
+            || sends_and_goes(rt, other),
+        ),
+    );
+    assert_eq!(rt; (first, last), (EACH, EACH));
+    assert_eq!(rt; one.wrapping_add(two), 2 * EACH);
+    Ok(())
+}
+
+#[test]
+fn the_last_clone_ends_it(rt: HostRuntime) -> Result<(), Fail> {
+    let (queue, seats) = MsQueue::new(rt.alloc(), 16, AMPLE_COUNT, &EIGHT)?;
+    ends_by_the_last_clone(&rt, rt.alloc(), queue, seats)?;
+    let (queue, seats) = TwoLockQueue::new(rt.alloc(), 16, AMPLE_COUNT, &EIGHT)?;
+    ends_by_the_last_clone(&rt, rt.alloc(), queue, seats)
+}
+
+#[test]
+fn there_are_as_many_clones_as_seats(rt: HostRuntime) -> Result<(), Fail> {
+    let (queue, seats) = MsQueue::new(rt.alloc(), 16, AMPLE_COUNT, &EIGHT)?;
+    runs_out_of_seats(&rt, rt.alloc(), queue, seats)?;
+    let (queue, seats) = TwoLockQueue::new(rt.alloc(), 16, AMPLE_COUNT, &EIGHT)?;
+    runs_out_of_seats(&rt, rt.alloc(), queue, seats)
+}
+
+#[test]
+fn clones_in_threads_end_it(rt: HostRuntime) -> Result<(), Fail> {
+    let (queue, seats) = MsQueue::new(rt.alloc(), 16, AMPLE_COUNT, &EIGHT)?;
+    ends_on_threads(&rt, rt.alloc(), queue, seats)?;
+    let (queue, seats) = TwoLockQueue::new(rt.alloc(), 16, AMPLE_COUNT, &EIGHT)?;
+    ends_on_threads(&rt, rt.alloc(), queue, seats)
+}
