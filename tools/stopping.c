@@ -3,7 +3,9 @@
    while all others stand, in words with a space between: S120, the one that stops takes 120 machine instructions; S3x, it comes
    to stand right before the third compare-and-exchange, from here on, of the program's own code; G120 and G3x, the one that goes
    on. Then all others go on. The status is 0 where they come to their end, or to wait for it; 1 where they don't in the time
-   given; 2 where a thread ended before it did what the plan says; 3 where the program can't be run so. For Linux on x86-64. */
+   given; 2 where a thread ended before it did what the plan says; 3 where the program can't be run so. It is 4 more where the one
+   that stops stands behind a fetch-and-add of the program's own code and before the store that follows it; the time is then a
+   fortieth. For Linux on x86-64. */
 #define _GNU_SOURCE
 #include <fcntl.h>
 #include <signal.h>
@@ -65,17 +67,32 @@ static struct code code_of(pid_t process) {
     return code;
 }
 
-/* Whether a thread that stands is right before a compare-and-exchange of 64 bits in this code: the bytes f0 48..4f 0f b1. */
-static int is_before_exchange(pid_t thread, struct code code) {
+/* The first bytes of the instruction before which a thread stands, or 0 where it isn't in this code. */
+static unsigned long bytes_before(pid_t thread, struct code code) {
     struct user_regs_struct registers;
     if (ptrace(PTRACE_GETREGS, thread, 0, &registers) < 0 || registers.rip < code.from || registers.rip >= code.to) return 0;
-    unsigned long bytes = (unsigned long)ptrace(PTRACE_PEEKTEXT, thread, registers.rip, 0);
-    return (bytes & 0xfffff8ff) == 0xb10f48f0;
+    return (unsigned long)ptrace(PTRACE_PEEKTEXT, thread, registers.rip, 0);
 }
 
+/* Whether a thread that stands is right before a compare-and-exchange of 64 bits in this code: the bytes f0 48..4f 0f b1. */
+static int is_before_exchange(pid_t thread, struct code code) {
+    return (bytes_before(thread, code) & 0xfffff8ff) == 0xb10f48f0;
+}
+
+/* Whether it is right before a fetch-and-add of 64 bits: f0 48..4f 0f c1. */
+static int is_before_add(pid_t thread, struct code code) { return (bytes_before(thread, code) & 0xfffff8ff) == 0xc10f48f0; }
+
+/* Whether it is right before a store of 64 bits that all see in one order: 48..4f 87. */
+static int is_before_store(pid_t thread, struct code code) { return (bytes_before(thread, code) & 0xfff8) == 0x8748; }
+
+/* Whether the last one of a thread's adds is not yet followed by a store. */
+static int stands_between;
+
 /* Whether a thread that stands takes one instruction and stands again. */
-static int steps(pid_t thread) {
+static int steps(pid_t thread, struct code code) {
     int status;
+    if (is_before_add(thread, code)) stands_between = 1;
+    if (is_before_store(thread, code)) stands_between = 0;
     return ptrace(PTRACE_SINGLESTEP, thread, 0, 0) == 0 && waitpid(thread, &status, __WALL) >= 0 && WIFSTOPPED(status);
 }
 
@@ -87,11 +104,11 @@ static int goes_by(const char *plan, pid_t stopped, pid_t going, struct code cod
         long count = strtol(at + 1, &end, 10);
         if (*end == 'x') {
             for (end++; count > 0; count -= is_before_exchange(thread, code)) {
-                if (!steps(thread)) return 0;
+                if (!steps(thread, code)) return 0;
             }
         } else {
             for (; count > 0; count--) {
-                if (!steps(thread)) return 0;
+                if (!steps(thread, code)) return 0;
             }
         }
         at = end + (*end == ' ');
@@ -138,5 +155,6 @@ int main(int argc, char **argv) {
     ptrace(PTRACE_CONT, going, 0, 0);
     ptrace(PTRACE_CONT, first, 0, 0);
     ptrace(PTRACE_CONT, top, 0, 0);
-    return all_go_on(top, first, stopped, atof(argv[2])) ? 0 : 1;
+    double patience = atof(argv[2]) / (stands_between ? 40 : 1);
+    return (stands_between ? 4 : 0) + (all_go_on(top, first, stopped, patience) ? 0 : 1);
 }

@@ -38,7 +38,7 @@ const SHUTS: u32 = 100;
 
 /// The words that the program understands.
 const USAGE: &str = "queue_stress [two-lock|non-blocking|ring [shut COUNT | \
-    [kept] one|four|pair|strict|taker|two COUNT | [kept] run NODES LIMIT PAIRS]]";
+    [kept] one|four|pair|strict|taker|giver|two COUNT | [kept] run NODES LIMIT PAIRS]]";
 
 // The works of a kind, by its name.
 fn works_of(name: &str) -> Works {
@@ -47,6 +47,7 @@ fn works_of(name: &str) -> Works {
         "pair" => (Some(Work::Pushes), None, Some(Work::Pops), None),
         "strict" => (Some(Work::Pairs), None, Some(Work::Strict), None),
         "taker" => (Some(Work::Pops), None, Some(Work::Strict), None),
+        "giver" => (Some(Work::Pairs), None, Some(Work::Pushes), None),
         "two" => (
             Some(Work::Pushes),
             Some(Work::Pops),

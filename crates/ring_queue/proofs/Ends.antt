@@ -69,7 +69,7 @@ seat_with (s ∷ ss) zero n h = (s, refl, h)
 seat_with (s ∷ ss) (suc i) n h = seat_with ss i n h
 
 -- what holds of each seat that is handed in
-at_place : (P : Seat → Type 0) (seats : List Seat) (i : ℕ) (s : Seat) → All P seats → slice_get seats i ≡ Some s → P s
+pub at_place : (P : Seat → Type 0) (seats : List Seat) (i : ℕ) (s : Seat) → All P seats → slice_get seats i ≡ Some s → P s
 at_place P seats i s all got = go seats i all got
   where
     go : (xs : List Seat) (j : ℕ) → All P xs → slice_get xs j ≡ Some s → P s

@@ -15,6 +15,7 @@ pub mod Deals
 pub mod Meets
 pub mod Gathers
 pub mod Ends
+pub mod Alls
 pub mod Lefts
 pub mod Turns
 pub mod Batching

@@ -1,26 +1,17 @@
 -- What a ring is at any moment.
-use Rattle.std.proofs.Common.{◌≡◌, ◌≢◌, ℕ, ◌+◌, ◌/◌, ◌%◌, ◌^◌, ◌<◌, ◌≤◌, Bool, true, false, if◌then◌else◌, List, [], ◌∷◌, length, get_or, Option, Some, None, slice_get, mod-lt, sym, refl, ap, ◌∙◌, subst, arith}
-use Rattle.std.proofs.lemmas.Option.{same_Some}
+use Rattle.std.proofs.Common.{◌≡◌, ◌≢◌, ◌⊎◌, inl, inr, ℕ, ◌+◌, ◌/◌, ◌%◌, ◌^◌, ◌<◌, ◌≤◌, Bool, true, false, if◌then◌else◌, nat_eq, List, [], ◌∷◌, length, get_or, Option, Some, None, slice_get, mod-lt, sym, refl, ap, ◌∙◌, subst, arith}
+use Rattle.std.proofs.lemmas.Bool.{ne_eqb, true≢false}
+use Rattle.std.proofs.lemmas.Option.{same_Some, slice_get_cases}
 use Rattle.history.specs.declared.operations.Taken.{Taken}
-use Rattle.ring_queue.specs.Words.{parity, slot_word, tail_word}
+use Rattle.history.proofs.Values.{pushed-Leads}
+use Rattle.ring_queue.specs.Words.{face, parity, slot_word, tail_word}
 use Rattle.ring_queue.specs.Plans.{Layout}
 use Rattle.ring_queue.specs.Seeing.{Stage, rests, saw, claimed, found, SeatView}
 use Rattle.ring_queue.specs.Rule.{Cell, Lies, HasClaimed, Stands, FillerStands, Ring}
 use Rattle.ring_queue.proofs.Numbers.{same_place, face_parity}
 use Rattle.ring_queue.proofs.Keeps.{cell, some_slot}
-use Rattle.ring_queue.specs.Machine.{C4, Stepped}
-use Rattle.ring_queue.specs.Moments.{EachMomentIsLinearizable, tail_in, AreHeldUp, IsFront, HoldsUp, NamesWhoHoldsUp, PushesInTwoSteps}
-
-pub moments : EachMomentIsLinearizable
-moments z s h = record {
-  seats = h.seats;
-  history = h.ring.history;
-  shut = h.ring.shut;
-  values = h.ring.values;
-  leads = h.ring.leads;
-  permitted = h.ring.permitted;
-  each = λ n. let seat = h.ring.each_seat n in record { rest = seat.rest; prefix = seat.begins; own = seat.own };
-}
+use Rattle.ring_queue.specs.Machine.{Words, Actor, C1, C3}
+use Rattle.ring_queue.specs.Moments.{EachMomentIsLinearizable, tail_in, HasContent, ShowsQueue, AreHeldUp, IsFront, HoldsUp, NamesWhoHoldsUp, EndsInTwo, PushesInTwoSteps}
 
 -- the places in the word of Tail
 pub tail_is_in : (t : ℕ) (shut : Bool) → t < 2 ^ 62 → tail_word t shut % 2 ^ 62 ≡ t
@@ -87,13 +78,81 @@ module _ (z : Layout) (words : List ℕ) (seats : ℕ → SeatView) (r : Ring z 
         },
       )
 
+  -- what a place from Head on is filled with, or will be: the value of the queue there, or the mark behind the last one
+  content_is : (i : ℕ) → i < length r.values + r.voids → r.log (r.head + i) ≡ slice_get r.values i
+  content_is i lt = go ((slice_get_cases r.values i).1)
+    where
+      go : ((x : Taken) × (i < length r.values) × (slice_get r.values i ≡ Some x) × (get_or r.values i x ≡ x)) ⊎ ((length r.values ≤ i) × (slice_get r.values i ≡ None)) → r.log (r.head + i) ≡ slice_get r.values i
+      go (inl one) = r.logged i one.0 one.2 ∙ sym one.2
+      go (inr none) = r.marked (r.head + i) (let le = none.0 in omega (arith, le)) (let c = r.counted in omega (arith, c, lt)) ∙ sym none.1
+
+  -- it is in the word of its slot, or with the seat that has claimed it
+  content_is_there : (i : ℕ) → i < length r.values + r.voids → HasContent z words seats (r.head + i) (slice_get r.values i)
+  content_is_there i lt =
+      let p : ℕ = r.head + i in
+      let pos = some_slot z words seats r in
+      let near : p % z.slots < z.slots = mod-lt p pos in
+      let ok = r.each_cell (p % z.slots) near in
+      let counted = r.counted in
+      let claimed_at = ok.claimed in
+      let last = ok.last in
+      let here : (r.cells (p % z.slots)).place ≡ p = same_place z.slots (r.cells (p % z.slots)).place p pos ok.slot (omega (arith, claimed_at, room)) (omega (arith, last, counted, lt)) in
+      subst (HasContent z words seats p) (content_is i lt) (go (r.cells (p % z.slots)).place (r.cells (p % z.slots)).filler p here ok.lies (r.filling (p % z.slots) near))
+    where
+      go : (q : ℕ) (f : Option ℕ) (p : ℕ) → q ≡ p → Lies z.slots r.head r.log (get_or words (slot_word (p % z.slots)) 0) q f → FillerStands (length z.roles) r.log seats q f → HasContent z words seats p (r.log p)
+      go q None p e lies fills = inl (subst (λ y. get_or words (slot_word (p % z.slots)) 0 ≡ face z.slots y (r.log y)) e lies)
+      go q (Some n) p e lies fills = inr (n, subst (λ y. HasClaimed (seats n).stage y (r.log y)) e fills.2)
+
+  pub shows_queue : ShowsQueue z words seats r.shut r.values
+  shows_queue = record {
+    marks = r.voids;
+    tail = r.tail_is ∙ ap (λ t. tail_word t r.shut) (sym r.counted ∙ sym (ap (λ h. (h + length r.values) + r.voids) r.head_is));
+    unshut = r.unshut;
+    each = λ i lt. subst (λ h. HasContent z words seats (h + i) (slice_get r.values i)) (sym r.head_is) (content_is_there i lt);
+  }
+
+pub moments : EachMomentIsLinearizable
+moments z s h = record {
+  seats = h.seats;
+  views = h.fits;
+  history = h.ring.history;
+  shut = h.ring.shut;
+  values = h.ring.values;
+  leads = h.ring.leads;
+  shows = shows_queue z s.words h.seats h.ring;
+  once = pushed-Leads h.ring.history h.ring.shut h.ring.values h.ring.leads;
+  taken = h.ring.head_is ∙ h.ring.taken;
+  permitted = h.ring.permitted;
+  each = λ n. let seat = h.ring.each_seat n in record { rest = seat.rest; prefix = seat.begins; own = seat.own };
+}
+
 pub held_up : NamesWhoHoldsUp
 held_up z s h up = who_holds_up z s.words h.seats h.ring up
 
--- both ways on lead to C4
-goes_to_fill : (b : Bool) (one other : Stepped) → one.actor.line ≡ Some C4 → other.actor.line ≡ Some C4 → (if b then one else other).actor.line ≡ Some C4
-goes_to_fill true one other e f = e
-goes_to_fill false one other e f = f
+-- a push with a place in reserve begins at C3
+begins_at_claim : (credits : ℕ) → 1 ≤ credits → (if nat_eq credits 0 then C1 else C3) ≡ C3
+begins_at_claim credits has = ap (λ b. if b then C1 else C3) (ne_eqb credits 0 (λ e. omega (arith, has, e)))
+
+-- from there it ends with its second step
+two_from_claim : (z : Layout) (tail head : ℕ) (slots : List ℕ) (shut : Bool) (second : Words) (a : Actor) (body : ℕ)
+    → EndsInTwo z (record { tail = tail; shut = shut; head = head; slots = slots }) second (record a { body = body; line = Some C3 })
+two_from_claim z tail head slots true second a body = record {
+  goes_on = refl;
+  ends = refl;
+  pushes = λ e. absurd (true≢false e);
+  done = λ e. absurd (true≢false e);
+  pushes_none = λ _. refl;
+  refused = λ _. refl;
+}
+two_from_claim z tail head slots false second a body = record {
+  goes_on = refl;
+  ends = refl;
+  pushes = λ _. refl;
+  done = λ _. refl;
+  pushes_none = λ e. absurd (true≢false (sym e));
+  refused = λ e. absurd (true≢false (sym e));
+}
 
 pub two_steps : PushesInTwoSteps
-two_steps z w w' a = (goes_to_fill w.shut _ _ refl refl, refl)
+two_steps z first second a body has =
+    subst (λ l. EndsInTwo z first second (record a { body = body; line = Some l })) (sym (begins_at_claim a.credits has)) (two_from_claim z first.tail first.head first.slots first.shut second a body)

@@ -1,7 +1,7 @@
 //! The end of a ring.
-ghost use Rattle.std.specs.Prelude.{◌≡◌, ◌<◌, [], map, IfOk, IfErr};
+ghost use Rattle.std.specs.Prelude.{◌≡◌, ◌<◌, [], length, map, IfOk, IfErr};
 ghost use Rattle.std.specs.List.{All};
-ghost use Rattle.history.specs.Closing.{AreAll, Closes};
+ghost use Rattle.history.specs.Closing.{Closes};
 ghost use Rattle.ring_queue.specs.Closing.{HasToken, HasGathered, HasRoomFor};
 ghost use Rattle.ring_queue.specs.Queues.{IsQueueSeat, permits_in};
 ghost use Rattle.ring_queue.specs.Seats.{known_of, view};
@@ -34,6 +34,14 @@ fn gather(table: &WordTable, gatherer: &mut SeatToken, seats: Vec<Seat>)
 }
 
 impl RingQueue {
+    /// How many seats the ring was made with. Takes no memory and doesn't wait.
+    pub fn seat_count(&self) -> usize
+        //= ring/seat_count: A ring tells how many seats it was made with.
+        ensures { result ≡ length (permits_in self.now) }
+    {
+        self.sizes().roles.len()
+    }
+
     /// Memory for the values left in the ring, of which there are no more than slots.
     ///
     /// Refused by `Memory` alone. Takes that memory, and doesn't wait.
@@ -48,8 +56,9 @@ impl RingQueue {
         }
     }
 
-    /// Ends the ring with all its seats, each of which is in no call, so that each place that was claimed is filled: which
-    /// values are left, how many were taken, and whether the ring was shut. What shuts a ring and leaves it there is `try_shut`.
+    /// Ends the ring with all its seats, as many as `seat_count` tells, each of which is in no call, so that each place that was
+    /// claimed is filled: which values are left, how many were taken, and whether the ring was shut. What shuts a ring and
+    /// leaves it there is `try_shut`.
     ///
     /// Takes no memory and doesn't wait.
     ///
@@ -61,9 +70,9 @@ impl RingQueue {
     pub fn close_with(self, room: Vec<Taken>, seats: Vec<Seat>) -> Rest
         requires room { HasRoomFor self room }
         requires seats { All (IsQueueSeat self) seats.items }
-        requires all { AreAll (permits_in self) (map known_of seats.items) }
-        //= ring/rest: A ring is closed by all its seats alone, and what is left of it is then what [`Close`](#queues)
-        //=   says of a rest, which is whole: the values in their order, each with who pushed it.
+        requires all { length seats.items ≡ length (permits_in self) }
+        //= ring/rest: A ring is closed by as many of its seats as it has, which are all of them, and what is left of it is
+        //=   then what [`Close`](#queues) says of a rest, which is whole: the values in their order, each with who pushed it.
         ensures rest { Closes (permits_in self) (map known_of seats.items) result }
     {
         let RingQueue { table, plan } = self;
@@ -87,7 +96,7 @@ impl RingQueue {
     /// ```
     pub fn close(self, alloc: Global, seats: Vec<Seat>) -> Result<Rest, Unclosed<RingQueue, Seat>>
         requires seats { All (IsQueueSeat self) seats.items }
-        requires all { AreAll (permits_in self) (map known_of seats.items) }
+        requires all { length seats.items ≡ length (permits_in self) }
         //= ring/rest
         ensures rest { IfOk result (Closes (permits_in self) (map known_of seats.items)) }
         //= ring/unclosed (queue, same): A ring that isn't closed, for want of memory, comes back as it was, with the seats handed

@@ -3,7 +3,7 @@ ghost use Rattle.std.specs.Prelude.{IfOk};
 ghost use Rattle.std.specs.List.{All};
 ghost use Rattle.ring_queue.specs.Queues.{IsQueueSeat};
 
-use history::{Body, Fifo, Refusal, Taken};
+use history::{Body, Fifo, Refusal, Rest, Taken};
 use ring_queue::{RingQueue, Role, Seat};
 use std::alloc::Global;
 use std::fmt::Debug;
@@ -93,6 +93,16 @@ pub fn ring(
     ensures { IfOk result (λ r. All (IsQueueSeat r.0) r.1.items) }
 {
     RingQueue::new(alloc, most, credits, AMPLE, roles)
+}
+
+/// What is left of a ring that is closed by all its seats. With another number of them it answers `BadSize`, which no queue does.
+pub fn close(queue: RingQueue, alloc: Global, seats: Vec<Seat>) -> Result<Rest, Refusal>
+    requires { All (IsQueueSeat queue) seats.items }
+{
+    if seats.len() != queue.seat_count() {
+        return Err(Refusal::BadSize);
+    }
+    queue.close(alloc, seats).map_err(Refusal::from)
 }
 
 /// The last of the seats.

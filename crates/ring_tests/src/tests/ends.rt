@@ -1,5 +1,5 @@
 //! What is left of a ring that is closed by all its seats.
-use super::calls::{pop, push, ring, same, shut};
+use super::calls::{close, pop, push, ring, same, shut};
 use history::{Refusal, Rest};
 use ring_queue::Role;
 use std::alloc::Global;
@@ -36,7 +36,7 @@ fn what_is_left_comes_in_order(rt: HostRuntime) -> Result<(), Fail> {
             "left",
         );
     }
-    let rest = queue.close(rt.alloc(), seats).map_err(Refusal::from)?;
+    let rest = close(queue, rt.alloc(), seats)?;
     let told = (rest.taken(), rest.whole(), rest.was_shut());
     same(&rt, told, (6, true, false), "what was done with it");
     let left = values(rt.alloc(), rest)?;
@@ -57,7 +57,7 @@ fn a_mark_is_no_value(rt: HostRuntime) -> Result<(), Fail> {
     same(&rt, shut(&queue, &mut seats[0]), Ok(()), "the shut");
     let closed = Err(Refusal::Closed);
     same(&rt, push(&queue, &mut seats[0], 6, 1), closed, "behind it");
-    let rest = queue.close(rt.alloc(), seats).map_err(Refusal::from)?;
+    let rest = close(queue, rt.alloc(), seats)?;
     let told = (rest.taken(), rest.whole(), rest.was_shut());
     same(&rt, told, (0, true, true), "what was done with it");
     let left = values(rt.alloc(), rest)?;
