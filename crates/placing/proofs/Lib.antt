@@ -11,6 +11,10 @@ mod Ranks
 pub mod InOrder
 pub mod Spreads
 mod Pushed
+pub mod Risen
+pub mod Indices
+pub mod Pointing
+pub mod Putting
 pub mod Trying
 pub mod EdgeOrders
 mod SmallSearches

@@ -1,5 +1,5 @@
 -- Lists of numbers and edges, by one more, and the steps of a search.
-use Rattle.std.proofs.Common.{◌≡◌, ℕ, zero, suc, ◌+◌, ◌-◌, ◌<◌, Bool, true, false, if◌then◌else◌, nat_eq, List, [], ◌∷◌, ◌++◌, length, replicate, count_by, reverse, bit_xor, Some, None, Option, refl, sym, ◌∙◌, ap, inl, inr, arith}
+use Rattle.std.proofs.Common.{◌≡◌, ℕ, zero, suc, ◌+◌, ◌-◌, ◌≤◌, ◌<◌, Bool, true, false, if◌then◌else◌, nat_eq, List, [], ◌∷◌, ◌++◌, length, replicate, count_by, reverse, bit_xor, Some, None, Option, refl, sym, ◌∙◌, ap, inl, inr, arith}
 use Rattle.std.proofs.lemmas.Bool.Decides.{eqb_tells}
 use Rattle.std.proofs.lemmas.List.{reverse-append}
 use Rattle.history.specs.declared.operations.Stamped.{Stamped}
@@ -8,6 +8,7 @@ use Rattle.placing.specs.declared.object.Effect.{Effect}
 use Rattle.placing.specs.declared.searching.Edge.{Edge}
 use Rattle.placing.specs.declared.searching.Tried.{Tried}
 use Rattle.placing.specs.Answers.{IsCause}
+use Rattle.placing.specs.Orders.{IsOrder}
 use Rattle.placing.specs.TriedQueues.{mixed, Queue, no_values, undone}
 use Rattle.placing.specs.Tries.{noted_ends, Links, all_linked, first_in, without, with_again, State, beginning, end_in, put_in, unended, taken_out, stepped, Ending, Found, InVain, UsedUp, indices, ending_after, ending_from, Ends}
 
@@ -100,8 +101,9 @@ ends_alike ops steps more ending ne h = record {
 }
 
 -- an order that was found got no points
-pub finds_unplaced : (ops : List Stamped) (steps : ℕ) (order : List ℕ) → Ends ops steps (Found order) → IsCause ops steps Unplaced
-finds_unplaced ops steps order h = (order, h)
+pub finds_unplaced : (ops : List Stamped) (steps : ℕ) (order : List ℕ) → Ends ops steps (Found order)
+    → (length ops ≤ 2147483648 → IsOrder ops order → ⊥) → IsCause ops steps Unplaced
+finds_unplaced ops steps order h isnt = (order, h, isnt)
 
 -- an operation that ended is put in
 pub put_ended : (s : State) (index : ℕ) (has_ended : Bool) (effect : Effect) (ring : Links) (left : ℕ) (order : List Tried) (mark : ℕ)

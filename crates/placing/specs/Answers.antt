@@ -1,5 +1,5 @@
 -- What an answer says of a recorded history.
-use Rattle.std.specs.Prelude.{◌≡◌, ℕ, List, All}
+use Rattle.std.specs.Prelude.{◌≡◌, ◌≤◌, ℕ, List, All, length}
 use Rattle.history.specs.declared.operations.Stamped.{Stamped}
 use Rattle.history.specs.declared.operations.Verdict.TheVariants.{Yes}
 use Rattle.history.specs.History.{verdict}
@@ -8,6 +8,7 @@ use Rattle.placing.specs.declared.answers.Unknown.TheVariants.{Steps, Searched, 
 use Rattle.placing.specs.declared.answers.Placed.{Placed}
 use Rattle.placing.specs.declared.answers.Placed.TheVariants.{History, Impossible, Open}
 use Rattle.placing.specs.Spreading.{IsSpread}
+use Rattle.placing.specs.Orders.{IsOrder}
 use Rattle.placing.specs.Reasons.{IsReason}
 use Rattle.placing.specs.Faults.{IsFaultless}
 use Rattle.placing.specs.Tries.{Found, InVain, UsedUp, Ends}
@@ -20,11 +21,12 @@ IsAnswer ops (Impossible reason) = IsReason ops reason
 IsAnswer ops (Open cause) = All IsFaultless ops
 
 -- Why neither was found, by a search that may take so many steps: it used them up, or it ended with nothing left to try, or
--- it found an order, which got no points.
+-- it found an order by which a history of at most 2147483648 operations isn't one of a queue.
 abbrev pub IsCause : List Stamped → (steps : ℕ) → Unknown → Type 0
 IsCause ops steps Steps = Ends ops steps UsedUp
 IsCause ops steps Searched = Ends ops steps InVain
-IsCause ops steps Unplaced = (order : List ℕ) × Ends ops steps (Found order)
+IsCause ops steps Unplaced =
+    (order : List ℕ) × Ends ops steps (Found order) × (length ops ≤ 2147483648 → IsOrder ops order → ⊥)
 
 -- where an answer is open, it has its cause
 abbrev pub HasCause : List Stamped → (steps : ℕ) → Placed → Type 0

@@ -1,6 +1,7 @@
 pub mod Calls
 pub mod Kinds
 pub mod Spreading
+pub mod Orders
 pub mod Reasons
 pub mod Faults
 pub mod Answers

@@ -57,7 +57,8 @@ pub enum Unknown {
     Steps,
     /// The search found no order, and nothing was left to try. That is no reason that could be tested.
     Searched,
-    /// The order that the search found got no points that `check` judges Yes.
+    /// The order that the search found got no points that `check` judges Yes: by it a history of at most 2,147,483,648
+    /// operations isn't one of a queue.
     Unplaced,
 }
 

@@ -1,9 +1,10 @@
 //! Linearization points for a recorded history, or a reason why there are none.
-ghost use Rattle.std.specs.Prelude.{◌≡◌, ◌↔◌, IsTrue, IfOk, IfErr, IfSome, All};
+ghost use Rattle.std.specs.Prelude.{◌≡◌, ◌↔◌, ◌≤◌, IsTrue, IfOk, IfErr, IfSome, IsSome, IsSomeAnd, All, length};
 ghost use Rattle.history.specs.declared.operations.Verdict.TheVariants.{Yes};
 ghost use Rattle.history.specs.History.{verdict};
 ghost use Rattle.placing.specs.declared.answers.Placed.TheVariants.{History};
 ghost use Rattle.placing.specs.Spreading.{IsSpread};
+ghost use Rattle.placing.specs.Orders.{IsOrder};
 ghost use Rattle.placing.specs.Faults.{IsFaultless};
 ghost use Rattle.placing.specs.Answers.{IsAnswer, HasCause};
 
@@ -45,7 +46,8 @@ pub fn place(alloc: Global, history: &[Stamped], steps: u64) -> Result<Placed, R
     //=   neither was found, which is said of none with an operation that is wrong by itself. Or Memory.
     ensures answer { IfOk result (IsAnswer history.now) }
     //= judge/open: Open is told by a search, defined step by step: `Steps` after as many steps as were given, of which
-    //=   none ended it, `Searched` where it ended within them with nothing left to try, `Unplaced` with an order.
+    //=   none ended it, `Searched` where it ended within them with nothing left to try, `Unplaced` with an order by
+    //=   which a history of at most 2,147,483,648 operations isn't one of a queue.
     ensures cause { IfOk result (HasCause history.now steps) }
     ensures only_memory { IfErr result (λ refusal. refusal ≡ Refusal.Memory) }
 {
@@ -108,7 +110,10 @@ fn placed(
     history: &[Stamped],
     order: &[usize],
 ) -> Result<Option<Vec<Stamped>>, Refusal>
+    requires { All IsFaultless history.now }
     ensures new { IfOk result (λ new. IfSome new (λ new. IsAnswer history.now (History new))) }
+    ensures some { length history.now ≤ 2147483648 → IsOrder history.now order.now
+        → IfOk result IsSome }
     ensures only_memory { IfErr result (λ refusal. refusal ≡ Refusal.Memory) }
 {
     match within_stamps(alloc, history, order) {
@@ -154,7 +159,10 @@ fn spread_out(
     history: &[Stamped],
     order: &[usize],
 ) -> Result<Option<Vec<Stamped>>, AllocError>
-    ensures { IfOk result (λ new. IfSome new (λ new. IsSpread history.now new.items)) }
+    requires { All IsFaultless history.now }
+    ensures spread { IfOk result (λ new. IfSome new (λ new. IsSpread history.now new.items)) }
+    ensures placed { length history.now ≤ 2147483648 → IsOrder history.now order.now
+        → IfOk result (λ new. IsSomeAnd new (λ new. verdict new.items ≡ Yes)) }
 {
     let spread = Spread::of(alloc, history)?;
     match points(alloc, history, order, &spread)? {

@@ -1,7 +1,10 @@
 //! The order of the operations, and points for it.
-ghost use Rattle.placing.specs.Spreading.{SpreadsAll};
+ghost use Rattle.std.specs.Prelude.{◌≡◌, ◌≤◌, max, IfSome, IsSome, IfOk, Some, length, slice_set};
+ghost use Rattle.placing.specs.Spreading.{SpreadsAll, HasRoom};
+ghost use Rattle.placing.specs.Orders.{NoneEndsTooSoon, ArePoints};
 
 use crate::cutting::Cuts;
+use crate::operations::ended_before;
 use crate::spreading::Spread;
 use crate::times::{Carried, When};
 use history::Stamped;
@@ -118,6 +121,13 @@ pub(crate) fn points(
     spread: &Spread,
 ) -> Result<Option<Vec<Option<u64>>>, AllocError>
     requires { SpreadsAll history.now spread.now.numbers.items spread.now.width }
+    ensures long { IfOk result (λ points. IfSome points (λ points.
+        length points.items ≡ length history.now)) }
+    ensures points { IfOk result (λ points. IfSome points (λ points.
+        ArePoints history.now spread.now.numbers.items spread.now.width lined.now points.items)) }
+    ensures some { HasRoom spread.now.numbers.items spread.now.width
+        → length lined.now ≤ spread.now.width → NoneEndsTooSoon history.now 0 lined.now
+        → IfOk result IsSome }
 {
     let mut points = vec![in alloc; None; history.len()]?;
     let mut begun = 0;
@@ -125,16 +135,28 @@ pub(crate) fn points(
         let Some(operation) = history.get(*index) else {
             return Ok(None);
         };
-        begun = operation.first.max(begun);
-        if operation.last.unwrap_or(begun) < begun {
+        begun = later(operation.first, begun);
+        if ended_before(begun, operation.last) {
             return Ok(None);
         }
-        let first = spread.first(begun);
-        let at = first.and_then(|first| first.checked_add(before as u64));
-        let (Some(at), Some(point)) = (at, points.get_mut(*index)) else {
+        let Some(at) = spread.behind_first(begun, before as u64) else {
             return Ok(None);
         };
-        *point = Some(at);
+        put_point(&mut points, *index, at);
     }
     Ok(Some(points))
+}
+
+fn later(time: u64, other: u64) -> u64
+    ensures { result ≡ max time other }
+{
+    time.max(other)
+}
+
+fn put_point(points: &mut [Option<u64>], index: usize, at: u64)
+    ensures { points.new ≡ slice_set points.old index (Some at) }
+{
+    if index < points.len() {
+        points[index] = Some(at);
+    }
 }

@@ -1,8 +1,9 @@
 //! A recorded history with points, and with its stamps spread where those given leave no room for these.
-ghost use Rattle.std.specs.Prelude.{◌≡◌, ◌≤◌, ◌*◌, IfSome, IsSome, IfOk, OnOk, Some, All, length, slice_get};
-ghost use Rattle.std.specs.List.{Contains};
+ghost use Rattle.std.specs.Prelude.{◌≡◌, ◌≤◌, ◌<◌, ◌*◌, IfSome, IsSome, IfOk, OnOk, Some, All, map, length, slice_get};
+ghost use Rattle.std.specs.List.{Contains, AllZip};
 ghost use Rattle.std.specs.List.Sorted.{IsStrictlyIncreasing};
 ghost use Rattle.placing.specs.Spreading.{IsFirstOf, IsLastOf, IsSpreadFrom, IsPointed, IsSpread, IsOfNumbers, AddsStamps, SpreadsAll, HasRoom};
+ghost use Rattle.placing.specs.Orders.{IsBehindFirst};
 
 use history::Stamped;
 use std::alloc::{AllocError, Global};
@@ -20,6 +21,8 @@ impl Spread {
         ensures all { IfOk result (λ spread. SpreadsAll history.now spread.numbers.items spread.width) }
         ensures room { length history.now ≤ 2147483648
             → IfOk result (λ spread. HasRoom spread.numbers.items spread.width) }
+        ensures wide { length history.now ≤ 2147483648
+            → IfOk result (λ spread. length history.now < spread.width) }
     {
         let mut numbers = used(alloc, history)?;
         numbers.sort_unstable();
@@ -43,7 +46,7 @@ impl Spread {
     }
 
     // The first of the numbers that a number becomes; none where it isn't used, or that isn't below 2^64.
-    pub(crate) fn first(&self, number: u64) -> Option<u64>
+    fn first(&self, number: u64) -> Option<u64>
         requires rises { IsStrictlyIncreasing self.now.numbers.items }
         requires wide { 1 ≤ self.now.width }
         ensures first { IfSome result (IsFirstOf self.now.numbers.items self.now.width number) }
@@ -53,6 +56,19 @@ impl Spread {
         let before = self.rank(number)?.checked_mul(self.width)?;
         let first = before.checked_add(1)?;
         Some(first)
+    }
+
+    // The number so many behind the first that a number becomes; none where it isn't used, or that isn't below 2^64.
+    pub(crate) fn behind_first(&self, number: u64, behind: u64) -> Option<u64>
+        requires rises { IsStrictlyIncreasing self.now.numbers.items }
+        requires wide { 1 ≤ self.now.width }
+        ensures at { IfSome result (IsBehindFirst self.now.numbers.items self.now.width number behind) }
+        ensures some { HasRoom self.now.numbers.items self.now.width → behind < self.now.width
+            → Contains self.now.numbers.items number → IsSome result }
+    {
+        let first = self.first(number)?;
+        let at = first.checked_add(behind)?;
+        Some(at)
     }
 
     // The last of the numbers that a number becomes; none where it isn't used, or that isn't below 2^64.
@@ -72,6 +88,7 @@ impl Spread {
         requires rises { IsStrictlyIncreasing self.now.numbers.items }
         requires wide { 1 ≤ self.now.width }
         ensures new { IfSome result (IsSpreadFrom self.now.numbers.items self.now.width operation.now) }
+        ensures at { IfSome result (λ new. new.at ≡ at) }
         ensures some { HasRoom self.now.numbers.items self.now.width
             → IsOfNumbers self.now.numbers.items operation.now → IsSome result }
     {
@@ -96,8 +113,12 @@ impl Spread {
         history: &[Stamped],
         points: &[Option<u64>],
     ) -> Result<Option<Vec<Stamped>>, AllocError>
-        requires { SpreadsAll history.now self.now.numbers.items self.now.width }
-        ensures spread { IfOk result (λ spread. IfSome spread (λ new. IsSpread history.now new.items)) }
+        requires all { SpreadsAll history.now self.now.numbers.items self.now.width }
+        requires long { length points.now ≡ length history.now }
+        ensures spread { IfOk result (λ spread. IfSome spread (λ new.
+            AllZip (IsSpreadFrom self.now.numbers.items self.now.width) history.now new.items)) }
+        ensures points { IfOk result (λ spread. IfSome spread (λ new.
+            map (λ o. o.at) new.items ≡ points.now)) }
         ensures some { HasRoom self.now.numbers.items self.now.width → IfOk result IsSome }
     {
         let mut spread = Vec::new(alloc);
