@@ -1,6 +1,11 @@
 //! Calls by a seat that may make them.
+ghost use Rattle.std.specs.Prelude.{IfOk};
+ghost use Rattle.std.specs.List.{All};
+
 use carriers::{Carrier, ItemOf, Unpushed};
 use history::Refusal;
+use std::fmt::Debug;
+use std::process::Abort;
 
 /// How many turns each call has.
 const TURNS: u32 = 3;
@@ -43,4 +48,21 @@ pub fn shut<C: Carrier>(queue: &C, seat: &mut C::Seat) -> Result<(), Refusal>
         return Err(Refusal::BadSize);
     }
     queue.try_shut(seat, TURNS)
+}
+
+/// The last of these seats, taken from them.
+pub fn last<C: Carrier>(queue: &C, seats: &mut Vec<C::Seat>) -> Result<C::Seat, Refusal>
+    requires { All (C.is_seat queue.now) seats.old.items }
+    ensures { IfOk result (λ s. C.is_seat queue.now s × All (C.is_seat queue.now) seats.new.items) }
+{
+    let _ = queue;
+    match seats.pop() {
+        Some(seat) => Ok(seat),
+        None => Err(Refusal::BadSize),
+    }
+}
+
+/// Both are the same.
+pub fn same<T: PartialEq + Debug + Drop>(rt: &impl Abort, found: T, wanted: T) {
+    assert_eq!(rt; found, wanted);
 }

@@ -1,9 +1,7 @@
 //! Values that go through the queues of values, and come back where they don't.
-ghost use Rattle.std.specs.Prelude.{IfOk};
-ghost use Rattle.std.specs.List.{All};
 ghost use Rattle.value_queue.specs.Queues.{IsQueueSeat};
 
-use super::calls::{pop, push, shut};
+use super::calls::{last, pop, push, same, shut};
 use arena_queue::Algorithm;
 use carriers::{Carrier, CloseCarrier, ItemOf, Unpushed};
 use history::Refusal;
@@ -30,20 +28,18 @@ const ROUNDS: u64 = 1000;
 /// So many nodes that none of them finds the queue full.
 const ROOM_FOR_ALL: u32 = 1002;
 
-/// The last of these seats, taken from them.
-fn last<C: Carrier>(queue: &C, seats: &mut Vec<C::Seat>) -> Result<C::Seat, Refusal>
-    requires { All (C.is_seat queue.now) seats.old.items }
-    ensures { IfOk result (λ s. C.is_seat queue.now s × All (C.is_seat queue.now) seats.new.items) }
-{
-    let _ = queue;
-    match seats.pop() {
-        Some(seat) => Ok(seat),
-        None => Err(Refusal::BadSize),
-    }
+// A push that hands its value back.
+fn refused<T>(refusal: Refusal, value: T) -> Result<(), Unpushed<T>> {
+    Err(Unpushed { refusal, value })
 }
 
-// Pushes two values, and a third one that has no node; pops the first, pushes the fourth, and pops both that are left; shuts the
-// queue, and pushes the fifth. Each comes out, or back, as the one that is wanted.
+// A pop of a value of seat 1.
+fn popped<T>(value: T) -> Result<Option<ItemOf<T>>, Refusal> {
+    Ok(Some(ItemOf { from: 1, value }))
+}
+
+// Pushes two values, and a third one that has no node; pops the first, pushes the fourth, and pops both that are left;
+// shuts the queue, and pushes the fifth. Each comes out, or back, as the one that is wanted.
 fn goes<T: PartialEq + Debug + Drop + Send, A: Algorithm<24>>(
     rt: &impl Abort,
     queue: &QueueOf<T, A, 24>,
@@ -55,19 +51,21 @@ fn goes<T: PartialEq + Debug + Drop + Send, A: Algorithm<24>>(
 {
     let [first, second, third, fourth, fifth] = values;
     let [one, two, three, four, five] = wanted;
-    let refused = |refusal, value| Err(Unpushed { refusal, value });
-    let popped = |value| Ok(Some(ItemOf { from: 1, value }));
-    assert_eq!(rt; push(queue, seat, first), Ok(()));
-    assert_eq!(rt; push(queue, seat, second), Ok(()));
-    assert_eq!(rt; push(queue, seat, third), refused(Refusal::NoNode, three));
-    assert_eq!(rt; pop(queue, seat), popped(one));
-    assert_eq!(rt; push(queue, seat, fourth), Ok(()));
-    assert_eq!(rt; pop(queue, seat), popped(two));
-    assert_eq!(rt; pop(queue, seat), popped(four));
-    assert_eq!(rt; pop(queue, seat), Ok(None));
-    assert_eq!(rt; shut(queue, seat), Ok(()));
-    assert_eq!(rt; push(queue, seat, fifth), refused(Refusal::Closed, five));
-    assert_eq!(rt; pop(queue, seat), Err(Refusal::Closed));
+    same(rt, push(queue, seat, first), Ok(()));
+    same(rt, push(queue, seat, second), Ok(()));
+    same(
+        rt,
+        push(queue, seat, third),
+        refused(Refusal::NoNode, three),
+    );
+    same(rt, pop(queue, seat), popped(one));
+    same(rt, push(queue, seat, fourth), Ok(()));
+    same(rt, pop(queue, seat), popped(two));
+    same(rt, pop(queue, seat), popped(four));
+    same(rt, pop(queue, seat), Ok(None));
+    same(rt, shut(queue, seat), Ok(()));
+    same(rt, push(queue, seat, fifth), refused(Refusal::Closed, five));
+    same(rt, pop(queue, seat), Err(Refusal::Closed));
 }
 
 // Five texts, of which one is empty.
@@ -119,9 +117,10 @@ fn values_left_are_dropped(rt: HostRuntime) -> Result<(), Fail> {
         &[Role::Both],
     )?;
     let mut seat = last(&queue, &mut seats)?;
-    assert_eq!(rt;
+    same(
+        &rt,
         push(&queue, &mut seat, format!(in rt.alloc(); "left")?),
-        Ok(())
+        Ok(()),
     );
     Ok(())
 }
@@ -147,14 +146,14 @@ fn slots_are_used_again(rt: HostRuntime) -> Result<(), Fail> {
     let mut came = 0u64;
     for value in 0..ROUNDS {
         if through(&queue, &mut seat, value) == Ok(Ok(Some(ItemOf { from: 1, value }))) {
-            came += 1;
+            came = came.wrapping_add(1);
         }
     }
-    assert_eq!(rt; came, ROUNDS);
+    same(&rt, came, ROUNDS);
     Ok(())
 }
 
-// Pushes the texts of the numbers below `most`.
+// Pushes the texts of the numbers below `most`; where memory is refused, nothing more comes.
 fn gives<R: Wait>(
     rt: &R,
     alloc: Global,
@@ -169,6 +168,7 @@ fn gives<R: Wait>(
     }
     for number in 0..most {
         let Ok(text) = format!(in alloc; "{number}") else {
+            queue.shut(rt, &mut seat)?;
             return Err(Refusal::Memory);
         };
         queue.push(rt, &mut seat, text)?;
@@ -208,25 +208,25 @@ fn takes<R: Wait>(
     Ok(next)
 }
 
-// The same in two threads.
+// The same in two threads; where there is no thread, the texts are pushed first.
 fn hands_over<R: Threads + Wait + Sync>(
     rt: &R,
     alloc: Global,
     queue: &MsValueQueue<String>,
     giver: Seat<String>,
     taker: Seat<String>,
-) -> (Result<(), Refusal>, Result<u64, Refusal>)
+) -> (Result<u64, Refusal>, Result<(), Refusal>)
     requires giver { IsQueueSeat queue.now giver }
     requires taker { IsQueueSeat queue.now taker }
 {
     join(
         rt,
-        || -> Result<(), Refusal>
-            requires { IsQueueSeat queue.now giver }
-        { gives(rt, alloc, queue, giver, ROUNDS) },
         || -> Result<u64, Refusal>
             requires { IsQueueSeat queue.now taker }
         { takes(rt, alloc, queue, taker, ROUNDS) },
+        || -> Result<(), Refusal>
+            requires { IsQueueSeat queue.now giver }
+        { gives(rt, alloc, queue, giver, ROUNDS) },
     )
 }
 
@@ -243,49 +243,57 @@ fn threads_hand_texts_over(rt: HostRuntime) -> Result<(), Fail> {
     let taker = last(&queue, &mut seats)?;
     let giver = last(&queue, &mut seats)?;
     let came = hands_over(&rt, rt.alloc(), &queue, giver, taker);
-    assert_eq!(rt; came, (Ok(()), Ok(ROUNDS)));
+    same(&rt, came, (Ok(ROUNDS), Ok(())));
     Ok(())
 }
 
-// Two seats push three texts, one pops the first, and the other shuts the queue; closed, it gives the other two, in order.
+// What is left of a closed queue in front: this text, pushed by this seat.
+fn left(alloc: Global, from: u16, text: &str) -> Result<Option<ItemOf<String>>, AllocError> {
+    let value = String::from_str(alloc, text)?;
+    Ok(Some(ItemOf { from, value }))
+}
+
+// The queue is closed with these two seats; it leaves two texts, in order.
+fn leaves<A: Algorithm<24>>(
+    rt: &impl Abort,
+    alloc: Global,
+    queue: QueueOf<String, A, 24>,
+    one: Seat<String>,
+    two: Seat<String>,
+) -> Result<(), Fail>
+    requires one { IsQueueSeat queue one }
+    requires two { IsQueueSeat queue two }
+{
+    let mut seats = Vec::new(alloc);
+    seats.push(one)?;
+    seats.push(two)?;
+    let Ok((mut rest, _end)) = queue.close(alloc, seats) else {
+        return Err(Fail::from("no memory"));
+    };
+    same(rt, rest.next(), left(alloc, 2, "two")?);
+    same(rt, rest.next(), left(alloc, 1, "three")?);
+    same(rt, rest.next(), None);
+    let told = (rest.taken(), rest.whole(), rest.was_shut());
+    same(rt, told, (1, true, true));
+    Ok(())
+}
+
+// Two seats push three texts, one pops the first, and the other shuts the queue, which is closed.
 fn texts_are_left<A: Algorithm<24>>(rt: &impl Abort, alloc: Global) -> Result<(), Fail> {
     let roles = [Role::Both, Role::Giver];
     let (queue, mut seats) = QueueOf::<String, A, 24>::new(alloc, 5, AMPLE_COUNT, &roles)?;
     let mut giver = last(&queue, &mut seats)?;
     let mut other = last(&queue, &mut seats)?;
-    let [first, second, third, _, _] = texts(alloc)?;
-    assert_eq!(rt; push(&queue, &mut other, first), Ok(()));
-    assert_eq!(rt; push(&queue, &mut giver, second), Ok(()));
-    assert_eq!(rt; push(&queue, &mut other, third), Ok(()));
-    assert!(rt; pop(&queue, &mut other).is_ok());
-    assert_eq!(rt; shut(&queue, &mut giver), Ok(()));
-    let mut seats = Vec::new(alloc);
-    seats.push(other)?;
-    seats.push(giver)?;
-    let Ok((mut rest, _end)) = queue.close(alloc, seats) else {
-        return Err(Fail::from("no memory"));
-    };
-    let [_, second, third, _, _] = texts(alloc)?;
-    assert_eq!(rt;
-        rest.next(),
-        Some(ItemOf {
-            from: 2,
-            value: second
-        })
-    );
-    assert_eq!(rt;
-        rest.next(),
-        Some(ItemOf {
-            from: 1,
-            value: third
-        })
-    );
-    assert_eq!(rt; rest.next(), None);
-    assert_eq!(rt;
-        (rest.taken(), rest.whole(), rest.was_shut()),
-        (1, true, true)
-    );
-    Ok(())
+    let one = String::from_str(alloc, "one")?;
+    let two = String::from_str(alloc, "two")?;
+    let three = String::from_str(alloc, "three")?;
+    same(rt, push(&queue, &mut other, one), Ok(()));
+    same(rt, push(&queue, &mut giver, two), Ok(()));
+    same(rt, push(&queue, &mut other, three), Ok(()));
+    let front = left(alloc, 1, "one")?;
+    same(rt, pop(&queue, &mut other), Ok(front));
+    same(rt, shut(&queue, &mut giver), Ok(()));
+    leaves(rt, alloc, queue, other, giver)
 }
 
 #[test]
