@@ -1,5 +1,6 @@
-//! Queues of values written plainly, beside queues of the standard library: `plain QUEUE [kept] TYPE KIND COUNT` prints how many
-//! nanoseconds the works of KIND took, each thread COUNT times. TYPE is numbers, word, or words, of which there are three.
+//! Queues of values written plainly, beside queues of the standard library and, where it is there, of crossbeam:
+//! `plain QUEUE [kept] TYPE KIND COUNT` prints how many nanoseconds the works of KIND took, each thread COUNT times. TYPE is numbers,
+//! word, or words, of which there are three.
 #![allow(dead_code)]
 #[path = "../queues/arena.rs"]
 mod arena;
@@ -62,6 +63,10 @@ fn of_type<T: Value>(queue: &str, keeps: bool, kind: &Kind, count: u64) -> u128 
             let (sender, receiver) = mpsc::sync_channel::<T>(ROOM);
             channelled(sender, receiver, kind, count)
         }
+        #[cfg(crossbeam)]
+        "crossbeam-array" => total(vec![&crossbeam_queue::ArrayQueue::<T>::new(ROOM); kind.works.len()], kind, count),
+        #[cfg(crossbeam)]
+        "crossbeam-segments" => total(vec![&crossbeam_queue::SegQueue::<T>::new(); kind.works.len()], kind, count),
         _ => panic!("a queue"),
     }
 }

@@ -1,5 +1,5 @@
 //! Values of any type through a plain queue: each lies in a slot, found by its flag from that of its node on, whose number goes
-//! through the queue of numbers; and through queues of the standard library.
+//! through the queue of numbers; and through queues of the standard library and of crossbeam.
 use crate::arena::{Algorithm, Refusal, Seat};
 use crate::seats::{End, ROOM};
 use std::cell::UnsafeCell;
@@ -169,5 +169,37 @@ impl<T: Value> End for ChannelEnd<SyncSender<T>, T> {
     #[inline(never)]
     fn pop(&mut self) -> bool {
         self.receives()
+    }
+}
+
+#[cfg(crossbeam)]
+mod crossbeam {
+    use super::{End, Value};
+    use crossbeam_queue::{ArrayQueue, SegQueue};
+    use std::hint::black_box;
+
+    impl<T: Value> End for &ArrayQueue<T> {
+        #[inline(never)]
+        fn push(&mut self, body: u64) -> bool {
+            ArrayQueue::push(self, T::made(body)).is_ok()
+        }
+
+        #[inline(never)]
+        fn pop(&mut self) -> bool {
+            black_box(ArrayQueue::pop(self)).is_some()
+        }
+    }
+
+    impl<T: Value> End for &SegQueue<T> {
+        #[inline(never)]
+        fn push(&mut self, body: u64) -> bool {
+            SegQueue::push(self, T::made(body));
+            true
+        }
+
+        #[inline(never)]
+        fn pop(&mut self) -> bool {
+            black_box(SegQueue::pop(self)).is_some()
+        }
     }
 }

@@ -180,6 +180,7 @@ impl<const B: u32> Fifo for AnyQueueOf<B> {
 
     ghost seat_prop = { λ q s. IsReady-prop (any_arena_of q) s };
 
+    #[inline(always)]
     fn try_push(&self, seat: &mut Seat, body: Body, turns: u32) -> Result<(), Refusal> {
         match self {
             AnyQueueOf::NonBlocking(queue) => queue.try_push(seat, body, turns),
@@ -187,6 +188,7 @@ impl<const B: u32> Fifo for AnyQueueOf<B> {
         }
     }
 
+    #[inline(always)]
     fn try_pop(&self, seat: &mut Seat, turns: u32) -> Result<Option<Taken>, Refusal> {
         match self {
             AnyQueueOf::NonBlocking(queue) => queue.try_pop(seat, turns),

@@ -214,10 +214,12 @@ impl Fifo for PickedQueue {
 
     ghost seat_prop = { λ q s. IsReady-prop (picked_arena_of q) s };
 
+    #[inline(always)]
     fn try_push(&self, seat: &mut Seat, body: Body, turns: u32) -> Result<(), Refusal> {
         within!(self, queue => queue.try_push(seat, body, turns))
     }
 
+    #[inline(always)]
     fn try_pop(&self, seat: &mut Seat, turns: u32) -> Result<Option<Taken>, Refusal> {
         within!(self, queue => queue.try_pop(seat, turns))
     }

@@ -2,3 +2,4 @@ pub mod Lines
 pub mod Seats
 pub mod Runs
 pub mod Lasting
+pub mod Again

@@ -3,6 +3,8 @@
 ghost use Rattle.wear.specs.Lasting.{pushes_left};
 ghost use Rattle.begun_pushes.specs.Begun.{OfRuns, EachTakesNodes, TakeNodes, TakeEffect};
 ghost use Rattle.begun_pushes.specs.Lasting.{EachLasts, EachLeftLasts};
+ghost use Rattle.begun_pushes.specs.Again.{FindsFreeUnworn, MeetsFreeUnworn, GiveBackEnds, GreatestIsTwiceAnd};
+ghost use Rattle.history.specs.declared.refusals.Refusal.TheVariants.{NoNode};
 
 /// A seat takes at most one node from the free list for each push that it begins.
 pub fn each_push_takes_at_most_one_node()
@@ -36,4 +38,16 @@ pub fn words_last_while_few_pushes_begin()
 pub fn what_is_left_are_pushes_that_may_begin()
     //= atomics/calls
     ensures { EachLeftLasts 1 }
+{}
+
+/// At an odd greatest count no push is refused for want of a node for good: Free isn't worn out then, so the next node that is
+/// given back is found.
+pub fn no_push_lacks_a_node_for_good<T>()
+    //= atomics/again (worlds, calls, given, greatest): Where in a traced world of an odd greatest count a push has cause for
+    //=   `NoNode`, Free isn't worn out; so in the one in which a refused call met that cause. After the step that gives a node
+    //=   back to the free list no push has that cause. The greatest count of each split is odd.
+    ensures worlds { FindsFreeUnworn 1 }
+    ensures calls { MeetsFreeUnworn 1 T }
+    ensures given { GiveBackEnds NoNode }
+    ensures greatest { GreatestIsTwiceAnd 1 }
 {}

@@ -3,6 +3,7 @@
 
 mod carrier;
 mod closing;
+mod looks;
 mod queue;
 
 pub use queue::ValueQueue;

@@ -34,7 +34,7 @@ use Rattle.value_queue.specs.Sound.{nil, seen_matches}
 
 module _ {A : Type 0} where
   -- as many deeds of a kind as entries of it
-  count-Matches : (p : Entry → Bool) (q : Deed A → Bool) → ((e : Entry) (d : Deed A) → Matches (e ∷ []) (d ∷ []) → q d ≡ p e) → (es : List Entry) (ds : List (Deed A)) → Matches es ds → count_by q ds ≡ count_by p es
+  pub count-Matches : (p : Entry → Bool) (q : Deed A → Bool) → ((e : Entry) (d : Deed A) → Matches (e ∷ []) (d ∷ []) → q d ≡ p e) → (es : List Entry) (ds : List (Deed A)) → Matches es ds → count_by q ds ≡ count_by p es
   count-Matches p q same [] [] m = refl
   count-Matches p q same (Push n b ∷ es) (did_push k x ∷ ds) m = one_more p q (Push n b) (did_push k x) es ds (same (Push n b) (did_push k x) (m.0, tt)) (count-Matches p q same es ds m.1)
     where
@@ -50,7 +50,7 @@ module _ {A : Type 0} where
   pushing-is (Shut n) (did_shut k) m = refl
   pushing-is e d m = absurd m
 
-  popping-is : (e : Entry) (d : Deed A) → Matches (e ∷ []) (d ∷ []) → is_popping d ≡ is_pop e
+  pub popping-is : (e : Entry) (d : Deed A) → Matches (e ∷ []) (d ∷ []) → is_popping d ≡ is_pop e
   popping-is (Push n b) (did_push k x) m = refl
   popping-is (Pop n t) (did_pop k u) m = refl
   popping-is (Shut n) (did_shut k) m = refl

@@ -44,7 +44,7 @@ module _ {A : Type 0} where
 
 module _ {T : Type 0} (r : Arena) (carries : carries_of r ≡ true) (s t : Seat T) (is : IsSeat r s) (it : IsSeat r t) where
   -- what it has then seen goes on
-  seen-more : SeesMoreDeeds s t → (between : List (Deed T)) × (seen_by t ≡ seen_by s ++ between)
+  pub seen-more : SeesMoreDeeds s t → (between : List (Deed T)) × (seen_by t ≡ seen_by s ++ between)
   seen-more more = (told (left_by [] (deeds_of s)) more.between, ap (told []) more.deeds ∙ told-append [] (deeds_of s) more.between)
 
   -- and ends with what was added

@@ -4,3 +4,4 @@ pub mod Kept
 pub mod Pushed
 pub mod Popped
 pub mod Closings
+pub mod Looked

@@ -6,3 +6,4 @@ pub mod Queues
 pub mod Pushes
 pub mod Pops
 pub mod Closing
+pub mod Looks
