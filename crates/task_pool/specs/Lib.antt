@@ -1,0 +1,3 @@
+pub mod Crews
+pub mod Parts
+pub mod Pools

@@ -1,0 +1,6 @@
+//! Tasks of several types, in threads.
+mod counting;
+mod left;
+mod memory;
+mod runs;
+mod threads;

@@ -1,0 +1,4 @@
+pub mod Tasks
+pub mod Turns
+pub mod Gathers
+pub mod Offers
