@@ -1,1 +1,3 @@
+mod Dealt
+mod Meets
 pub mod Shares

@@ -1,5 +1,5 @@
 -- Seats with their shares.
-use Rattle.std.proofs.Common.{◌≡◌, ℕ, ◌-◌, ◌≤◌, IsTrue, sym, subst, List, Option, None, Some, IsSomeAnd, slice_get}
+use Rattle.std.proofs.Common.{◌≡◌, ℕ, ◌-◌, ◌≤◌, IsTrue, refl, sym, subst, List, Option, None, Some, IsSomeAnd, slice_get}
 use Rattle.std.proofs.Math.Logic.{∥∥₁_elim}
 use mathlib.Core.HLevel.{×_prop}
 use denote.Struct.Props.{props}
@@ -9,7 +9,8 @@ use Rattle.blocking_carrier.specs.declared.queue.BlockingCarrier.{BlockingCarrie
 use Rattle.blocking_carrier.specs.Queues.{queue_of}
 use Rattle.channels.specs.declared.sender.Sender.{Sender}
 use Rattle.channels.specs.declared.receiver.Receiver.{Receiver}
-use Rattle.channels.specs.declared.sides.Side.{Side}
+use Rattle.channels.specs.declared.sides.Closer.{Closer}
+use Rattle.channels.specs.Handles.{sender_queue, receiver_queue}
 use Rattle.channels.specs.Seats.{IsGiver, IsTaker}
 
 -- whether what is there is so has at most one proof
@@ -18,13 +19,13 @@ there_prop P prop (Some x) = prop x
 there_prop P prop None = λ a b. absurd a
 
 -- that a seat may push has at most one proof
-may_push-prop : (permits : List Permit) (n : ℕ) → IsProp (MayPush permits n)
+pub may_push-prop : (permits : List Permit) (n : ℕ) → IsProp (MayPush permits n)
 may_push-prop permits n =
     let least : IsProp (1 ≤ n) = hlevel props in
     ×_prop least (there_prop (λ (p : Permit). IsTrue p.pushes) (λ p. hlevel props) (slice_get permits (n - 1)))
 
 -- and that it may pop
-may_pop-prop : (permits : List Permit) (n : ℕ) → IsProp (MayPop permits n)
+pub may_pop-prop : (permits : List Permit) (n : ℕ) → IsProp (MayPop permits n)
 may_pop-prop permits n =
     let least : IsProp (1 ≤ n) = hlevel props in
     ×_prop least (there_prop (λ (p : Permit). IsTrue p.pops) (λ p. hlevel props) (slice_get permits (n - 1)))
@@ -58,6 +59,21 @@ module _ {C A S : Type 0} {carrier : Ghosts C A S} (prop : (q : C) (s : S) → I
       ∣ subst (λ x. IsTaker carrier.is_seat carrier.permits carrier.known (queue_of x) after) e
       (here, subst (λ n. MayPop (carrier.permits (queue_of b)) n) (sym same) (receiver_in b h e).1) ∣₁
 
+  -- the seat of a sender of this queue, whichever its share, is the queue's, and may push
+  pub sender_of : (q : C) (h : Sender C A S carrier) → sender_queue h ≡ q → IsGiver carrier.is_seat carrier.permits carrier.known q h.seat
+  sender_of q h e = subst (λ x. IsGiver carrier.is_seat carrier.permits carrier.known x h.seat) e (sender_in h.queue.value h refl)
+
+  -- and that of a receiver is, and may pop
+  pub receiver_of : (q : C) (h : Receiver C A S carrier) → receiver_queue h ≡ q → IsTaker carrier.is_seat carrier.permits carrier.known q h.seat
+  receiver_of q h e = subst (λ x. IsTaker carrier.is_seat carrier.permits carrier.known x h.seat) e (receiver_in h.queue.value h refl)
+
+  -- and a sender's is so after a call of this queue that leaves it there, with its number
+  pub sender_after : (q : C) (h : Sender C A S carrier) → sender_queue h ≡ q → (after : S) → carrier.is_seat q after → (carrier.known after).number ≡ (carrier.known h.seat).number
+      → ∥ IsGiver carrier.is_seat carrier.permits carrier.known (queue_of h.queue.value) after ∥₁
+  sender_after q h e after here same =
+      ∣ subst (λ x. IsGiver carrier.is_seat carrier.permits carrier.known x after) (sym e)
+      (here, subst (λ n. MayPush (carrier.permits q) n) (sym same) (sender_of q h e).1) ∣₁
+
   -- the seat that shuts a side of this queue is the queue's
-  pub shuts_in : (b : BlockingCarrier C) (s : Side C A S carrier) → b ≡ s.queue.value → carrier.is_seat (queue_of b) s.seat
+  pub shuts_in : (b : BlockingCarrier C) (s : Closer C A S carrier) → b ≡ s.queue.value → carrier.is_seat (queue_of b) s.seat
   shuts_in b s e = subst (λ x. carrier.is_seat (queue_of x) s.seat) (sym e) (∥∥₁_elim s.sits (prop (queue_of s.queue.value) s.seat) (λ x. x))

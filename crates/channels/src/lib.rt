@@ -2,6 +2,7 @@
 #![tactic(auto)]
 
 mod dealing;
+mod meeting;
 mod receiver;
 mod receiving;
 mod sender;

@@ -1,5 +1,6 @@
 //! The side of a channel that receives.
 ghost use Rattle.std.specs.Prelude.{◌≡◌, ◌<◌};
+ghost use Rattle.carriers.specs.Knowledge.{IsSoundOf};
 ghost use Rattle.blocking_carrier.specs.Queues.{queue_of};
 ghost use Rattle.channels.specs.Seats.{IsTaker};
 
@@ -40,4 +41,33 @@ impl<C: Carrier + Drop> Receiver<C> {
     {
         Arc::strong_count(&self.side)
     }
+    /// The seat, which is no receiver's from now on: where it was the last one's, nobody shuts the queue. Takes no memory and
+    /// doesn't wait.
+    ///
+    /// ```rust
+    /// let seat = receiver.into_seat();
+    /// ```
+    pub fn into_seat(self) -> C::Seat
+        //= carriers/channel_seats (seat, may): A sender, or a receiver, gives its seat back, as it is; that is the queue's, and
+        //=   may do what it might.
+        ensures seat { result ≡ receiver_seat self }
+        ensures may { IsTaker C.is_seat C.permits C.known (receiver_queue self) result }
+    {
+        let Receiver {
+            queue: _,
+            side,
+            seat,
+        } = self;
+        if let Some(side) = Arc::into_inner(side) {
+            side.leave();
+        }
+        seat
+    }
+
+    /// What its seat knows is sound. Does nothing: it is there for its clause.
+    pub fn is_sound(&self)
+        //= carriers/channel_sound: What the seat of a sender knows is sound, and what that of a receiver knows; so the laws of
+        //=   what seats have seen hold of these.
+        ensures { IsSoundOf (C.permits (receiver_queue self.now)) (C.known (receiver_seat self.now)) }
+    {}
 }

@@ -3,6 +3,7 @@ ghost use Rattle.std.specs.Prelude.{◌≡◌, IfErr, IfOk};
 ghost use Rattle.history.specs.Answers.{StopsPop, EndsPop};
 ghost use Rattle.carriers.specs.Answers.{PopAnswersOf, PopRefusedOf};
 ghost use Rattle.blocking_carrier.specs.Answers.{ReceivedOf, RecvRefusedOf, RecvAnswersOf, EndsAfterWaitOf};
+ghost use Rattle.channels.specs.Ends.{AnswersToEndOf, IsWornOut, IfEndOf};
 
 use crate::TURNS;
 use crate::receiver::Receiver;
@@ -40,6 +41,34 @@ impl<C: Carrier + Drop> Receiver<C> {
             (receiver_queue self.old) (receiver_seat self.old) (receiver_seat self.new) 8) }
     {
         self.queue.recv(rt, &mut self.seat)
+    }
+
+    /// The value at the front, for which it sleeps; none once the queue is shut and empty.
+    ///
+    /// Refusals: `WornOut`. Takes no memory, and waits.
+    ///
+    /// ```rust
+    /// while let Some(item) = receiver.recv_or_end(rt)? {
+    ///     read(item.from, item.value);
+    /// }
+    /// ```
+    pub fn recv_or_end<R: Wait>(&mut self, rt: &R) -> Result<Option<ItemOf<C::Item>>, Refusal>
+        //= carriers/channel_to_the_end (queue, number, next, refusal, caused): A `recv_or_end` answers as `recv`, but none where
+        //=   that is refused `Closed`, with the same cause.
+        ensures queue { receiver_queue self.new ≡ receiver_queue self.old }
+        ensures number { (C.known (receiver_seat self.new)).number
+            ≡ (C.known (receiver_seat self.old)).number }
+        ensures next { AnswersToEndOf (C.known (receiver_seat self.old)) result
+            (C.known (receiver_seat self.new)) }
+        ensures refusal { IfErr result IsWornOut }
+        ensures caused { IfEndOf result (EndsAfterWaitOf C.is_seat C.known C.pop_cause
+            (receiver_queue self.old) (receiver_seat self.old) (receiver_seat self.new) 8) }
+    {
+        match self.recv(rt) {
+            Ok(item) => Ok(Some(item)),
+            Err(Refusal::Closed) => Ok(None),
+            Err(refusal) => Err(refusal),
+        }
     }
 
     /// Receives the value at the front, and sleeps while there is none, for this time at most; then it looks once more.

@@ -1,5 +1,6 @@
 //! The side of a channel that sends.
 ghost use Rattle.std.specs.Prelude.{◌≡◌, ◌<◌};
+ghost use Rattle.carriers.specs.Knowledge.{IsSoundOf};
 ghost use Rattle.blocking_carrier.specs.Queues.{queue_of};
 ghost use Rattle.channels.specs.Seats.{IsGiver};
 
@@ -40,4 +41,31 @@ impl<C: Carrier + Drop> Sender<C> {
     {
         Arc::strong_count(&self.side)
     }
+    /// The seat, which is no sender's from now on: where it was the last one's, nobody shuts the queue. Takes no memory and
+    /// doesn't wait.
+    ///
+    /// ```rust
+    /// let seat = sender.into_seat();
+    /// ```
+    pub fn into_seat(self) -> C::Seat
+        //= carriers/channel_seats (seat, may)
+        ensures seat { result ≡ sender_seat self }
+        ensures may { IsGiver C.is_seat C.permits C.known (sender_queue self) result }
+    {
+        let Sender {
+            queue: _,
+            side,
+            seat,
+        } = self;
+        if let Some(side) = Arc::into_inner(side) {
+            side.leave();
+        }
+        seat
+    }
+
+    /// What its seat knows is sound. Does nothing: it is there for its clause.
+    pub fn is_sound(&self)
+        //= carriers/channel_sound
+        ensures { IsSoundOf (C.permits (sender_queue self.now)) (C.known (sender_seat self.now)) }
+    {}
 }

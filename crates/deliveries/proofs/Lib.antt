@@ -1,2 +1,4 @@
+pub mod Alone
 pub mod Deliveries
 pub mod Places
+pub mod Together

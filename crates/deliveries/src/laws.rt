@@ -1,17 +1,20 @@
 //! Laws of givers and takers, each the contract of a function that does nothing.
-ghost use Rattle.std.specs.Prelude.{◌≡◌, ◌++◌, ◌∷◌, ◌<◌, ◌≤◌, ℕ, Bool, List, Some, slice_get};
-ghost use Rattle.std.specs.List.{All, count_by};
-ghost use mathlib.Core.List.{Sublist};
+ghost use Rattle.std.specs.Prelude.{◌≡◌, ◌++◌, ◌∷◌, ◌<◌, ◌≤◌, ℕ, Bool, IsTrue, nat_eq, List, map, Some, slice_get};
+ghost use Rattle.std.specs.List.{All, IsDistinct, count_by};
+ghost use Rattle.std.specs.List.Sorted.{IsPermutation};
+ghost use mathlib.Core.List.{Sublist, IsPrefix};
 ghost use Rattle.history.specs.Seats.{Permit};
+ghost use Rattle.history.specs.Values.{OnlyPops};
 ghost use Rattle.carriers.specs.declared.items.ItemOf.{ItemOf};
 ghost use Rattle.carriers.specs.declared.rests.RestOf.{RestOf};
 ghost use Rattle.carriers.specs.Deeds.{Deed, did_pop, own_deeds, is_popping, RunsTo, IsRun};
 ghost use Rattle.carriers.specs.Values.{values_pushed, values_popped};
-ghost use Rattle.carriers.specs.Knowledge.{KnownOf};
-ghost use Rattle.carriers.specs.Rests.{left_in};
+ghost use Rattle.carriers.specs.Knowledge.{KnownOf, IsSoundOf};
+ghost use Rattle.carriers.specs.Rests.{left_in, whole_in};
 ghost use Rattle.carriers.specs.Closing.{ClosesOf};
 ghost use Rattle.deliveries.specs.Deliveries.{sent, taken_of, values_of};
 ghost use Rattle.deliveries.specs.Ends.{DeliversOf};
+ghost use Rattle.deliveries.specs.Together.{pushed_by, popped_by};
 
 use carriers::Carrier;
 
@@ -42,6 +45,16 @@ pub fn no_push_is_popped_twice<A>()
         → count_by kind (values_popped ds) ≤ count_by kind (values_pushed ds) }
 {}
 
+/// Where one seat alone may pop, what it took of each giver is a beginning of what it has seen that giver push, in order, each
+/// once.
+pub fn a_lone_taker_gets_a_beginning<A>()
+    //= carriers/in_order_alone: Where one seat alone may pop, what it popped of each giver is a beginning of what it has seen
+    //=   that giver push, in order, each once.
+    ensures { (permits : List Permit) (taker : KnownOf A) → IsSoundOf permits taker
+        → OnlyPops permits taker.number → (giver : ℕ)
+        → IsPrefix (taken_of giver taker.mine) (sent (own_deeds giver taker.seen)) }
+{}
+
 /// Two seats of one queue that have seen the same, as two that met: what the one popped of the other is, in order, a
 /// subsequence of what that one pushed.
 pub fn seats_that_met_get_in_order<C: Carrier>()
@@ -60,4 +73,15 @@ pub fn closed_queues_delivered_in_order<A>()
     //=   left of it, in order; and what each seat handed in took of it is a subsequence of what all took.
     ensures { (permits : List Permit) (seats : List (KnownOf A)) (rest : RestOf A)
         → ClosesOf permits seats rest → All (λ giver. DeliversOf giver seats (left_in rest)) seats }
+{}
+
+/// A queue that was closed by all seats that did anything, each with a number of its own: each value that they pushed was
+/// popped by one of them, or is left, once.
+pub fn closed_queues_delivered_once<A>()
+    //= carriers/delivered_once: Of a closed queue of which the seats handed in made all deeds: the values that they pushed are
+    //=   those that they popped, each seat's together, and those that are left, in some order; so each of them once.
+    ensures { (permits : List Permit) (seats : List (KnownOf A)) (rest : RestOf A)
+        → ClosesOf permits seats rest → IsTrue (whole_in rest)
+        → IsDistinct nat_eq (map (λ seat. seat.number) seats)
+        → IsPermutation (pushed_by seats) (popped_by seats ++ left_in rest) }
 {}

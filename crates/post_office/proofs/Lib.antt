@@ -1,0 +1,3 @@
+mod Dealing
+mod Ends
+mod Shares

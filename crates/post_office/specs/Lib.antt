@@ -1,0 +1,4 @@
+pub mod Desks
+pub mod Offices
+pub mod Roles
+pub mod Unended

@@ -1,0 +1,5 @@
+//! Tests of offices of letters.
+#![tactic(auto)]
+
+#[cfg(test)]
+mod tests;

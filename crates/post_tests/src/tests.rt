@@ -1,0 +1,4 @@
+mod closing;
+mod common;
+mod ends;
+mod threads;
