@@ -54,12 +54,17 @@ pub(super) fn calls(alloc: Global, many: u64) -> Result<Calls, AllocError> {
     Ok(Arc::new(alloc, counts)?)
 }
 
+/// The task of this number, which counts here.
+pub(super) fn task_of(number: u64, calls: &Calls) -> Result<Counting, AllocError> {
+    let calls = Arc::try_clone(calls)?;
+    Ok(Counting { number, calls })
+}
+
 /// So many tasks, of which each counts here.
 pub(super) fn tasks(alloc: Global, many: u64, calls: &Calls) -> Result<Vec<Counting>, AllocError> {
     let mut tasks = Vec::new(alloc);
     for number in 0..many {
-        let calls = Arc::try_clone(calls)?;
-        tasks.push(Counting { number, calls })?;
+        tasks.push(task_of(number, calls)?)?;
     }
     Ok(tasks)
 }

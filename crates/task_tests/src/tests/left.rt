@@ -1,6 +1,7 @@
 //! Queues that are too small for the tasks, and queues that wear out: what is run by the submitter, and what is left.
 use super::counting::{Counting, Third, calls, others, same, tasks, wanted};
 use arena_queue::Algorithm;
+use blocking_carrier::BlockingCarrier;
 use executor::pool_queue;
 use history::Refusal;
 use mock_carriers::FullCarrier;
@@ -143,7 +144,7 @@ fn a_stopped_worker_ends(rt: HostRuntime) -> Result<(), Fail> {
     let (queue, seat) = FullCarrier::<Numbered<Counting>>::new();
     let stop = Stop::new();
     stop.tell();
-    let worked = work(&rt, rt.alloc(), &queue, seat, &stop);
+    let worked = work(&rt, rt.alloc(), &BlockingCarrier::new(queue), seat, &stop);
     let found = (worked.done.len(), worked.end);
     same(&rt, found, (0, End::Stopped), "nothing to do");
     Ok(())

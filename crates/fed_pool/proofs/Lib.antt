@@ -1,0 +1,14 @@
+mod Permuting
+mod Deeds
+mod Zipping
+mod Rounds
+mod Handing
+mod Going
+mod Together
+mod Lines
+mod Telling
+mod Posts
+mod Seats
+mod Ending
+mod Closing
+mod Starting

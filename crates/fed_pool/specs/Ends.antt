@@ -1,0 +1,29 @@
+-- A pool whose workers have ended, with its queues.
+use Rattle.std.specs.Prelude.{◌≡◌, List, [], ◌∷◌, ◌++◌, map}
+use Rattle.std.specs.List.{AllZip}
+use Rattle.history.specs.Seats.{Permit}
+use Rattle.carriers.specs.Knowledge.{KnownOf}
+use Rattle.tasks.specs.declared.answers.Done.{Done}
+use Rattle.tasks.specs.declared.runs.Numbered.{Numbered}
+use Rattle.fed_pool.specs.declared.serving.Post.{Post}
+use Rattle.fed_pool.specs.declared.leading.Leader.{Leader}
+use Rattle.fed_pool.specs.declared.crews.Crew.{Crew}
+use Rattle.fed_pool.specs.Serving.{IsServed}
+use Rattle.fed_pool.specs.Leading.{HasEnded}
+use Rattle.fed_pool.specs.Pools.{IsLineOf, takes, gives}
+
+module _ {Q S V U T A F : Type 0} (is_seat : Q → S → Type 0) (permits : Q → List Permit) (known : S → KnownOf (Numbered T))
+    (is_seat' : V → U → Type 0) (permits' : V → List Permit) (known' : U → KnownOf (Done A))
+    (answers : T → A → Type 0) (stands : F → List T → List (Done A) → Type 0) where
+  -- all seats of two new queues were those of who handed out the tasks and of the workers, and these have ended
+  pub record AllEnded (queue : Q) (results : V) (crew : Crew S U F A) : Type 0 where
+    pub seats : List S
+    pub seats' : List U
+    pub line : IsLineOf is_seat permits known queue seats
+    pub line' : IsLineOf is_seat' permits' known' results seats'
+    pub posts : List (Post S U)
+    pub leader : Leader S U F
+    pub split : seats ≡ map takes posts ++ leader.tasks ∷ []
+    pub split' : seats' ≡ map gives posts ++ leader.results ∷ []
+    pub led : HasEnded is_seat permits known is_seat' permits' known' answers stands queue results leader crew.led
+    pub back : AllZip (IsServed is_seat permits known is_seat' permits' known' answers queue results) posts crew.workers.items

@@ -1,0 +1,53 @@
+-- What a worker of a fed pool did.
+use Rattle.std.specs.Prelude.{◌≡◌, List, [], ◌∷◌, ◌++◌, map, Option, Some, None, Result, Ok, Err}
+use Rattle.history.specs.Seats.{Permit, MayPush, MayPop}
+use Rattle.carriers.specs.declared.items.ItemOf.{ItemOf}
+use Rattle.carriers.specs.Deeds.{did_push, did_pop}
+use Rattle.carriers.specs.Knowledge.{KnownOf}
+use Rattle.carriers.specs.Answers.{PushedOf}
+use Rattle.tasks.specs.declared.answers.Done.{Done}
+use Rattle.tasks.specs.declared.runs.Numbered.{Numbered}
+use Rattle.tasks.specs.declared.turns.End.{End}
+use Rattle.tasks.specs.Turns.{AreDone}
+use Rattle.fed_pool.specs.declared.serving.Post.{Post}
+use Rattle.fed_pool.specs.declared.serving.Served.{Served}
+use Rattle.fed_pool.specs.declared.serving.Unsendable.{Unsendable}
+
+-- a result was sent; or it comes back, and nothing was pushed
+abbrev pub Sends : {A : Type 0} → (k k' : KnownOf (Done A)) → Done A → Result (Unit {0}) (Unsendable A) → Type 0
+Sends k k' done (Ok sent) = PushedOf k done k'
+Sends k k' done (Err unsendable) = (unsendable.done ≡ done) × (k'.mine ≡ k.mine)
+
+-- a result that wasn't sent, as a list
+abbrev pub unsent_in : {A : Type 0} → Option (Done A) → List (Done A)
+unsent_in None = []
+unsent_in (Some d) = d ∷ []
+
+-- a seat popped tasks, and another one pushed the result of each, in this order; but the last one, where that was refused
+pub record ServesSo {T A : Type 0} (answers : T → A → Type 0) (k k' : KnownOf (Numbered T)) (o o' : KnownOf (Done A)) (unsent : Option (Done A)) : Type 0 where
+  pub items : List (ItemOf (Numbered T))
+  pub popped : k'.mine ≡ k.mine ++ map (did_pop k.number) items
+  pub sent : List (Done A)
+  pub pushed : o'.mine ≡ o.mine ++ map (did_push o.number) sent
+  pub done : AreDone answers items (sent ++ unsent_in unsent)
+
+-- a task was popped, and its result pushed, or brought back; or none was popped
+abbrev pub ServesOne : {S U T A : Type 0} → (S → KnownOf (Numbered T)) → (U → KnownOf (Done A)) → (answers : T → A → Type 0) → (p p' : Post S U) → Result (Unit {0}) (Option (Done A) × End) → Type 0
+ServesOne known known' answers p p' (Ok served) = ServesSo answers (known p.taker) (known p'.taker) (known' p.giver) (known' p'.giver) None
+ServesOne known known' answers p p' (Err (unsent, end)) = ServesSo answers (known p.taker) (known p'.taker) (known' p.giver) (known' p'.giver) unsent
+
+module _ {Q S V U T A : Type 0} (is_seat : Q → S → Type 0) (permits : Q → List Permit) (known : S → KnownOf (Numbered T))
+    (is_seat' : V → U → Type 0) (permits' : V → List Permit) (known' : U → KnownOf (Done A)) where
+  -- the two seats of a worker are in no call; the one may pop tasks, the other one push results
+  pub record IsPost (queue : Q) (results : V) (p : Post S U) : Type 0 where
+    pub taker : is_seat queue p.taker
+    pub may_take : MayPop (permits queue) (known p.taker).number
+    pub giver : is_seat' results p.giver
+    pub may_give : MayPush (permits' results) (known' p.giver).number
+
+  -- a worker brought back its seats, and what it did
+  pub record IsServed (answers : T → A → Type 0) (queue : Q) (results : V) (was : Post S U) (w : Served S U A) : Type 0 where
+    pub post : IsPost queue results w.post
+    pub taker_number : (known w.post.taker).number ≡ (known was.taker).number
+    pub giver_number : (known' w.post.giver).number ≡ (known' was.giver).number
+    pub served : ServesSo answers (known was.taker) (known w.post.taker) (known' was.giver) (known' w.post.giver) w.unsent

@@ -1,0 +1,269 @@
+//! What is done in the caller's thread: tasks are handed out, and results told.
+ghost use Rattle.std.specs.Prelude.{◌≡◌, ◌⊎◌, ◌<◌, IsTrue, IfOk, None};
+ghost use Rattle.history.specs.Seats.{MayPush};
+ghost use Rattle.blocking_carrier.specs.Queues.{queue_of};
+ghost use Rattle.tasks.specs.Offers.{EndsShutBy};
+ghost use Rattle.fed_pool.specs.Leading.{IsLeading, GoesOn, HasEnded};
+
+use crate::feeds::Feed;
+use blocking_carrier::BlockingCarrier;
+use carriers::{Carrier, Unpushed};
+use history::Refusal;
+use std::sync::Wait;
+use tasks::{Done, Numbered, Stop, Task};
+
+/// Who hands out the tasks: its seats of both queues, the feed, how many tasks were given, and of how many tasks that were
+/// handed out the result wasn't told yet.
+#[derive(Drop)]
+pub(crate) struct Leader<S, U, F> {
+    pub(crate) tasks: S,
+    pub(crate) results: U,
+    pub(crate) feed: F,
+    pub(crate) given: usize,
+    pub(crate) awaited: usize,
+}
+
+/// What who handed out the tasks brings back: why it ended before all was told, and why the queue of tasks couldn't be shut.
+#[derive(Drop)]
+pub(crate) struct Led<S, U, F> {
+    pub(crate) leader: Leader<S, U, F>,
+    pub(crate) refused: Option<Refusal>,
+    pub(crate) unshut: Option<Refusal>,
+}
+
+// Tells a result that has come; false where none has.
+fn take_result<
+    R: Wait,
+    T: Task,
+    F: Feed<T>,
+    C: Carrier<Item = Numbered<T>>,
+    D: Carrier<Item = Done<Result<T::Output, T::Error>>>,
+>(
+    rt: &R,
+    tasks: &BlockingCarrier<C>,
+    results: &BlockingCarrier<D>,
+    leader: &mut Leader<C::Seat, D::Seat, F>,
+) -> Result<bool, Refusal>
+    requires { IsLeading C.is_seat C.permits C.known D.is_seat D.permits D.known T.answers F.stands
+        (queue_of tasks.now) (queue_of results.now) leader.old }
+    ensures { GoesOn C.is_seat C.permits C.known D.is_seat D.permits D.known T.answers F.stands
+        (queue_of tasks.now) (queue_of results.now) leader.old leader.new }
+{
+    let Some(awaited) = leader.awaited.checked_sub(1) else {
+        return Ok(false);
+    };
+    match results.pop(rt, &mut leader.results)? {
+        Some(front) => {
+            leader.awaited = awaited;
+            leader.feed.tell(front.value);
+            Ok(true)
+        }
+        None => Ok(false),
+    }
+}
+
+// Hands out the next task; false where there is none now. One that can't be pushed is run here.
+fn hand_out<
+    R: Wait,
+    T: Task,
+    F: Feed<T>,
+    C: Carrier<Item = Numbered<T>>,
+    D: Carrier<Item = Done<Result<T::Output, T::Error>>>,
+>(
+    rt: &R,
+    tasks: &BlockingCarrier<C>,
+    results: &BlockingCarrier<D>,
+    leader: &mut Leader<C::Seat, D::Seat, F>,
+) -> bool
+    requires { IsLeading C.is_seat C.permits C.known D.is_seat D.permits D.known T.answers F.stands
+        (queue_of tasks.now) (queue_of results.now) leader.old }
+    ensures { GoesOn C.is_seat C.permits C.known D.is_seat D.permits D.known T.answers F.stands
+        (queue_of tasks.now) (queue_of results.now) leader.old leader.new }
+{
+    let number = leader.given;
+    if number == usize::MAX {
+        return false;
+    }
+    let Some(task) = leader.feed.next() else {
+        return false;
+    };
+    leader.given += 1;
+    match tasks.push(rt, &mut leader.tasks, Numbered { number, task }) {
+        Ok(()) => leader.awaited += 1,
+        Err(Unpushed { refusal: _, value }) => leader.feed.tell(value.run()),
+    }
+    true
+}
+
+// Runs a task here that no worker took yet; false where there is none.
+fn help<
+    R: Wait,
+    T: Task,
+    F: Feed<T>,
+    C: Carrier<Item = Numbered<T>>,
+    D: Carrier<Item = Done<Result<T::Output, T::Error>>>,
+>(
+    rt: &R,
+    tasks: &BlockingCarrier<C>,
+    results: &BlockingCarrier<D>,
+    leader: &mut Leader<C::Seat, D::Seat, F>,
+) -> Result<bool, Refusal>
+    requires leading { IsLeading C.is_seat C.permits C.known D.is_seat D.permits D.known T.answers
+        F.stands (queue_of tasks.now) (queue_of results.now) leader.old }
+    requires awaited { 0 < leader.old.awaited }
+    ensures leading { GoesOn C.is_seat C.permits C.known D.is_seat D.permits D.known T.answers
+        F.stands (queue_of tasks.now) (queue_of results.now) leader.old leader.new }
+    ensures same { IfOk result (λ ran. IsTrue ran ⊎ (leader.new.awaited ≡ leader.old.awaited)) }
+{
+    match tasks.pop(rt, &mut leader.tasks)? {
+        Some(front) => {
+            leader.awaited -= 1;
+            leader.feed.tell(front.value.run());
+            Ok(true)
+        }
+        None => Ok(false),
+    }
+}
+
+// Tells the next result, and sleeps until it comes.
+fn wait_for<
+    R: Wait,
+    T: Task,
+    F: Feed<T>,
+    C: Carrier<Item = Numbered<T>>,
+    D: Carrier<Item = Done<Result<T::Output, T::Error>>>,
+>(
+    rt: &R,
+    tasks: &BlockingCarrier<C>,
+    results: &BlockingCarrier<D>,
+    leader: &mut Leader<C::Seat, D::Seat, F>,
+) -> Result<(), Refusal>
+    requires leading { IsLeading C.is_seat C.permits C.known D.is_seat D.permits D.known T.answers
+        F.stands (queue_of tasks.now) (queue_of results.now) leader.old }
+    requires awaited { 0 < leader.old.awaited }
+    ensures { GoesOn C.is_seat C.permits C.known D.is_seat D.permits D.known T.answers F.stands
+        (queue_of tasks.now) (queue_of results.now) leader.old leader.new }
+{
+    let front = results.recv(rt, &mut leader.results)?;
+    leader.awaited -= 1;
+    leader.feed.tell(front.value);
+    Ok(())
+}
+
+// Tells a result, hands out a task, runs one, or sleeps until a result comes; false where all is told and no task is given.
+fn turn<
+    R: Wait,
+    T: Task,
+    F: Feed<T>,
+    C: Carrier<Item = Numbered<T>>,
+    D: Carrier<Item = Done<Result<T::Output, T::Error>>>,
+>(
+    rt: &R,
+    tasks: &BlockingCarrier<C>,
+    results: &BlockingCarrier<D>,
+    leader: &mut Leader<C::Seat, D::Seat, F>,
+) -> Result<bool, Refusal>
+    requires { IsLeading C.is_seat C.permits C.known D.is_seat D.permits D.known T.answers F.stands
+        (queue_of tasks.now) (queue_of results.now) leader.old }
+    ensures leading { GoesOn C.is_seat C.permits C.known D.is_seat D.permits D.known T.answers
+        F.stands (queue_of tasks.now) (queue_of results.now) leader.old leader.new }
+    ensures ended { IfOk result (λ more. IsTrue more ⊎ (leader.new.awaited ≡ 0)) }
+{
+    if take_result(rt, tasks, results, leader)? || hand_out(rt, tasks, results, leader) {
+        return Ok(true);
+    }
+    if leader.awaited == 0 {
+        return Ok(false);
+    }
+    if !help(rt, tasks, results, leader)? {
+        wait_for(rt, tasks, results, leader)?;
+    }
+    Ok(true)
+}
+
+// Goes on until all is told and no task is given; why it ended before.
+fn lead_on<
+    R: Wait,
+    T: Task,
+    F: Feed<T>,
+    C: Carrier<Item = Numbered<T>>,
+    D: Carrier<Item = Done<Result<T::Output, T::Error>>>,
+>(
+    rt: &R,
+    tasks: &BlockingCarrier<C>,
+    results: &BlockingCarrier<D>,
+    leader: &mut Leader<C::Seat, D::Seat, F>,
+) -> Option<Refusal>
+    requires { IsLeading C.is_seat C.permits C.known D.is_seat D.permits D.known T.answers F.stands
+        (queue_of tasks.now) (queue_of results.now) leader.old }
+    ensures leading { GoesOn C.is_seat C.permits C.known D.is_seat D.permits D.known T.answers
+        F.stands (queue_of tasks.now) (queue_of results.now) leader.old leader.new }
+    ensures ended { result ≡ None → leader.new.awaited ≡ 0 }
+{
+    for _ in rt.forever() {
+        match turn(rt, tasks, results, leader) {
+            Ok(true) => {}
+            Ok(false) => return None,
+            Err(refusal) => return Some(refusal),
+        }
+    }
+    unreachable!()
+}
+
+// Shuts the queue of tasks, which wakes the workers that sleep; where it can't be shut, tells them to stop, and tells why.
+fn shut_or_stop<R: Wait, C: Carrier>(
+    rt: &R,
+    queue: &BlockingCarrier<C>,
+    seat: &mut C::Seat,
+    stop: &Stop,
+) -> Option<Refusal>
+    requires seat { C.is_seat (queue_of queue.now) seat.old }
+    requires role { MayPush (C.permits (queue_of queue.now)) (C.known seat.old).number }
+    ensures seat { C.is_seat (queue_of queue.now) seat.new }
+    ensures number { (C.known seat.new).number ≡ (C.known seat.old).number }
+    ensures shut { EndsShutBy (C.known seat.old) (C.known seat.new) result }
+{
+    match queue.shut(rt, seat) {
+        Ok(()) | Err(Refusal::Closed) => None,
+        Err(refusal) => {
+            stop.tell();
+            queue.wake_all();
+            Some(refusal)
+        }
+    }
+}
+
+/// Hands out tasks and tells results until all is told and no task is given, and then shuts the queue of tasks. Where a call is
+/// refused before, or the queue can't be shut, workers are told to stop.
+pub(crate) fn lead<
+    R: Wait,
+    T: Task,
+    F: Feed<T>,
+    C: Carrier<Item = Numbered<T>>,
+    D: Carrier<Item = Done<Result<T::Output, T::Error>>>,
+>(
+    rt: &R,
+    tasks: &BlockingCarrier<C>,
+    results: &BlockingCarrier<D>,
+    mut leader: Leader<C::Seat, D::Seat, F>,
+    stop: &Stop,
+) -> Led<C::Seat, D::Seat, F>
+    requires { IsLeading C.is_seat C.permits C.known D.is_seat D.permits D.known T.answers F.stands
+        (queue_of tasks.now) (queue_of results.now) leader }
+    //= tasks/led_on: Who hands out the tasks pushes each that it is given under its own number, or runs it, and tells each
+    //=   result that comes; then it shuts the queue of tasks, or finds it shut, or tells why it couldn't.
+    ensures { HasEnded C.is_seat C.permits C.known D.is_seat D.permits D.known T.answers F.stands
+        (queue_of tasks.now) (queue_of results.now) leader result }
+{
+    let refused = lead_on(rt, tasks, results, &mut leader);
+    if refused.is_some() {
+        stop.tell();
+        results.wake_all();
+    }
+    let unshut = shut_or_stop(rt, tasks, &mut leader.tasks, stop);
+    Led {
+        leader,
+        refused,
+        unshut,
+    }
+}

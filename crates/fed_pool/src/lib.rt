@@ -1,0 +1,13 @@
+//! A pool of workers that stands as long as it is fed: tasks are asked for one by one, and each result is told as it comes.
+#![tactic(auto)]
+
+mod crews;
+mod feeds;
+mod leading;
+mod making;
+mod pools;
+mod serving;
+
+pub use feeds::Feed;
+pub use making::{Unstarted, line, run_feed};
+pub use pools::{Fed, Line, Unfed, run_fed};

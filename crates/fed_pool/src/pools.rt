@@ -1,0 +1,341 @@
+//! A pool that is fed: the tasks that it is given are run by its workers, and each result is told.
+ghost use Rattle.std.specs.Prelude.{◌≡◌, ◌+◌, ◌++◌, ◌≤◌, ℕ, [], List, Result, length, map, None, vec_capacity, IfOk, IfErr};
+ghost use Rattle.carriers.specs.Rests.{left_in};
+ghost use Rattle.tasks.specs.declared.answers.Done.{Done};
+ghost use Rattle.fed_pool.specs.Answered.{value_in};
+ghost use Rattle.fed_pool.specs.Ends.{AllEnded};
+ghost use Rattle.fed_pool.specs.Pools.{IsLineOf, IsLine, HasFed, HasRoom, IsNew, IsSpace, taker_in, giver_in, result_in, end_in, unsent_of, takes, gives};
+
+use crate::crews::{Crew, Team, run_crew};
+use crate::feeds::Feed;
+use crate::leading::{Leader, Led};
+use crate::serving::{Post, Served};
+use blocking_carrier::BlockingCarrier;
+use carriers::{CloseCarrier, RestOf};
+use history::Refusal;
+use std::alloc::Global;
+use std::sync::Wait;
+use std::thread::Threads;
+use tasks::{Done, End, Numbered, Stop, Task};
+
+/// A queue and all of its seats.
+#[derive(Drop)]
+pub struct Line<C, S> {
+    pub queue: C,
+    pub seats: Vec<S>,
+}
+
+/// The feed; the tasks that it gave and that weren't run; how each worker ended; why results were no longer taken before each
+/// was told, and why the queue of tasks couldn't be shut.
+#[derive(Drop)]
+pub struct Fed<F, T> {
+    pub feed: F,
+    pub left: RestOf<Numbered<T>>,
+    pub ends: Vec<End>,
+    pub refused: Option<Refusal>,
+    pub unshut: Option<Refusal>,
+}
+
+/// A feed that wasn't asked for anything, for want of memory, with the queues and their seats.
+pub struct Unfed<F, C, S, D, U> {
+    pub feed: F,
+    pub tasks: Line<C, S>,
+    pub results: Line<D, U>,
+}
+
+// What workers brought back, each part by itself.
+#[derive(Drop)]
+struct Parts<S, U, A> {
+    takers: Vec<S>,
+    givers: Vec<U>,
+    unsent: Vec<Option<Done<A>>>,
+    ends: Vec<End>,
+}
+
+// Room for the posts of the workers, and for what these bring back.
+#[derive(Drop)]
+struct Space<S, U, A> {
+    posts: Vec<Post<S, U>>,
+    workers: Vec<Served<S, U, A>>,
+    parts: Parts<S, U, A>,
+}
+
+// Room for what so many workers bring back.
+fn parts_for<S: Drop, U: Drop, A: Drop>(
+    alloc: Global,
+    workers: usize,
+) -> Result<Parts<S, U, A>, Refusal>
+    ensures { IfOk result (IsNew workers) }
+{
+    let mut takers = Vec::new(alloc);
+    let mut givers = Vec::new(alloc);
+    let mut unsent = Vec::new(alloc);
+    let mut ends = Vec::new(alloc);
+    let short = takers.reserve(workers).is_err()
+        || givers.reserve(workers).is_err()
+        || unsent.reserve(workers).is_err()
+        || ends.reserve(workers).is_err();
+    if short {
+        return Err(Refusal::Memory);
+    }
+    Ok(Parts {
+        takers,
+        givers,
+        unsent,
+        ends,
+    })
+}
+
+// Room for so many workers.
+fn space_for<S: Drop, U: Drop, A: Drop>(
+    alloc: Global,
+    workers: usize,
+) -> Result<Space<S, U, A>, Refusal>
+    ensures { IfOk result (IsSpace workers) }
+{
+    let parts = parts_for(alloc, workers)?;
+    let mut posts = Vec::new(alloc);
+    let mut served = Vec::new(alloc);
+    if posts.reserve(workers).is_err() || served.reserve(workers).is_err() {
+        return Err(Refusal::Memory);
+    }
+    Ok(Space {
+        posts,
+        workers: served,
+        parts,
+    })
+}
+
+// A post of each two of these seats, in their order.
+fn posts_of<S: Drop, U: Drop>(
+    takers: Vec<S>,
+    givers: Vec<U>,
+    mut posts: Vec<Post<S, U>>,
+) -> Vec<Post<S, U>>
+    requires same { length takers.items ≡ length givers.items }
+    requires none { posts.items ≡ [] }
+    requires room { length takers.items ≤ vec_capacity posts }
+    ensures takers { map takes result.items ≡ takers.items }
+    ensures givers { map gives result.items ≡ givers.items }
+{
+    let mut givers = givers.into_iter();
+    for taker in takers {
+        let Some(giver) = givers.next() else {
+            unreachable!()
+        };
+        posts.push_reserved(Post { taker, giver });
+    }
+    posts
+}
+
+// Puts what these workers brought back behind the rest, each part by itself.
+fn part<S: Drop, U: Drop, A: Drop>(workers: Vec<Served<S, U, A>>, parts: &mut Parts<S, U, A>)
+    requires { HasRoom (length workers.items) parts.old }
+    ensures takers { parts.new.takers.items ≡ parts.old.takers.items ++ map taker_in workers.items }
+    ensures givers { parts.new.givers.items ≡ parts.old.givers.items ++ map giver_in workers.items }
+    ensures unsent { parts.new.unsent.items ≡ parts.old.unsent.items ++ map result_in workers.items }
+    ensures ends { parts.new.ends.items ≡ parts.old.ends.items ++ map end_in workers.items }
+{
+    for worker in workers {
+        let Served { post, unsent, end } = worker;
+        let Post { taker, giver } = post;
+        parts.takers.push_reserved(taker);
+        parts.givers.push_reserved(giver);
+        parts.unsent.push_reserved(unsent);
+        parts.ends.push_reserved(end);
+    }
+}
+
+// Tells the results that are left in their queue.
+fn tell_left<T: Task, F: Feed<T>>(feed: &mut F, rest: RestOf<Done<Result<T::Output, T::Error>>>)
+    ensures { (given : List T) (told : List (Done (Result T.Output T.Error)))
+        → F.stands feed.old given told
+        → F.stands feed.new given (told ++ map value_in (left_in rest)) }
+{
+    for item in rest {
+        feed.tell(item.value);
+    }
+}
+
+// Tells the results that workers couldn't send.
+fn tell_unsent<T: Task, F: Feed<T>>(
+    feed: &mut F,
+    unsent: Vec<Option<Done<Result<T::Output, T::Error>>>>,
+)
+    ensures { (given : List T) (told : List (Done (Result T.Output T.Error)))
+        → F.stands feed.old given told
+        → F.stands feed.new given (told ++ unsent_of unsent.items) }
+{
+    for done in unsent {
+        if let Some(done) = done {
+            feed.tell(done);
+        }
+    }
+}
+
+// Closes both queues by all their seats, once the workers have ended, and tells the results that weren't told.
+fn closed<
+    T: Task,
+    F: Feed<T>,
+    C: CloseCarrier<Item = Numbered<T>>,
+    D: CloseCarrier<Item = Done<Result<T::Output, T::Error>>>,
+>(
+    tasks: C,
+    results: D,
+    room: C::Room,
+    results_room: D::Room,
+    crew: Crew<C::Seat, D::Seat, F, Result<T::Output, T::Error>>,
+    mut parts: Parts<C::Seat, D::Seat, Result<T::Output, T::Error>>,
+) -> Fed<F, T>
+    requires room { C.has_room tasks room }
+    requires results_room { D.has_room results results_room }
+    requires parts { IsNew (length crew.workers.items + 1) parts }
+    requires ended { AllEnded C.is_seat C.permits C.known D.is_seat D.permits D.known T.answers
+        F.stands tasks results crew }
+    ensures told { HasFed T.answers F.stands result }
+    ensures all { result.refused ≡ None → left_in result.left ≡ [] }
+    ensures joined { length result.ends.items ≡ length crew.workers.items }
+{
+    let Crew { led, workers } = crew;
+    let Led {
+        leader,
+        refused,
+        unshut,
+    } = led;
+    let Leader {
+        tasks: giver,
+        results: taker,
+        mut feed,
+        given: _,
+        awaited: _,
+    } = leader;
+    parts.takers.push_reserved(giver);
+    parts.givers.push_reserved(taker);
+    part(workers, &mut parts);
+    let Parts {
+        takers,
+        givers,
+        unsent,
+        ends,
+    } = parts;
+    let (left, _end) = tasks.close_with(room, takers);
+    let (rest, _end) = results.close_with(results_room, givers);
+    tell_left::<T, F>(&mut feed, rest);
+    tell_unsent::<T, F>(&mut feed, unsent);
+    Fed {
+        feed,
+        left,
+        ends,
+        refused,
+        unshut,
+    }
+}
+
+// Runs the tasks that are given, once there is room for all that comes of it.
+fn run_in<
+    R: Threads + Wait + Sync,
+    T: Task,
+    F: Feed<T>,
+    C: CloseCarrier<Item = Numbered<T>> + Sync,
+    D: CloseCarrier<Item = Done<Result<T::Output, T::Error>>> + Sync,
+>(
+    rt: &R,
+    feed: F,
+    tasks: Line<C, C::Seat>,
+    results: Line<D, D::Seat>,
+    room: C::Room,
+    results_room: D::Room,
+    space: Space<C::Seat, D::Seat, Result<T::Output, T::Error>>,
+) -> Fed<F, T>
+    requires feed { F.stands feed [] [] }
+    requires tasks { IsLine C.is_seat C.permits C.known tasks }
+    requires results { IsLine D.is_seat D.permits D.known results }
+    requires same { length tasks.seats.items ≡ length results.seats.items }
+    requires room { C.has_room tasks.queue room }
+    requires results_room { D.has_room results.queue results_room }
+    requires space { IsSpace (length tasks.seats.items) space }
+    ensures told { HasFed T.answers F.stands result }
+    ensures all { result.refused ≡ None → left_in result.left ≡ [] }
+    ensures joined { length result.ends.items + 1 ≡ length tasks.seats.items }
+{
+    let queue = BlockingCarrier::new(tasks.queue);
+    let answers = BlockingCarrier::new(results.queue);
+    let mut takers = tasks.seats;
+    let mut givers = results.seats;
+    let Some(tasks) = takers.pop() else {
+        unreachable!()
+    };
+    let Some(results) = givers.pop() else {
+        unreachable!()
+    };
+    let posts = posts_of(takers, givers, space.posts);
+    let leader = Leader {
+        tasks,
+        results,
+        feed,
+        given: 0,
+        awaited: 0,
+    };
+    let workers = space.workers;
+    let team = Team { leader, workers };
+    let crew = run_crew(rt, &queue, &answers, posts, team, &Stop::new());
+    closed(
+        queue.into_inner(),
+        answers.into_inner(),
+        room,
+        results_room,
+        crew,
+        space.parts,
+    )
+}
+
+/// Runs the tasks that a feed gives, in a thread for each seat but the last one of each queue, and in the caller's; each result
+/// is told to the feed as it comes. It ends once the feed gives no task and each result is told. Both queues are closed.
+///
+/// The feed is called in the caller's thread alone, which hands out tasks, tells results, and runs a task itself where there
+/// is no room for it, or nothing else to do. So neither a missing thread nor a small queue makes anybody wait for good: a
+/// worker for which no thread can be made runs here at the end. A task that fails is answered by its error, and the others go
+/// on.
+///
+/// Refused for want of memory alone, before the feed is asked; then all comes back. Takes memory for what `close` takes and for
+/// what workers bring back, and none while tasks are run; waits.
+pub fn run_fed<
+    R: Threads + Wait + Sync,
+    T: Task,
+    F: Feed<T>,
+    C: CloseCarrier<Item = Numbered<T>> + Sync,
+    D: CloseCarrier<Item = Done<Result<T::Output, T::Error>>> + Sync,
+>(
+    rt: &R,
+    alloc: Global,
+    feed: F,
+    tasks: Line<C, C::Seat>,
+    results: Line<D, D::Seat>,
+) -> Result<Fed<F, T>, Unfed<F, C, C::Seat, D, D::Seat>>
+    requires feed { F.stands feed [] [] }
+    requires tasks { IsLine C.is_seat C.permits C.known tasks }
+    requires results { IsLine D.is_seat D.permits D.known results }
+    requires same { length tasks.seats.items ≡ length results.seats.items }
+    //= tasks/fed (told, all, joined): Each task that a feed gave is told of once: its own result was told, under its number,
+    //=   or it is handed back. Where no call of who tells the results was refused, none is handed back. Each worker has ended.
+    ensures told { IfOk result (HasFed T.answers F.stands) }
+    ensures all { IfOk result (λ fed. fed.refused ≡ None → left_in fed.left ≡ []) }
+    ensures joined { IfOk result (λ fed. length fed.ends.items + 1 ≡ length tasks.seats.items) }
+    //= tasks/unfed (feed, tasks, results): Where memory is refused the feed wasn't asked for a task, and all comes back.
+    ensures feed { IfErr result (λ unfed. unfed.feed ≡ feed) }
+    ensures tasks { IfErr result (λ unfed. unfed.tasks ≡ tasks) }
+    ensures results { IfErr result (λ unfed. unfed.results ≡ results) }
+{
+    let space = space_for(alloc, tasks.seats.len());
+    let room = tasks.queue.room(alloc);
+    match (room, results.queue.room(alloc), space) {
+        (Ok(room), Ok(results_room), Ok(space)) => {
+            Ok(run_in(rt, feed, tasks, results, room, results_room, space))
+        }
+        _ => Err(Unfed {
+            feed,
+            tasks,
+            results,
+        }),
+    }
+}

@@ -1,0 +1,145 @@
+//! What a worker does: it takes tasks from one queue, and sends their results through another one.
+ghost use Rattle.std.specs.Prelude.{◌≡◌, IfOk, IfErr};
+ghost use Rattle.history.specs.Seats.{MayPush, MayPop};
+ghost use Rattle.blocking_carrier.specs.Queues.{queue_of};
+ghost use Rattle.blocking_carrier.specs.Answers.{ReceivedOf};
+ghost use Rattle.tasks.specs.Tasks.{IsDoneOf};
+ghost use Rattle.fed_pool.specs.Serving.{Sends, ServesOne, IsPost, IsServed};
+
+use blocking_carrier::{BlockingCarrier, InTime};
+use carriers::{Carrier, ItemOf, Unpushed};
+use history::Refusal;
+use std::sync::Wait;
+use tasks::{Done, End, Numbered, Stop, Task};
+
+/// The two seats of a worker: it takes tasks by the one, and sends their results by the other one.
+#[derive(Drop)]
+pub(crate) struct Post<S, U> {
+    pub(crate) taker: S,
+    pub(crate) giver: U,
+}
+
+/// What a worker brings back: its seats, a result that it couldn't send, and how it ended.
+#[derive(Drop)]
+pub(crate) struct Served<S, U, A> {
+    pub(crate) post: Post<S, U>,
+    pub(crate) unsent: Option<Done<A>>,
+    pub(crate) end: End,
+}
+
+/// A result that couldn't be sent, and how its worker ends for that.
+#[derive(Drop)]
+pub(crate) struct Unsendable<A> {
+    pub(crate) done: Done<A>,
+    pub(crate) end: End,
+}
+
+// Takes the next task, and sleeps while there is none; how the worker ends where none comes.
+fn take<R: Wait, C: Carrier>(
+    rt: &R,
+    queue: &BlockingCarrier<C>,
+    seat: &mut C::Seat,
+    stop: &Stop,
+) -> Result<ItemOf<C::Item>, End>
+    requires seat { C.is_seat (queue_of queue.now) seat.old }
+    requires role { MayPop (C.permits (queue_of queue.now)) (C.known seat.old).number }
+    ensures seat { C.is_seat (queue_of queue.now) seat.new }
+    ensures number { (C.known seat.new).number ≡ (C.known seat.old).number }
+    ensures taken { IfOk result (λ front. ReceivedOf (C.known seat.old) front (C.known seat.new)) }
+    ensures none { IfErr result (λ end. (C.known seat.new).mine ≡ (C.known seat.old).mine) }
+{
+    match queue.recv_until(rt, seat, stop) {
+        Ok(InTime::Done(front)) => Ok(front),
+        Ok(InTime::Late(_)) => Err(End::Stopped),
+        Err(Refusal::Closed) => Err(End::Finished),
+        Err(refusal) => Err(End::Refused(refusal)),
+    }
+}
+
+// Sends a result, and sleeps while there is no room for it; it comes back where it can't be sent.
+fn send<R: Wait, A, D: Carrier<Item = Done<A>>>(
+    rt: &R,
+    queue: &BlockingCarrier<D>,
+    seat: &mut D::Seat,
+    done: Done<A>,
+    stop: &Stop,
+) -> Result<(), Unsendable<A>>
+    requires seat { D.is_seat (queue_of queue.now) seat.old }
+    requires role { MayPush (D.permits (queue_of queue.now)) (D.known seat.old).number }
+    ensures seat { D.is_seat (queue_of queue.now) seat.new }
+    ensures number { (D.known seat.new).number ≡ (D.known seat.old).number }
+    ensures sent { Sends (D.known seat.old) (D.known seat.new) done result }
+{
+    match queue.send_until(rt, seat, done, stop) {
+        Ok(InTime::Done(())) => Ok(()),
+        Ok(InTime::Late(unsent)) => Err(Unsendable {
+            done: unsent.value,
+            end: End::Stopped,
+        }),
+        Err(Unpushed { refusal, value }) => Err(Unsendable {
+            done: value,
+            end: End::Refused(refusal),
+        }),
+    }
+}
+
+// Takes a task, runs it and sends its result; what couldn't be sent, and how the worker ends, where it is to end.
+fn serve_one<
+    R: Wait,
+    T: Task,
+    C: Carrier<Item = Numbered<T>>,
+    D: Carrier<Item = Done<Result<T::Output, T::Error>>>,
+>(
+    rt: &R,
+    tasks: &BlockingCarrier<C>,
+    results: &BlockingCarrier<D>,
+    post: &mut Post<C::Seat, D::Seat>,
+    stop: &Stop,
+) -> Result<(), (Option<Done<Result<T::Output, T::Error>>>, End)>
+    requires { IsPost C.is_seat C.permits C.known D.is_seat D.permits D.known
+        (queue_of tasks.now) (queue_of results.now) post.old }
+    ensures post { IsPost C.is_seat C.permits C.known D.is_seat D.permits D.known
+        (queue_of tasks.now) (queue_of results.now) post.new }
+    ensures taker { (C.known post.new.taker).number ≡ (C.known post.old.taker).number }
+    ensures giver { (D.known post.new.giver).number ≡ (D.known post.old.giver).number }
+    ensures served { ServesOne C.known D.known T.answers post.old post.new result }
+{
+    let front = match take(rt, tasks, &mut post.taker, stop) {
+        Ok(front) => front,
+        Err(end) => return Err((None, end)),
+    };
+    match send(rt, results, &mut post.giver, front.value.run(), stop) {
+        Ok(()) => Ok(()),
+        Err(unsendable) => Err((Some(unsendable.done), unsendable.end)),
+    }
+}
+
+/// Runs tasks and sends the result of each, until no task comes any more, or a call is refused. It sleeps while there is no task,
+/// and while there is no room for a result.
+pub(crate) fn serve<
+    R: Wait,
+    T: Task,
+    C: Carrier<Item = Numbered<T>>,
+    D: Carrier<Item = Done<Result<T::Output, T::Error>>>,
+>(
+    rt: &R,
+    tasks: &BlockingCarrier<C>,
+    results: &BlockingCarrier<D>,
+    mut post: Post<C::Seat, D::Seat>,
+    stop: &Stop,
+) -> Served<C::Seat, D::Seat, Result<T::Output, T::Error>>
+    requires { IsPost C.is_seat C.permits C.known D.is_seat D.permits D.known
+        (queue_of tasks.now) (queue_of results.now) post }
+    //= tasks/served: A worker of a fed pool popped tasks, and pushed the result of each, in this order and under its own
+    //=   number; but the last one, where that was refused, it brings back.
+    ensures { IsServed C.is_seat C.permits C.known D.is_seat D.permits D.known T.answers
+        (queue_of tasks.now) (queue_of results.now) post result }
+{
+    for _ in rt.forever() {
+        match serve_one(rt, tasks, results, &mut post, stop) {
+            Ok(()) => {}
+            Err((unsent, end)) => return Served { post, unsent, end },
+        }
+    }
+    unreachable!()
+}
