@@ -6,5 +6,6 @@ mod plans;
 mod queues;
 mod runs;
 mod seats;
+mod tellings;
 mod texts;
 mod turns;

@@ -5,7 +5,6 @@ use Rattle.history.specs.declared.operations.Entry.TheVariants.{Push}
 use Rattle.history.specs.declared.refusals.Refusal.{Refusal}
 use Rattle.history.specs.declared.refusals.Refusal.TheVariants.{BadSize, Closed, Lost, Memory, WornOut}
 use Rattle.history.specs.Seats.{Permit, Known, MayPush, MayPop}
-use Rattle.history.specs.Answers.{DidShut, FoundShut}
 use Rattle.job_results.specs.declared.jobs.Job.{Job}
 
 -- a seat is the queue's, in no call, and may pop
@@ -36,10 +35,6 @@ EndsPushOne BadSize = Unit {0}
 EndsPushOne (WornOut word) = Unit {0}
 EndsPushOne Closed = Unit {0}
 EndsPushOne _ = ⊥
-
--- a seat knows that the queue is shut: its last call shut it, or found it shut
-abbrev pub KnowsShut : Known → Type 0
-KnowsShut k' = (k : Known) × (DidShut k k' ⊎ FoundShut k k')
 
 -- there is no taker, or there are more than 1,000,000 jobs
 abbrev pub IsBadSize : {S : Type 0} → (takers : List S) → List Job → Type 0

@@ -1,7 +1,9 @@
 //! A worker: turns until it is told to stop, and what it and the submitter tell each other.
-ghost use Rattle.std.specs.Prelude.{Bool, true};
+ghost use Rattle.std.specs.Prelude.{◌≡◌, Bool, true, vec_len, vec_capacity, IfOk, IfErr, OnErr};
 ghost use Rattle.blocking_queue.specs.Queues.{queue_of};
+ghost use Rattle.history.specs.Entries.{LeadsTo};
 ghost use Rattle.dispatcher.specs.Workers.{IsTaker};
+ghost use Rattle.dispatcher.specs.Turns.{TookNext, TookNot, DoesNext, DoesNot, IsBack};
 
 use crate::gate::Gate;
 use crate::working::do_job;
@@ -13,11 +15,32 @@ use std::sync::Wait;
 use std::sync::atomic::{AtomicBool, AtomicUsize, Ordering};
 use std::time::Duration;
 
+/// How a worker ended.
+#[derive(Clone, Copy, Debug, PartialEq, Eq)]
+pub enum End {
+    /// It found the queue shut and empty.
+    Finished,
+    /// It found the queue empty, after the submitter had told that it pushes no more, and couldn't shut it.
+    Stopped,
+    /// Its thread was refused, or memory for a result, by `Memory`; or a pop, by `WornOut`; or it took a number that no job
+    /// has, by `Stranger`.
+    Refused(Refusal),
+}
+
+/// What a worker brings back: its seat, the results of the jobs whose numbers it took, in this order, and how it ended.
+#[derive(Drop)]
+pub struct Back<'a, S> {
+    pub seat: S,
+    pub results: Vec<JobResult<'a>>,
+    pub end: End,
+}
+
 /// What the workers and the submitter tell each other.
 #[derive(Drop)]
 pub(crate) struct Signals {
     given_up: AtomicBool,
     ended: AtomicUsize,
+    unstarted: AtomicUsize,
 }
 
 impl Signals {
@@ -26,6 +49,7 @@ impl Signals {
         Signals {
             given_up: AtomicBool::new(false),
             ended: AtomicUsize::new(0),
+            unstarted: AtomicUsize::new(0),
         }
     }
 
@@ -47,6 +71,16 @@ impl Signals {
     /// How many workers have ended.
     pub(crate) fn ended(&self) -> usize {
         self.ended.load(Ordering::SeqCst)
+    }
+
+    /// No thread can be made for the worker of this number, from 1 on.
+    pub(crate) fn leave_out(&self, worker: usize) {
+        self.unstarted.store(worker, Ordering::SeqCst);
+    }
+
+    /// Whether no thread can be made for the worker of this number.
+    fn is_left_out(&self, worker: usize) -> bool {
+        self.unstarted.load(Ordering::SeqCst) == worker
     }
 }
 
@@ -102,13 +136,18 @@ fn next_value<R: Wait, Q: Fifo>(
     signals: &Signals,
 ) -> Result<Option<Taken>, Refusal>
     requires { IsTaker Q.is_seat Q.permits Q.known (queue_of queue.now) seat.old }
-    ensures { IsTaker Q.is_seat Q.permits Q.known (queue_of queue.now) seat.new }
+    ensures seat { IsTaker Q.is_seat Q.permits Q.known (queue_of queue.now) seat.new }
+    ensures number { (Q.known seat.new).number ≡ (Q.known seat.old).number }
+    ensures took { IfOk result (TookNext (Q.known seat.old) (Q.known seat.new)) }
+    ensures refused { IfErr result (TookNot (Q.known seat.old) (Q.known seat.new)) }
 {
     let until = GivenUp { signals };
-    let came = queue.recv_until(rt, seat, &until)?;
-    match &came {
-        InTime::Done(taken) => Ok(Some(*taken)),
-        InTime::Late(_) => Ok(None),
+    match queue.recv_until(rt, seat, &until) {
+        Ok(came) => match &came {
+            InTime::Done(taken) => Ok(Some(*taken)),
+            InTime::Late(_) => Ok(None),
+        },
+        Err(refusal) => Err(refusal),
     }
 }
 
@@ -123,20 +162,28 @@ fn work_next<'a, R: Wait, Q: Fifo, G: Gate>(
     signals: &Signals,
 ) -> Result<bool, Refusal>
     requires { IsTaker Q.is_seat Q.permits Q.known (queue_of queue.now) seat.old }
-    ensures { IsTaker Q.is_seat Q.permits Q.known (queue_of queue.now) seat.new }
+    ensures seat { IsTaker Q.is_seat Q.permits Q.known (queue_of queue.now) seat.new }
+    ensures number { (Q.known seat.new).number ≡ (Q.known seat.old).number }
+    ensures did { IfOk result (DoesNext jobs.now (Q.known seat.old) (Q.known seat.new)
+        out.old.items out.new.items) }
+    ensures refused { IfErr result (DoesNot jobs.now (Q.known seat.old) (Q.known seat.new)) }
+    ensures same { OnErr result (out.new.items ≡ out.old.items) }
 {
     if out.reserve(1).is_err() {
         return Err(Refusal::Memory);
     }
-    let Some(taken) = next_value(rt, queue, seat, signals)? else {
-        return Ok(false);
-    };
-    do_job(jobs, gate, out, taken.body.number())?;
-    Ok(true)
+    match next_value(rt, queue, seat, signals) {
+        Ok(Some(taken)) => match do_job(jobs, gate, out, taken.body.number()) {
+            Ok(()) => Ok(true),
+            Err(refusal) => Err(refusal),
+        },
+        Ok(None) => Ok(false),
+        Err(refusal) => Err(refusal),
+    }
 }
 
-/// Does jobs until it finds the queue shut and empty, is refused, or finds nothing more after the submitter gave up.
-pub(crate) fn work<'a, R: Wait, Q: Fifo, G: Gate>(
+// Does jobs until it finds the queue shut and empty, is refused, or finds nothing more after the submitter gave up.
+fn work_on<'a, R: Wait, Q: Fifo, G: Gate>(
     rt: &R,
     alloc: Global,
     queue: &BlockingQueue<Q>,
@@ -144,17 +191,56 @@ pub(crate) fn work<'a, R: Wait, Q: Fifo, G: Gate>(
     jobs: &'a [Job],
     gate: &G,
     signals: &Signals,
-) -> Vec<JobResult<'a>>
+) -> Back<'a, Q::Seat>
     requires { IsTaker Q.is_seat Q.permits Q.known (queue_of queue.now) seat }
+    ensures { IsBack Q.is_seat Q.known (queue_of queue.now) jobs.now seat result }
 {
     let mut results = Vec::new(alloc);
     for _ in rt.forever() {
         match work_next(rt, queue, &mut seat, jobs, gate, &mut results, signals) {
             Ok(true) => {}
-            _ => break,
+            Ok(false) => {
+                let end = End::Stopped;
+                return Back { seat, results, end };
+            }
+            Err(Refusal::Closed) => {
+                let end = End::Finished;
+                return Back { seat, results, end };
+            }
+            Err(refusal) => {
+                let end = End::Refused(refusal);
+                return Back { seat, results, end };
+            }
         }
     }
+    unreachable!()
+}
+
+/// Does jobs until it finds the queue shut and empty, is refused, or finds nothing more after the submitter gave up. The worker of
+/// this number, from 1 on, does nothing where no thread can be made for it.
+pub(crate) fn work<'a, R: Wait, Q: Fifo, G: Gate>(
+    rt: &R,
+    alloc: Global,
+    queue: &BlockingQueue<Q>,
+    seat: Q::Seat,
+    jobs: &'a [Job],
+    gate: &G,
+    signals: &Signals,
+    number: usize,
+) -> Back<'a, Q::Seat>
+    requires { IsTaker Q.is_seat Q.permits Q.known (queue_of queue.now) seat }
+    ensures { IsBack Q.is_seat Q.known (queue_of queue.now) jobs.now seat result }
+{
+    let back = if signals.is_left_out(number) {
+        Back {
+            seat,
+            results: Vec::new(alloc),
+            end: End::Refused(Refusal::Memory),
+        }
+    } else {
+        work_on(rt, alloc, queue, seat, jobs, gate, signals)
+    };
     signals.end_one();
     queue.wake_all();
-    results
+    back
 }

@@ -1,12 +1,23 @@
 //! The submitter: it pushes the numbers of the jobs, and then shuts the queue.
-ghost use Rattle.std.specs.Prelude.{◌≡◌, ◌≤◌, OnOk, IfErr};
+ghost use Rattle.std.specs.Prelude.{◌≡◌, ◌≤◌, OnOk, OnErr, IfErr};
+ghost use Rattle.history.specs.Seats.{MayPush};
 ghost use Rattle.blocking_queue.specs.Queues.{queue_of};
-ghost use Rattle.dispatcher.specs.Workers.{IsGiver, HasPushedOne, HasPushed, EndsPushOne, KnowsShut};
+ghost use Rattle.dispatcher.specs.Workers.{IsGiver, HasPushedOne, EndsPushOne};
+ghost use Rattle.dispatcher.specs.Submissions.{HasOffered, EndsShutBy, HasGiven};
 
 use crate::running::{NoneLeft, Signals};
 use blocking_queue::{BlockingQueue, InTime};
 use history::{Body, Fifo, Refusal};
 use std::sync::Wait;
+
+/// What the submitter brings back: its seat, why it pushed no more numbers, if it didn't push all, and why the queue couldn't
+/// be shut, if it couldn't.
+#[derive(Drop)]
+pub struct Given<S> {
+    pub seat: S,
+    pub refused: Option<Refusal>,
+    pub unshut: Option<Refusal>,
+}
 
 // Pushes one number while a worker runs, and sleeps while no node is free.
 fn push_one<R: Wait, Q: Fifo>(
@@ -21,6 +32,7 @@ fn push_one<R: Wait, Q: Fifo>(
     ensures giver { IsGiver Q.is_seat Q.permits Q.known (queue_of queue.now) seat.new }
     ensures number { (Q.known seat.new).number ≡ (Q.known seat.old).number }
     ensures pushed { OnOk result (HasPushedOne (Q.known seat.old) number (Q.known seat.new)) }
+    ensures kept { OnErr result ((Q.known seat.new).mine ≡ (Q.known seat.old).mine) }
     ensures refusal { IfErr result EndsPushOne }
 {
     let Some(body) = Body::new(number) else {
@@ -29,13 +41,14 @@ fn push_one<R: Wait, Q: Fifo>(
     if signals.ended() >= workers {
         return Err(Refusal::Lost);
     }
-    match queue.send_until(rt, seat, body, &NoneLeft::new(signals, workers))? {
-        InTime::Done(()) => Ok(()),
-        InTime::Late(_) => Err(Refusal::Lost),
+    match queue.send_until(rt, seat, body, &NoneLeft::new(signals, workers)) {
+        Ok(InTime::Done(())) => Ok(()),
+        Ok(InTime::Late(_)) => Err(Refusal::Lost),
+        Err(refusal) => Err(refusal),
     }
 }
 
-// Pushes 1 and so on to the number of jobs. Ends at the first push that is refused.
+// Pushes 1 and so on to the number of jobs. Ends at the first push that is refused, and tells why.
 fn push_all<R: Wait, Q: Fifo>(
     rt: &R,
     queue: &BlockingQueue<Q>,
@@ -43,34 +56,56 @@ fn push_all<R: Wait, Q: Fifo>(
     jobs: usize,
     workers: usize,
     signals: &Signals,
-) -> Result<(), Refusal>
+) -> Option<Refusal>
     requires { IsGiver Q.is_seat Q.permits Q.known (queue_of queue.now) seat.old }
     ensures giver { IsGiver Q.is_seat Q.permits Q.known (queue_of queue.now) seat.new }
-    ensures pushed { OnOk result (HasPushed (Q.known seat.old) jobs (Q.known seat.new)) }
+    ensures number { (Q.known seat.new).number ≡ (Q.known seat.old).number }
+    ensures offered { HasOffered (Q.known seat.old) jobs result (Q.known seat.new) }
 {
     for count in 0..jobs as u64 {
-        push_one(rt, queue, seat, count + 1, workers, signals)?;
+        if let Err(refusal) = push_one(rt, queue, seat, count + 1, workers, signals) {
+            return Some(refusal);
+        }
     }
-    Ok(())
+    None
+}
+
+// Shuts the queue; where it can't be shut, tells why.
+fn shut<R: Wait, Q: Fifo>(rt: &R, queue: &BlockingQueue<Q>, seat: &mut Q::Seat) -> Option<Refusal>
+    requires seat { Q.is_seat (queue_of queue.now) seat.old }
+    requires role { MayPush (Q.permits (queue_of queue.now)) (Q.known seat.old).number }
+    ensures seat { Q.is_seat (queue_of queue.now) seat.new }
+    ensures number { (Q.known seat.new).number ≡ (Q.known seat.old).number }
+    ensures shut { EndsShutBy (Q.known seat.old) (Q.known seat.new) result }
+{
+    match queue.shut(rt, seat) {
+        Ok(()) | Err(Refusal::Closed) => None,
+        Err(refusal) => Some(refusal),
+    }
 }
 
 /// Pushes 1 and so on to the number of jobs, up to the first push that is refused, and then shuts the queue, where it isn't
-/// shut yet. Refused where it can't be shut.
+/// shut yet; or tells the workers that it can't be.
 pub(crate) fn submit<R: Wait, Q: Fifo>(
     rt: &R,
     queue: &BlockingQueue<Q>,
-    seat: &mut Q::Seat,
+    mut seat: Q::Seat,
     jobs: usize,
     workers: usize,
     signals: &Signals,
-) -> Result<(), Refusal>
-    requires { IsGiver Q.is_seat Q.permits Q.known (queue_of queue.now) seat.old }
-    ensures { OnOk result (KnowsShut (Q.known seat.new)) }
+) -> Given<Q::Seat>
+    requires { IsGiver Q.is_seat Q.permits Q.known (queue_of queue.now) seat }
+    ensures { HasGiven Q.is_seat Q.known (queue_of queue.now) jobs seat result }
 {
-    // A job that isn't pushed has no result, which says so.
-    let _ = push_all(rt, queue, seat, jobs, workers, signals);
-    match queue.shut(rt, seat) {
-        Ok(()) | Err(Refusal::Closed) => Ok(()),
-        Err(refusal) => Err(refusal),
+    let refused = push_all(rt, queue, &mut seat, jobs, workers, signals);
+    let unshut = shut(rt, queue, &mut seat);
+    if unshut.is_some() {
+        signals.give_up();
+        queue.wake_all();
+    }
+    Given {
+        seat,
+        refused,
+        unshut,
     }
 }

@@ -1,1 +1,2 @@
 mod NewSeats
+mod Overs

@@ -1,3 +1,4 @@
 pub mod Crews
 pub mod Queues
 pub mod Works
+pub mod Overs

@@ -7,20 +7,26 @@ ghost use Rattle.blocking_queue.specs.Queues.{queue_of};
 ghost use Rattle.job_results.specs.Jobs.{job_rows};
 ghost use Rattle.job_results.specs.Results.{row_of};
 ghost use Rattle.dispatcher.specs.Workers.{IsTaker, IsGiver, StopsWorkers};
+ghost use Rattle.dispatcher.specs.Goings.{WentOver};
+ghost use Rattle.any_queue.specs.Any.{IsAnySeat};
+ghost use Rattle.node_arena.specs.Seats.{known_of};
+ghost use Rattle.ring_queue.specs.Queues.{IsQueueSeat};
+ghost use Rattle.ring_queue.specs.Seats.{known_of as ring_known_of};
 ghost use Rattle.job_engine.specs.Crews.{crew_roles, ring_crew_roles, crew_plan, IsCrew, IsCrewRing, IsCrewQueue};
+ghost use Rattle.job_engine.specs.Overs.{IsOver, WereOver};
 ghost use Rattle.job_engine.specs.Works.{AreSized};
-ghost use Rattle.job_engine.specs.Queues.{queue_in};
+ghost use Rattle.job_engine.specs.Queues.{queue_in, seats_in};
 
 use any_queue::AnyQueue;
 use blocking_queue::BlockingQueue;
-use dispatcher::{Gate, dispatch};
+use dispatcher::{Dispatched, Gate, dispatch_keeping_seats};
 use either_queue::EitherQueue;
 use history::{Fifo, Refusal};
 use job_results::{Job, JobResult};
 use line_table::Kind;
-use node_arena::{MOST_COUNT, Role};
+use node_arena::{MOST_COUNT, Role, Seat};
 use queue_kinds::QueueKind;
-use ring_queue::{RingQueue, Role as RingRole};
+use ring_queue::{RingQueue, Role as RingRole, Seat as RingSeat};
 use std::alloc::Global;
 use std::sync::Wait;
 use std::thread::Threads;
@@ -41,10 +47,20 @@ impl Gate for Open {
     fn after(&self, _number: u64) {}
 }
 
-/// The queue over which a list of jobs was done. No other one can be had.
+/// All seats of a queue over which jobs were done, the submitter's first.
+#[derive(Drop)]
+pub enum CrewSeats {
+    /// Those of a queue of nodes.
+    Linked(Vec<Seat>),
+    /// Those of a ring.
+    Ring(Vec<RingSeat>),
+}
+
+/// The queue over which a list of jobs was done, and its seats. No other one can be had.
 #[derive(Drop)]
 pub struct JobQueue {
     queue: EitherQueue<AnyQueue, RingQueue>,
+    seats: CrewSeats,
 }
 
 impl JobQueue {
@@ -53,6 +69,15 @@ impl JobQueue {
         ensures { result.now ≡ queue_in self.now }
     {
         &self.queue
+    }
+
+    /// The queue and its seats, by which it can be closed. Takes no memory and doesn't wait.
+    pub fn into_parts(self) -> (EitherQueue<AnyQueue, RingQueue>, CrewSeats)
+        ensures queue { result.0 ≡ queue_in self }
+        ensures seats { result.1 ≡ seats_in self }
+    {
+        let JobQueue { queue, seats } = self;
+        (queue, seats)
     }
 }
 
@@ -72,18 +97,24 @@ pub(crate) fn results_by<'a, R: Threads + Wait + Sync>(
     requires few { length jobs.now ≤ 1000000 }
     ensures rows { IfOk result (λ r. map row_of r.0.items ≡ job_rows 1 jobs.now) }
     ensures over { IfOk result (λ r. IsCrewQueue kind nodes workers (queue_in r.1)) }
+    ensures went { IfOk result
+        (λ r. WereOver workers (length jobs.now) (queue_in r.1) (seats_in r.1)) }
     ensures refusal { IfErr result StopsWorkers }
 {
     match kind {
         QueueKind::Linked(kind) => {
-            let (results, queue) = results_by_nodes(rt, alloc, workers, kind, nodes, jobs)?;
+            let (done, queue) = results_by_nodes(rt, alloc, workers, kind, nodes, jobs)?;
             let queue = EitherQueue::First(queue);
-            Ok((results, JobQueue { queue }))
+            let Dispatched { results, seats } = done;
+            let seats = CrewSeats::Linked(seats);
+            Ok((results, JobQueue { queue, seats }))
         }
         QueueKind::Ring => {
-            let (results, queue) = results_by_ring(rt, alloc, workers, nodes, jobs)?;
+            let (done, queue) = results_by_ring(rt, alloc, workers, nodes, jobs)?;
             let queue = EitherQueue::Second(queue);
-            Ok((results, JobQueue { queue }))
+            let Dispatched { results, seats } = done;
+            let seats = CrewSeats::Ring(seats);
+            Ok((results, JobQueue { queue, seats }))
         }
     }
 }
@@ -96,10 +127,12 @@ fn results_by_nodes<'a, R: Threads + Wait + Sync>(
     kind: Kind,
     nodes: u32,
     jobs: &'a [Job],
-) -> Result<(Vec<JobResult<'a>>, AnyQueue), Refusal>
+) -> Result<(Dispatched<'a, Seat>, AnyQueue), Refusal>
     requires sizes { AreSized workers nodes }
     requires few { length jobs.now ≤ 1000000 }
-    ensures rows { IfOk result (λ r. map row_of r.0.items ≡ job_rows 1 jobs.now) }
+    ensures rows { IfOk result (λ r. map row_of r.0.results.items ≡ job_rows 1 jobs.now) }
+    ensures went { IfOk result
+        (λ r. IsOver IsAnySeat known_of r.1 workers (length jobs.now) r.0.seats.items) }
     ensures over { IfOk result (λ r. plan_of (any_arena_of r.1) ≡ crew_plan kind nodes workers) }
     ensures refusal { IfErr result StopsWorkers }
 {
@@ -115,10 +148,12 @@ fn results_by_ring<'a, R: Threads + Wait + Sync>(
     workers: u32,
     values: u32,
     jobs: &'a [Job],
-) -> Result<(Vec<JobResult<'a>>, RingQueue), Refusal>
+) -> Result<(Dispatched<'a, RingSeat>, RingQueue), Refusal>
     requires sizes { AreSized workers values }
     requires few { length jobs.now ≤ 1000000 }
-    ensures rows { IfOk result (λ r. map row_of r.0.items ≡ job_rows 1 jobs.now) }
+    ensures rows { IfOk result (λ r. map row_of r.0.results.items ≡ job_rows 1 jobs.now) }
+    ensures went { IfOk result
+        (λ r. IsOver IsQueueSeat ring_known_of r.1 workers (length jobs.now) r.0.seats.items) }
     ensures over { IfOk result (λ r. IsCrewRing values workers r.1) }
     ensures refusal { IfErr result StopsWorkers }
 {
@@ -155,7 +190,8 @@ fn ring_roles_of(alloc: Global, workers: u32) -> Result<Vec<RingRole>, Refusal>
     }
 }
 
-// The results of jobs over this queue, which has a seat for each worker and then the submitter's; and the queue.
+// The results of jobs over this queue, which has a seat for each worker and then the submitter's; with them the seats, and the
+// queue.
 fn results_over<'a, R: Threads + Wait + Sync, Q: Fifo + Sync + Drop>(
     rt: &R,
     alloc: Global,
@@ -163,17 +199,19 @@ fn results_over<'a, R: Threads + Wait + Sync, Q: Fifo + Sync + Drop>(
     workers: u32,
     seats: Vec<Q::Seat>,
     jobs: &'a [Job],
-) -> Result<(Vec<JobResult<'a>>, Q), Refusal>
+) -> Result<(Dispatched<'a, Q::Seat>, Q), Refusal>
     requires some { 1 ≤ workers }
     requires crew { IsCrew Q.is_seat Q.permits Q.known queue workers seats.items }
     requires few { length jobs.now ≤ 1000000 }
-    ensures rows { IfOk result (λ r. map row_of r.0.items ≡ job_rows 1 jobs.now) }
+    ensures rows { IfOk result (λ r. map row_of r.0.results.items ≡ job_rows 1 jobs.now) }
     ensures same { IfOk result (λ r. r.1 ≡ queue) }
+    ensures went { IfOk result
+        (λ r. IsOver Q.is_seat Q.known r.1 workers (length jobs.now) r.0.seats.items) }
     ensures refusal { IfErr result StopsWorkers }
 {
     let queue = BlockingQueue::new(queue);
-    let results = results_with(rt, alloc, &queue, workers, seats, jobs)?;
-    Ok((results, queue.into_inner()))
+    let done = results_with(rt, alloc, &queue, workers, seats, jobs)?;
+    Ok((done, queue.into_inner()))
 }
 
 // The results of jobs over any queue, by a worker for each of its seats but the last, which is the submitter's.
@@ -184,11 +222,13 @@ fn results_with<'a, R: Threads + Wait + Sync, Q: Fifo + Sync>(
     workers: u32,
     mut seats: Vec<Q::Seat>,
     jobs: &'a [Job],
-) -> Result<Vec<JobResult<'a>>, Refusal>
+) -> Result<Dispatched<'a, Q::Seat>, Refusal>
     requires some { 1 ≤ workers }
     requires crew { IsCrew Q.is_seat Q.permits Q.known (queue_of queue.now) workers seats.items }
     requires few { length jobs.now ≤ 1000000 }
-    ensures rows { IfOk result (λ results. map row_of results.items ≡ job_rows 1 jobs.now) }
+    ensures rows { IfOk result (λ d. map row_of d.results.items ≡ job_rows 1 jobs.now) }
+    ensures went { IfOk result (λ d. IsOver Q.is_seat Q.known (queue_of queue.now) workers
+        (length jobs.now) d.seats.items) }
     ensures refusal { IfErr result StopsWorkers }
 {
     let Some(giver) = seats.pop() else {
@@ -206,14 +246,16 @@ fn submit<'a, R: Threads + Wait + Sync, Q: Fifo + Sync>(
     giver: Q::Seat,
     takers: Vec<Q::Seat>,
     jobs: &'a [Job],
-) -> Result<Vec<JobResult<'a>>, Refusal>
+) -> Result<Dispatched<'a, Q::Seat>, Refusal>
     requires some { 1 ≤ workers }
     requires each { length takers.items ≡ workers }
     requires giver { IsGiver Q.is_seat Q.permits Q.known (queue_of queue.now) giver }
     requires takers { All (IsTaker Q.is_seat Q.permits Q.known (queue_of queue.now)) takers.items }
     requires few { length jobs.now ≤ 1000000 }
-    ensures rows { IfOk result (λ results. map row_of results.items ≡ job_rows 1 jobs.now) }
+    ensures rows { IfOk result (λ d. map row_of d.results.items ≡ job_rows 1 jobs.now) }
+    ensures went { IfOk result (λ d. WentOver Q.is_seat Q.known (queue_of queue.now) giver
+        takers.items (length jobs.now) d.seats.items) }
     ensures refusal { IfErr result StopsWorkers }
 {
-    dispatch(rt, alloc, queue, giver, takers, jobs, &Open)
+    dispatch_keeping_seats(rt, alloc, queue, giver, takers, jobs, &Open)
 }

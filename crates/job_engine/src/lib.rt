@@ -5,5 +5,5 @@ mod crews;
 mod texts;
 mod working;
 
-pub use crews::JobQueue;
+pub use crews::{CrewSeats, JobQueue};
 pub use working::work_text;

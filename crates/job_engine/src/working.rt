@@ -3,7 +3,8 @@ ghost use Rattle.std.specs.Prelude.{◌≡◌, ◌≢◌, ◌↔◌, IfErr, IfOk
 ghost use Rattle.text_io.specs.Blocks.{GivesUp};
 ghost use Rattle.text_io.specs.Readings.{EndsReadingFor};
 ghost use Rattle.job_engine.specs.Crews.{IsCrewQueue};
-ghost use Rattle.job_engine.specs.Queues.{queue_in};
+ghost use Rattle.job_engine.specs.Overs.{WentFor};
+ghost use Rattle.job_engine.specs.Queues.{queue_in, seats_in};
 ghost use Rattle.job_engine.specs.Works.{AreSized, IsBadSize, IsTextOf, WritesResults, BeginsResults, TellsOfText, IsReadingRefusal, IsWorkRefusal, EndsReadingOrUnread};
 
 use crate::crews::{JobQueue, results_by};
@@ -52,9 +53,12 @@ pub fn work_text<T: Threads + Wait + Sync, R: Source, W: Sink>(
     ensures quiet { OnOk result ((W.state writer.new).failures ≡ (W.state writer.old).failures) }
     //= program/work_queue: At Ok `work_text` answers a queue made for just the kind, nodes and workers asked for, with
     //=   a seat for each worker, that may pop, one that may push, and the greatest count of all; a ring is full of as many
-    //=   values, and ends at the last place of all. A `JobQueue` comes only
-    //=   from the function that makes it and has the jobs done; that they went over it, no clause says.
+    //=   values, and ends at the last place of all.
     ensures over { IfOk result (λ done. IsCrewQueue kind nodes workers (queue_in done)) }
+    //= program/work_went: At Ok the jobs read went over the queue that `work_text` answers: with it come all its seats, in no
+    //=   call, and the number of each job, from 1 on, was taken from it by one of them.
+    ensures went { IfOk result (λ done. WentFor (R.state reader.old).left workers (queue_in done)
+        (seats_in done)) }
     // A size out of its range is refused before anything is read.
     ensures sized { (result ≡ Err Refusal.BadSize) ↔ IsBadSize workers nodes }
     ensures unread { IfErr result (λ refusal. refusal ≡ Refusal.BadSize → reader.new ≡ reader.old) }

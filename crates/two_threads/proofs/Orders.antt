@@ -1,5 +1,5 @@
 -- What one seat pushed another popped, in order.
-use Rattle.std.proofs.Common.{cond, suc, zero, ◌≡◌, ◌+◌, ◌∙◌, sym, refl, ap, subst, ℕ, Bool, true, false, nat_eq, eq-eqb, List, [], ◌∷◌, ◌++◌, arith}
+use Rattle.std.proofs.Common.{cond, suc, zero, ◌≡◌, ◌∙◌, sym, refl, ap, subst, ℕ, Bool, true, false, nat_eq, eq-eqb, List, [], ◌∷◌, ◌++◌, arith}
 use Rattle.std.specs.List.{All, count_by}
 use Rattle.std.proofs.lemmas.Bool.{false≢true}
 use Rattle.std.proofs.lemmas.List.{append-nil}
@@ -8,10 +8,11 @@ use Rattle.std.proofs.lemmas.List.Sums.{sum_by-cons, sum_by_push}
 use Rattle.std.proofs.lemmas.Grind.{flat_map-append}
 use Rattle.history.specs.declared.operations.Entry.{Entry}
 use Rattle.history.specs.declared.operations.Entry.TheVariants.{Push, Pop, Shut}
-use Rattle.history.specs.declared.operations.Reply.TheVariants.{Done, Value, Empty, Refused}
+use Rattle.history.specs.declared.operations.Reply.TheVariants.{Value, Empty}
 use Rattle.history.specs.declared.operations.Taken.{Taken}
 use Rattle.history.specs.declared.refusals.Refusal.{Refusal}
-use Rattle.history.specs.declared.refusals.Refusal.TheVariants.{WornOut, NoNode, Closed}
+use Rattle.history.specs.declared.refusals.Refusal.TheVariants.{WornOut, Closed}
+use Rattle.blocking_queue.specs.Answers.{EndsSend}
 use Rattle.history.specs.Answers.{FoundShut, PushRefused, EndsShut}
 use Rattle.history.specs.Queue.{Queue, empty}
 use Rattle.history.specs.Entries.{is_shut, own_entries, Plays, Leads, LeadsToShut}
@@ -19,7 +20,7 @@ use Rattle.history.specs.Seats.{Permit, Known, IsPermitted, IsSound}
 use Rattle.history.specs.Values.{pushed, popped, pushed_by, OnlyPushes, OnlyPops}
 use Rattle.history.proofs.Values.{pushed-Leads, pushed-alone, popped-alone}
 use Rattle.history.proofs.Ending.{ends_there}
-use Rattle.two_threads.specs.Duos.{pushes_to, values_to, pops_of, EndsPushOne, EndsRun}
+use Rattle.two_threads.specs.Duos.{pushes_to, values_to, pops_of, EndsRun}
 
 -- the values that these pushes push
 pushed-pushes_to : (seat n : ℕ) → pushed (pushes_to seat n) ≡ values_to seat n
@@ -76,11 +77,10 @@ never_shut permits k seat n sound only mine found =
     stays_open permits k.number only k.seen [] found.0 sound.permitted none found.1
 
 -- and its push is refused only as the run may be
-pub ends_run : (most : ℕ) (k k' : Known) (refusal : Refusal) → (LeadsToShut k'.seen → k'.mine ≡ k.mine → ⊥) → EndsPushOne k refusal k' → EndsRun most refusal
-ends_run most k k' (WornOut word) never h = tt
-ends_run most k k' Closed never h = absurd (never h.0 h.1)
-ends_run most k k' NoNode never h = absurd h
-ends_run most k k' _ never h = absurd h
+pub ends_run : (most : ℕ) (k k' : Known) (refusal : Refusal) → (FoundShut k k' → ⊥) → EndsSend refusal → PushRefused k refusal k' → EndsRun most refusal
+ends_run most k k' (WornOut word) never may h = tt
+ends_run most k k' Closed never may h = absurd (never h)
+ends_run most k k' _ never may h = absurd may
 
 -- and so is its shut
 pub shut_ends_run : (most : ℕ) (k k' : Known) (refusal : Refusal) → (FoundShut k k' → ⊥) → EndsShut refusal → PushRefused k refusal k' → EndsRun most refusal

@@ -5,8 +5,8 @@ use Rattle.history.specs.declared.operations.Entry.{Entry}
 use Rattle.history.specs.declared.operations.Entry.TheVariants.{Push, Pop, Shut}
 use Rattle.history.specs.declared.operations.Taken.{Taken}
 use Rattle.history.specs.declared.refusals.Refusal.{Refusal}
-use Rattle.history.specs.declared.refusals.Refusal.TheVariants.{Memory, WornOut, BadSize, Closed}
-use Rattle.history.specs.Entries.{Leads, LeadsToShut}
+use Rattle.history.specs.declared.refusals.Refusal.TheVariants.{Memory, WornOut, BadSize}
+use Rattle.history.specs.Entries.{Leads}
 use Rattle.history.specs.Limits.{body_bits}
 use Rattle.history.specs.Openings.{AreNew}
 use Rattle.history.specs.Seats.{Permit, Known, MayPush, MayPop}
@@ -43,23 +43,6 @@ abbrev pub EndsTaking : Refusal → Type 0
 EndsTaking Memory = Unit {0}
 EndsTaking (WornOut word) = Unit {0}
 EndsTaking _ = ⊥
-
--- a seat has this entry more of its own, at the end
-abbrev pub IsOneMore : Known → Entry → Known → Type 0
-IsOneMore k e k' = k'.mine ≡ k.mine ++ e ∷ []
-
--- a push that waits for a node may be refused so: a word was worn out, or the queue was found shut, and nothing was done
-abbrev pub EndsPushOne : Known → Refusal → Known → Type 0
-EndsPushOne k (WornOut word) k' = Unit {0}
-EndsPushOne k Closed k' = LeadsToShut k'.seen × (k'.mine ≡ k.mine)
-EndsPushOne k _ k' = ⊥
-
--- a pop that waits for a value may be refused so: a word was worn out, or the queue was found shut and empty, and nothing was
--- done
-abbrev pub EndsPopOne : Known → Refusal → Known → Type 0
-EndsPopOne k (WornOut word) k' = Unit {0}
-EndsPopOne k Closed k' = Leads k'.seen true [] × (k'.mine ≡ k.mine)
-EndsPopOne k _ k' = ⊥
 
 -- a seat pushed the numbers from 1 to this one, and did nothing else
 abbrev pub HasPushed : Known → (most : ℕ) → Known → Type 0

@@ -1,52 +1,24 @@
 //! A queue of any kind, and two threads that call it.
 ghost use Rattle.std.specs.Prelude.{◌≡◌, IfOk, IfErr, OnOk};
-ghost use Rattle.history.specs.declared.operations.Entry.TheVariants.{Push, Pop};
-ghost use Rattle.history.specs.Seats.{MayPush, MayPop};
-ghost use Rattle.two_threads.specs.Duos.{IsDuo, IsOnePusher, IsOnePopper, IsOneMore, EndsPushOne, EndsPopOne};
+ghost use Rattle.blocking_queue.specs.Queues.{queue_of};
+ghost use Rattle.two_threads.specs.Duos.{IsDuo, IsOnePusher, IsOnePopper};
 ghost use Rattle.two_threads.specs.Duos.{HasPushed, HasGiven, HasTaken, EndsRun, EndsTaking, values_to};
 
-use crossbeam_utils::Backoff;
+use blocking_queue::BlockingQueue;
 use history::{Body, Fifo, Refusal, Taken};
 use std::alloc::Global;
 use std::sync::Wait;
 use std::thread::{Threads, join};
 
-// Pushes a number, and waits while there is no node for it.
-fn push_one<R: Wait, Q: Fifo>(
-    rt: &R,
-    queue: &Q,
-    seat: &mut Q::Seat,
-    body: Body,
-) -> Result<(), Refusal>
-    requires seat { Q.is_seat queue.now seat.old }
-    requires role { MayPush (Q.permits queue.now) (Q.known seat.old).number }
-    ensures seat { Q.is_seat queue.now seat.new }
-    ensures number { (Q.known seat.new).number ≡ (Q.known seat.old).number }
-    ensures pushed { OnOk result (IsOneMore (Q.known seat.old)
-        (Push (Q.known seat.old).number body) (Q.known seat.new)) }
-    ensures refusal { IfErr result
-        (λ refusal. EndsPushOne (Q.known seat.old) refusal (Q.known seat.new)) }
-{
-    let backoff = Backoff::new();
-    for _ in rt.forever() {
-        match queue.push(rt, seat, body) {
-            Ok(()) => return Ok(()),
-            Err(Refusal::NoNode) => backoff.snooze(),
-            Err(refusal) => return Err(refusal),
-        }
-    }
-    unreachable!()
-}
-
 // Pushes 1, 2 and so on to `most`.
 fn push_all<R: Wait, Q: Fifo>(
     rt: &R,
-    queue: &Q,
+    queue: &BlockingQueue<Q>,
     seat: &mut Q::Seat,
     most: u64,
 ) -> Result<(), Refusal>
-    requires { IsOnePusher Q.is_seat Q.permits Q.known queue.now seat.old }
-    ensures seat { Q.is_seat queue.now seat.new }
+    requires { IsOnePusher Q.is_seat Q.permits Q.known (queue_of queue.now) seat.old }
+    ensures seat { Q.is_seat (queue_of queue.now) seat.new }
     ensures number { (Q.known seat.new).number ≡ (Q.known seat.old).number }
     ensures pushed { OnOk result (HasPushed (Q.known seat.old) most (Q.known seat.new)) }
     ensures refusal { IfErr result (EndsRun most) }
@@ -55,7 +27,7 @@ fn push_all<R: Wait, Q: Fifo>(
         let Some(body) = Body::new(count + 1) else {
             return Err(Refusal::BadSize);
         };
-        push_one(rt, queue, seat, body)?;
+        queue.send(rt, seat, body)?;
     }
     Ok(())
 }
@@ -63,12 +35,12 @@ fn push_all<R: Wait, Q: Fifo>(
 // Pushes 1, 2 and so on to `most`, and then shuts the queue, also where a push was refused: so who takes ends.
 fn give<R: Wait, Q: Fifo>(
     rt: &R,
-    queue: &Q,
+    queue: &BlockingQueue<Q>,
     mut seat: Q::Seat,
     most: u64,
 ) -> Result<Q::Seat, Refusal>
-    requires { IsOnePusher Q.is_seat Q.permits Q.known queue.now seat }
-    ensures given { IfOk result (HasGiven Q.is_seat Q.known queue.now seat most) }
+    requires { IsOnePusher Q.is_seat Q.permits Q.known (queue_of queue.now) seat }
+    ensures given { IfOk result (HasGiven Q.is_seat Q.known (queue_of queue.now) seat most) }
     ensures refusal { IfErr result (EndsRun most) }
 {
     let pushed = push_all(rt, queue, &mut seat, most);
@@ -78,42 +50,21 @@ fn give<R: Wait, Q: Fifo>(
     Ok(seat)
 }
 
-// Takes a value, and waits while none is there.
-fn pop_one<R: Wait, Q: Fifo>(rt: &R, queue: &Q, seat: &mut Q::Seat) -> Result<Taken, Refusal>
-    requires seat { Q.is_seat queue.now seat.old }
-    requires role { MayPop (Q.permits queue.now) (Q.known seat.old).number }
-    ensures seat { Q.is_seat queue.now seat.new }
-    ensures number { (Q.known seat.new).number ≡ (Q.known seat.old).number }
-    ensures popped { IfOk result (λ value. IsOneMore (Q.known seat.old)
-        (Pop (Q.known seat.old).number value) (Q.known seat.new)) }
-    ensures refusal { IfErr result
-        (λ refusal. EndsPopOne (Q.known seat.old) refusal (Q.known seat.new)) }
-{
-    let backoff = Backoff::new();
-    for _ in rt.forever() {
-        match queue.pop(rt, seat) {
-            Ok(Some(taken)) => return Ok(taken),
-            Ok(None) => backoff.snooze(),
-            Err(refusal) => return Err(refusal),
-        }
-    }
-    unreachable!()
-}
-
 // Takes values until the queue is shut and empty.
 fn pop_all<R: Wait, Q: Fifo>(
     rt: &R,
     alloc: Global,
-    queue: &Q,
+    queue: &BlockingQueue<Q>,
     mut seat: Q::Seat,
 ) -> Result<(Q::Seat, Vec<Taken>), Refusal>
-    requires { IsOnePopper Q.is_seat Q.permits Q.known queue.now seat }
-    ensures taken { IfOk result (λ r. HasTaken Q.is_seat Q.known queue.now seat r.0 r.1.items) }
+    requires { IsOnePopper Q.is_seat Q.permits Q.known (queue_of queue.now) seat }
+    ensures taken { IfOk result
+        (λ r. HasTaken Q.is_seat Q.known (queue_of queue.now) seat r.0 r.1.items) }
     ensures refusal { IfErr result EndsTaking }
 {
     let mut taken = Vec::new(alloc);
     for _ in rt.forever() {
-        match pop_one(rt, queue, &mut seat) {
+        match queue.recv(rt, &mut seat) {
             Ok(value) => {
                 let Ok(()) = taken.push(value) else {
                     return Err(Refusal::Memory);
@@ -130,7 +81,7 @@ fn pop_all<R: Wait, Q: Fifo>(
 fn both<R: Threads + Wait + Sync, Q: Fifo + Sync>(
     rt: &R,
     alloc: Global,
-    queue: &Q,
+    queue: &BlockingQueue<Q>,
     giver: Q::Seat,
     taker: Q::Seat,
     most: u64,
@@ -138,24 +89,27 @@ fn both<R: Threads + Wait + Sync, Q: Fifo + Sync>(
     Result<(Q::Seat, Vec<Taken>), Refusal>,
     Result<Q::Seat, Refusal>,
 )
-    requires giver { IsOnePusher Q.is_seat Q.permits Q.known queue.now giver }
-    requires taker { IsOnePopper Q.is_seat Q.permits Q.known queue.now taker }
-    ensures taken { IfOk result.0 (λ r. HasTaken Q.is_seat Q.known queue.now taker r.0 r.1.items) }
+    requires giver { IsOnePusher Q.is_seat Q.permits Q.known (queue_of queue.now) giver }
+    requires taker { IsOnePopper Q.is_seat Q.permits Q.known (queue_of queue.now) taker }
+    ensures taken { IfOk result.0
+        (λ r. HasTaken Q.is_seat Q.known (queue_of queue.now) taker r.0 r.1.items) }
     ensures untaken { IfErr result.0 EndsTaking }
-    ensures given { IfOk result.1 (HasGiven Q.is_seat Q.known queue.now giver most) }
+    ensures given { IfOk result.1
+        (HasGiven Q.is_seat Q.known (queue_of queue.now) giver most) }
     ensures ungiven { IfErr result.1 (EndsRun most) }
 {
     join(
         rt,
         || -> Result<(Q::Seat, Vec<Taken>), Refusal>
-            requires { IsOnePopper Q.is_seat Q.permits Q.known queue.now taker }
+            requires { IsOnePopper Q.is_seat Q.permits Q.known (queue_of queue.now) taker }
             ensures taken { IfOk result (λ r.
-                HasTaken Q.is_seat Q.known queue.entry.now taker r.0 r.1.items) }
+                HasTaken Q.is_seat Q.known (queue_of queue.entry.now) taker r.0 r.1.items) }
             ensures refusal { IfErr result EndsTaking }
         { pop_all(rt, alloc, queue, taker) },
         || -> Result<Q::Seat, Refusal>
-            requires { IsOnePusher Q.is_seat Q.permits Q.known queue.now giver }
-            ensures given { IfOk result (HasGiven Q.is_seat Q.known queue.entry.now giver most) }
+            requires { IsOnePusher Q.is_seat Q.permits Q.known (queue_of queue.now) giver }
+            ensures given { IfOk result
+                (HasGiven Q.is_seat Q.known (queue_of queue.entry.now) giver most) }
             ensures refusal { IfErr result (EndsRun most) }
         { give(rt, queue, giver, most) },
     )
@@ -182,6 +136,7 @@ pub fn run<R: Threads + Wait + Sync, Q: Fifo + Sync + Drop>(
     ensures taken { IfOk result (λ values. values.items ≡ values_to (Q.known giver).number most) }
     ensures refusal { IfErr result (EndsRun most) }
 {
+    let queue = BlockingQueue::new(queue);
     let (taken, given) = both(rt, alloc, &queue, giver, taker, most);
     let (mut taker, values) = taken?;
     let mut giver = given?;

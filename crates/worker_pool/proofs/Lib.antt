@@ -1,3 +1,1 @@
-mod Seats
-mod Counts
-mod Pools
+mod Answered

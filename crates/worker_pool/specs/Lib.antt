@@ -1,1 +1,2 @@
-pub mod Teams
+pub mod Jobs
+pub mod Results

@@ -1,71 +1,42 @@
-//! The jobs: how many steps of "halve it where it is even, else triple it and add one" lead from a number to 1.
-ghost use Rattle.std.specs.Prelude.{◌≡◌, ◌+◌, ◌-◌, ◌^◌, min};
+//! The jobs: how many numbers divide a number.
+ghost use Rattle.std.specs.Prelude.{◌≡◌, ◌≤◌};
+ghost use Rattle.worker_pool.specs.Jobs as jobs;
 
-/// How many steps are tried.
-const MOST_STEPS: u32 = 1000;
+use tasks::Task;
 
-/// What a worker has found in its jobs.
-#[derive(Clone, Copy, Debug)]
-pub struct Found {
-    /// The number with the most steps, the least of several; 0 where no job was done.
+/// A number whose divisors are to be counted.
+#[derive(Drop)]
+pub struct Job {
     pub number: u64,
-    /// Its steps.
-    pub steps: u32,
-    /// How many jobs were done.
-    pub jobs: u64,
 }
 
-impl Found {
-    /// Nothing yet.
-    pub fn nothing() -> Found
-        ensures { result.jobs ≡ 0 }
-    {
-        Found {
-            number: 0,
-            steps: 0,
-            jobs: 0,
-        }
-    }
+/// Why a job fails: none does.
+#[derive(Clone, Copy, Debug)]
+pub struct Unfailing;
 
-    /// What is found in the job of this number alone.
-    pub fn of(number: u64) -> Found
-        ensures { result.jobs ≡ 1 }
-    {
-        Found {
-            number,
-            steps: steps_of(number),
-            jobs: 1,
-        }
-    }
+impl Task for Job {
+    ghost use Rattle.worker_pool.specs.Jobs.{IsCounted};
 
-    /// What both together found.
-    pub fn with(self, other: Found) -> Found
-        ensures { result.jobs ≡ min (self.jobs + other.jobs) (2 ^ 64 - 1) }
-    {
-        let jobs = self.jobs.saturating_add(other.jobs);
-        let before = self.steps == other.steps && self.number <= other.number;
-        let first = self.jobs > 0 && (self.steps > other.steps || before);
-        let best = if other.jobs == 0 || first {
-            self
-        } else {
-            other
-        };
-        Found { jobs, ..best }
+    type Output = u64;
+
+    type Error = Unfailing;
+
+    ghost answers = { IsCounted };
+
+    fn run(self) -> Result<u64, Unfailing> {
+        Ok(divisors_of(self.number))
     }
 }
 
-// The steps from a number to 1, so many at most.
-fn steps_of(number: u64) -> u32 {
-    let mut at = number;
-    for steps in 0..MOST_STEPS {
-        if at <= 1 {
-            return steps;
+/// How many of the numbers from 1 to this one divide it.
+fn divisors_of(number: u64) -> u64
+    ensures { result ≡ jobs.divisors_of number }
+{
+    let mut count = 0;
+    for below in 0..number {
+        if number % (below + 1) == 0 {
+            count += 1;
         }
-        at = if at % 2 == 0 {
-            at / 2
-        } else {
-            at.wrapping_mul(3).wrapping_add(1)
-        };
     }
-    MOST_STEPS
+    count
 }

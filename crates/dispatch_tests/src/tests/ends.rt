@@ -1,5 +1,6 @@
 //! How runs of `dispatch` end: by a shut, or without one where it is refused.
 ghost use Rattle.std.specs.List.{All};
+ghost use Rattle.history.specs.Closing.{AsksAny};
 
 use super::comparing::same;
 use super::gates::Open;
@@ -55,7 +56,8 @@ fn end_over<R: Threads + Wait + Sync, Q: Close + Sync + Drop>(
     count: u64,
     rule: Rule,
 ) -> Result<End, Refusal>
-    requires { All (Q.is_seat queue) seats.items }
+    requires seats { All (Q.is_seat queue) seats.items }
+    requires asked { AsksAny Q.asks queue }
 {
     let ends = AtomicU64::new(0);
     let planned = BlockingQueue::new(Planned::new(queue, Trouble::new(rule, &ends)));

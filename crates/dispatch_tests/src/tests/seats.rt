@@ -12,8 +12,8 @@ use std::alloc::Global;
 use std::sync::Wait;
 use std::thread::Threads;
 
-// These seats, where each may pop. Else `BadSize`.
-fn takers_of<Q: Fifo>(
+/// These seats, where each may pop. Else `BadSize`.
+pub fn takers_of<Q: Fifo>(
     alloc: Global,
     queue: &Q,
     seats: Vec<Q::Seat>,

@@ -1,0 +1,13 @@
+use Rattle.std.specs.Prelude.{◌≡◌, ◌+◌, ◌≤◌, ◌++◌, List, length, vec_len, vec_capacity}
+use Rattle.std.specs.List.{AllZip}
+use Rattle.blocking_queue.specs.Queues.{queue_of}
+use Rattle.dispatcher.specs.Crews.{Returned}
+use Rattle.dispatcher.proofs.crews.join_all.Given as goal
+
+abbrev pub invariant-loop-one : goal.invariant-loop-one
+invariant-loop-one g l =
+    let rest = l.one-iterator.rest.items in
+    (done : List _)
+    × (done ++ rest ≡ l.fn.started.items)
+    × AllZip (Returned g.Q.Fifo.is_seat g.Q.Fifo.known (queue_of l.fn.queue) l.fn.jobs) done l.workers.items
+    × (vec_len l.workers + length rest ≤ vec_capacity l.workers)

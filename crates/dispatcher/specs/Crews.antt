@@ -1,0 +1,40 @@
+-- A submitter and its workers.
+use Rattle.std.specs.Prelude.{◌≡◌, List, length, Result, Ok, Err}
+use Rattle.std.specs.Global.{Vec}
+use Rattle.std.specs.List.{AllZip}
+use Rattle.history.specs.declared.refusals.Refusal.TheVariants.{BadSize}
+use Rattle.history.specs.Seats.{Known}
+use Rattle.blocking_queue.specs.Queues.{queue_of}
+use Rattle.job_results.specs.declared.jobs.Job.{Job}
+use Rattle.dispatcher.specs.declared.running.Back.{Back}
+use Rattle.dispatcher.specs.declared.crews.JobsRun.{JobsRun}
+use Rattle.dispatcher.specs.declared.crews.Unrun.{Unrun}
+use Rattle.dispatcher.specs.declared.crews.Started.{Started}
+use Rattle.dispatcher.specs.declared.crews.Started.TheVariants.{Running, Unstarted}
+use Rattle.dispatcher.specs.Turns.{IsBack}
+use Rattle.dispatcher.specs.Submissions.{HasGiven}
+
+module _ {Q S : Type 0} (is_seat : Q → S → Type 0) (known : S → Known) (queue : Q) (jobs : List Job) where
+  -- a worker was started for this seat: it is to bring it back, or no thread could be made, and it brought it back
+  abbrev pub IsStartedFor : S → Started Q S → Type 0
+  IsStartedFor seat (Running handle) = (queue_of handle.promise.queue.now ≡ queue) × (handle.promise.jobs.now ≡ jobs) × (handle.promise.was.value ≡ seat)
+  IsStartedFor seat (Unstarted back) = IsBack is_seat known queue jobs seat back
+
+  -- whichever seat a worker was started for, this is what it brought back
+  abbrev pub Returned : Started Q S → Back S → Type 0
+  Returned started back = (seat : S) → IsStartedFor seat started → IsBack is_seat known queue jobs seat back
+
+-- the submitter pushed the jobs' numbers and shut the queue, or tells what it was refused; and each worker, in the order of their
+-- seats, brought its seat back, and the results of the jobs whose numbers it took
+pub record HasRun {Q S : Type 0} (is_seat : Q → S → Type 0) (known : S → Known) (queue : Q) (jobs : List Job) (giver : S) (takers : List S) (run : JobsRun S) : Type 0 where
+  pub given : HasGiven is_seat known queue (length jobs) giver run.giver
+  pub back : AllZip (IsBack is_seat known queue jobs) takers run.workers.items
+
+-- the seats came back as they were
+abbrev pub IsAsGiven : {S : Type 0} → S → Vec S → Unrun S → Type 0
+IsAsGiven giver takers unrun = (unrun.giver ≡ giver) × (unrun.takers ≡ takers)
+
+-- jobs were refused, since a size is out of its range
+abbrev pub IsRefusedSize : {S : Type 0} → Result (JobsRun S) (Unrun S) → Type 0
+IsRefusedSize (Ok run) = ⊥
+IsRefusedSize (Err unrun) = unrun.refusal ≡ BadSize
