@@ -30,8 +30,8 @@
 
 /* Bodies are below this number. */
 #define MSQ_BODIES ((uint64_t)1 << 48)
-/* The greatest limit, which asks for as much as so many nodes can have, and the greatest number of nodes. */
-#define MSQ_MOST_COUNT (((uint64_t)1 << 48) - 1)
+/* The greatest limit, which asks for as much as a queue can have, and the greatest number of nodes. */
+#define MSQ_MOST_COUNT (((uint64_t)1 << 62) - 1)
 #define MSQ_MOST_NODES UINT32_C(4294967294)
 
 #ifdef __cplusplus
@@ -41,7 +41,7 @@ extern "C" {
 /* What a call answers. Those up to 16 are the numbers of the queue's refusals; a worn word has a code of its own. */
 enum msq_code {
     MSQ_OK = 0,
-    MSQ_NO_NODE = 1,    /* a push: no node was free, and each was used */
+    MSQ_NO_NODE = 1,    /* a push: no node was free, and each was used; of MSQ_RING: it was full */
     MSQ_WORN_FREE = 2,  /* a push: Free's count is at the limit, and no node is taken from the free list any more */
     MSQ_WORN_OUT = MSQ_WORN_FREE, /* the same, by its older name */
     MSQ_BUSY = 3,       /* others were in the way in each of the turns: call again */
@@ -54,7 +54,7 @@ enum msq_code {
     MSQ_IN_USE = 35,    /* an msq_seat to be filled is full; or the queue to be closed has a further seat */
     MSQ_RACED = 36,     /* a close: the queue got a further seat meanwhile */
     MSQ_WORN_NEXT = 37, /* a push, at the limit 1 alone: the count of its node is at it; push again, by another node */
-    MSQ_WORN_TAIL = 38, /* Tail's count is at the limit: of MSQ_NON_BLOCKING, no push and no shut comes any more */
+    MSQ_WORN_TAIL = 38, /* Tail's count is at the limit: no push comes any more, and of MSQ_NON_BLOCKING no shut */
     MSQ_WORN_HEAD = 39, /* a pop: Head's count is at the limit: of MSQ_TWO_LOCK, no pop comes any more */
     MSQ_TWO_QUEUES = 40, /* misuse: the seats are of two queues */
     MSQ_TWO_CALLS = 41, /* misuse, told with MSQ_DEBUG: another call uses the seat */
@@ -84,8 +84,12 @@ enum msq_code {
 
 enum msq_kind {
     MSQ_NON_BLOCKING = 0, /* a thread that stops keeps no other from going on */
-    MSQ_TWO_LOCK = 1      /* a thread that stops within a call may keep others from pushing, or from popping */
+    MSQ_TWO_LOCK = 1,     /* a thread that stops within a call may keep others from pushing, or from popping */
+    MSQ_RING = 2          /* the fastest; a thread that stops within a push keeps others from popping */
 };
+
+/* So many places may a seat of MSQ_RING have in reserve: each push by such a place ends in two steps. */
+#define MSQ_RESERVE 32
 
 enum msq_role { MSQ_GIVER = 1, MSQ_TAKER = 2, MSQ_BOTH = 3 };
 
@@ -113,12 +117,13 @@ typedef struct msq_length {
     uint64_t most;
 } msq_length;
 
-/* How many pushes a queue has left at least, and how often the counts of three of its words can still be raised. */
+/* How many pushes a queue has left at least, and how often the counts of three of its words can still be raised; UINT64_MAX of
+ * one that doesn't wear. */
 typedef struct msq_remaining {
     uint64_t pushes;
-    uint64_t free; /* Free's: each node taken from the free list raises it, and each one given back */
-    uint64_t tail; /* Tail's: of MSQ_NON_BLOCKING each push raises it, of MSQ_TWO_LOCK nothing does */
-    uint64_t head; /* Head's: each value popped raises it */
+    uint64_t free; /* Free's: each node taken from the free list raises it, and each one given back. None wears of MSQ_RING */
+    uint64_t tail; /* Tail's: of MSQ_NON_BLOCKING and MSQ_RING each push raises it, of MSQ_TWO_LOCK nothing does */
+    uint64_t head; /* Head's: each value popped raises it. It doesn't wear of MSQ_RING */
 } msq_remaining;
 
 /*
@@ -127,6 +132,8 @@ typedef struct msq_remaining {
  * where that is less: take MSQ_MOST_COUNT, but for tests. Up to 65,534 nodes that is 2^48 - 1, enough for 2^48 pushes and
  * pops; docs/QUEUES.md has the others. An even limit may wear out with an empty free list: a push then answers
  * MSQ_NO_NODE for good, in place of MSQ_WORN_FREE. The greatest counts are odd.
+ * MSQ_RING is full at `nodes` values, of which MSQ_RESERVE - 1 more a seat may come; it has 32,767 seats at most. At least
+ * `limit` pushes are done before it wears out, up to 2^62 of them, less its places: no run comes there.
  * MSQ_OK; MSQ_IN_USE where one of the seats is full; else MSQ_BAD_SIZE where a number is out of its range, or there are
  * fewer seats than roles, or more; else MSQ_MEMORY. Refused, it changes no seat.
  */
@@ -135,8 +142,9 @@ uint32_t msq_create(uint32_t kind, uint32_t nodes, uint64_t limit, const uint8_t
 
 /*
  * Pushes a body, below MSQ_BODIES, in so many turns at most, 1 or more (8 is a good number).
- * MSQ_OK, MSQ_NO_NODE, MSQ_WORN_FREE, MSQ_BUSY, MSQ_CLOSED, MSQ_BAD_SIZE, MSQ_NO_SEAT or MSQ_NO_ROLE; of
- * MSQ_NON_BLOCKING also MSQ_WORN_NEXT or MSQ_WORN_TAIL. Refused, nothing was pushed.
+ * MSQ_OK, MSQ_NO_NODE, MSQ_BUSY, MSQ_CLOSED, MSQ_BAD_SIZE, MSQ_NO_SEAT or MSQ_NO_ROLE; of MSQ_NON_BLOCKING also
+ * MSQ_WORN_FREE, MSQ_WORN_NEXT or MSQ_WORN_TAIL, of MSQ_TWO_LOCK MSQ_WORN_FREE, of MSQ_RING MSQ_WORN_TAIL. Refused,
+ * nothing was pushed.
  */
 uint32_t msq_try_push(msq_seat *seat, uint64_t body, uint32_t turns);
 
@@ -149,29 +157,31 @@ uint32_t msq_try_pop(msq_seat *seat, uint32_t turns, msq_value *value);
 
 /*
  * Shuts the queue: no push comes after it, and what is in the queue stays to be popped. The seat is one that may push.
- * MSQ_OK, MSQ_BUSY, MSQ_CLOSED where it was shut before, MSQ_BAD_SIZE, MSQ_NO_SEAT or MSQ_NO_ROLE; of MSQ_NON_BLOCKING
- * also MSQ_WORN_TAIL.
+ * MSQ_OK, MSQ_BUSY but of MSQ_RING, MSQ_CLOSED where it was shut before, MSQ_BAD_SIZE, MSQ_NO_SEAT or MSQ_NO_ROLE; of
+ * MSQ_NON_BLOCKING also MSQ_WORN_TAIL.
  */
 uint32_t msq_try_shut(msq_seat *seat, uint32_t turns);
 
 /*
  * Whether the queue holds a value, as it was at a moment of this call, by any seat: the code is that of a pop there, which
  * isn't made. MSQ_OK where it holds one; MSQ_EMPTY where it is empty, MSQ_CLOSED where it is shut too, so that nothing comes
- * any more; MSQ_BUSY where pops took effect meanwhile: look again. MSQ_NO_SEAT.
+ * any more; MSQ_BUSY where pops took effect meanwhile, or where a MSQ_RING is shut and the push at its front, done or refused,
+ * hasn't ended: look again. MSQ_NO_SEAT.
  */
 uint32_t msq_emptiness(msq_seat *seat);
 
 /*
  * Writes bounds of how many values the queue held at a moment of this call, by any seat. They are one number where no push
- * or pop took effect meanwhile. MSQ_OK; MSQ_UNCOUNTED of MSQ_TWO_LOCK, whose Tail counts no pushes; MSQ_NO_SEAT. Refused,
- * it writes nothing.
+ * or pop took effect meanwhile, but of a MSQ_RING that is shut, where MSQ_RESERVE a seat may lie between them. MSQ_OK;
+ * MSQ_UNCOUNTED of MSQ_TWO_LOCK, whose Tail counts no pushes; MSQ_NO_SEAT. Refused, it writes nothing.
  */
 uint32_t msq_len(msq_seat *seat, msq_length *length);
 
 /*
  * Writes how many pushes are left at least until a word wears out, by any seat: while fewer pushes are called, done or
  * refused, those under way too, no call is answered MSQ_WORN_FREE, MSQ_WORN_TAIL or MSQ_WORN_HEAD, nor MSQ_NO_NODE for good.
- * More may be left, about as many as there are nodes. MSQ_OK or MSQ_NO_SEAT; refused, it writes nothing.
+ * More may be left, about as many as there are nodes, or of MSQ_RING places in reserve. MSQ_OK or MSQ_NO_SEAT; refused, it
+ * writes nothing.
  */
 uint32_t msq_left(msq_seat *seat, msq_remaining *left);
 
@@ -183,9 +193,10 @@ uint32_t msq_meet(msq_seat *one, msq_seat *other);
 
 /*
  * Ends the queue of these seats, which are all of its seats that were not dropped, and empties them. The values left, from
- * the front, go to `values`, as many as have room there; nodes - 1 is room for all.
+ * the front, go to `values`, as many as have room there; msq_room_for tells how much is enough for all.
  * MSQ_OK; MSQ_TWO_QUEUES where they are not all of one queue, MSQ_BAD_SIZE where there is no seat, MSQ_NO_SEAT where one is
- * empty, MSQ_IN_USE where the queue has a further seat, or MSQ_MEMORY: each seat is then as it was. MSQ_RACED where the
+ * empty, MSQ_IN_USE where the queue has a further seat or, of MSQ_RING, had one that was dropped: it isn't closed then, but
+ * dropped; or MSQ_MEMORY: each seat is then as it was. MSQ_RACED where the
  * queue got a further seat while it was closed: all seats are then empty, and the queue goes on without them. No call gives
  * a queue a further seat, so this comes only where a duty above wasn't kept. Refused, it writes nothing.
  */
@@ -200,11 +211,34 @@ void msq_drop(msq_seat *seat);
 #define MSQ_INLINE static inline
 #endif
 
+/* Room for all values that a queue of this kind may hold, with so many nodes and seats. */
+MSQ_INLINE size_t msq_room_for(uint32_t kind, uint32_t nodes, size_t seats_len);
+
 /* What a code says in a few words, as "the queue is shut"; of another number "no such code". */
 MSQ_INLINE const char *msq_strerror(uint32_t code);
 
 /* The name of a code, as "MSQ_CLOSED"; of another number "no such code". */
 MSQ_INLINE const char *msq_code_name(uint32_t code);
+
+/* The name of a kind, as "non-blocking"; of another number "no such kind". */
+MSQ_INLINE const char *msq_kind_name(uint32_t kind);
+
+MSQ_INLINE size_t msq_room_for(uint32_t kind, uint32_t nodes, size_t seats_len) {
+    return kind == MSQ_RING ? nodes + MSQ_RESERVE * seats_len : nodes;
+}
+
+MSQ_INLINE const char *msq_kind_name(uint32_t kind) {
+    switch (kind) {
+    case MSQ_NON_BLOCKING:
+        return "non-blocking";
+    case MSQ_TWO_LOCK:
+        return "two-lock";
+    case MSQ_RING:
+        return "ring";
+    default:
+        return "no such kind";
+    }
+}
 
 #define MSQ_SAYS(code, text)                                                                                           \
     case code:                                                                                                         \

@@ -16,15 +16,15 @@
 
 namespace msq {
 
-enum class kind : uint32_t { non_blocking = MSQ_NON_BLOCKING, two_lock = MSQ_TWO_LOCK };
+enum class kind : uint32_t { non_blocking = MSQ_NON_BLOCKING, two_lock = MSQ_TWO_LOCK, ring = MSQ_RING };
 enum class role : uint8_t { giver = MSQ_GIVER, taker = MSQ_TAKER, both = MSQ_BOTH };
 
 namespace detail {
 
-// What the seats of a queue share: what their calls sleep on, and how many nodes it has.
+// What the seats of a queue share: what their calls sleep on, and how many values it may hold.
 struct shared {
     msq_bells bells{};
-    size_t nodes = 0;
+    size_t room = 0;
 };
 
 // A time in nanoseconds; a hundred years are as long as it takes.
@@ -149,7 +149,7 @@ inline std::pair<msq_code, std::vector<seat>> create(kind kind, uint32_t nodes, 
     std::vector<msq_seat> raw(roles.size());
     std::vector<seat> seats(roles.size());
     auto shared = std::make_shared<detail::shared>();
-    shared->nodes = nodes;
+    shared->room = msq_room_for(static_cast<uint32_t>(kind), nodes, roles.size());
     auto code = static_cast<msq_code>(msq_create(static_cast<uint32_t>(kind), nodes, limit,
                                                  reinterpret_cast<const uint8_t *>(roles.data()), roles.size(),
                                                  raw.data(), raw.size()));
@@ -192,7 +192,7 @@ inline closed close(std::vector<seat> &seats, size_t room) {
 // The same with room for all values that the queue may hold.
 inline closed close(std::vector<seat> &seats) {
     auto one = std::find_if(seats.begin(), seats.end(), [](const seat &it) { return it.shared_ != nullptr; });
-    return close(seats, one != seats.end() ? one->shared_->nodes : 0);
+    return close(seats, one != seats.end() ? one->shared_->room : 0);
 }
 
 } // namespace msq

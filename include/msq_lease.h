@@ -38,10 +38,32 @@ typedef struct msq_queue {
     uint8_t *roles;      /* of each place the role of its seat */
     uint8_t *free_roles; /* the same, and 0 while the seat is leased */
     size_t count;
-    uint32_t nodes;
+    size_t room; /* for all values that the queue may hold */
     void *block; /* the memory of the places, the first of which begins with a line of the cache */
     msq_bells bells;
 } msq_queue;
+
+/*
+ * Makes a queue as msq_create does, with a seat for each role, which may be leased.
+ * MSQ_OK; MSQ_IN_USE where there is a queue already; else MSQ_BAD_SIZE or MSQ_MEMORY, and there is none.
+ */
+MSQ_INLINE uint32_t msq_queue_create(msq_queue *queue, uint32_t kind, uint32_t nodes, uint64_t limit, const uint8_t *roles,
+                                     size_t roles_len);
+
+/* A seat of this role, until msq_release; none, NULL, where each such seat was found leased. */
+MSQ_INLINE msq_seat *msq_lease(msq_queue *queue, uint32_t role);
+
+/* Gives a leased seat of this queue back; of NULL nothing. */
+MSQ_INLINE void msq_release(msq_queue *queue, msq_seat *seat);
+
+/*
+ * Ends the queue as msq_close does, by all its seats: there is none afterwards.
+ * MSQ_OK; MSQ_NO_SEAT where there is none, MSQ_IN_USE where a seat is leased, or MSQ_MEMORY: it is then as it was.
+ */
+MSQ_INLINE uint32_t msq_queue_close(msq_queue *queue, msq_value *values, size_t values_len, msq_rest *rest);
+
+/* Drops all seats of a queue, none of which is leased: there is none afterwards. */
+MSQ_INLINE void msq_queue_drop(msq_queue *queue);
 
 /* Gives back the memory of the places. */
 MSQ_INLINE void msq_queue_free(msq_queue *queue) {
@@ -67,10 +89,6 @@ MSQ_INLINE bool msq_queue_room(msq_queue *queue, const uint8_t *roles, size_t co
     return true;
 }
 
-/*
- * Makes a queue as msq_create does, with a seat for each role, which may be leased.
- * MSQ_OK; MSQ_IN_USE where there is a queue already; else MSQ_BAD_SIZE or MSQ_MEMORY, and there is none.
- */
 MSQ_INLINE uint32_t msq_queue_create(msq_queue *queue, uint32_t kind, uint32_t nodes, uint64_t limit,
                                      const uint8_t *roles, size_t roles_len) {
     if (queue->places != NULL) {
@@ -90,7 +108,7 @@ MSQ_INLINE uint32_t msq_queue_create(msq_queue *queue, uint32_t kind, uint32_t n
     if (code != MSQ_OK) {
         msq_queue_free(queue);
     }
-    queue->nodes = nodes;
+    queue->room = msq_room_for(kind, nodes, roles_len);
     free(seats);
     return code;
 }
@@ -102,7 +120,6 @@ MSQ_INLINE bool msq_lease_at(msq_queue *queue, size_t place) {
            __atomic_compare_exchange_n(&queue->free_roles[place], &role, 0, false, __ATOMIC_SEQ_CST, __ATOMIC_SEQ_CST);
 }
 
-/* A seat of this role, until msq_release; none, NULL, where each such seat was found leased. */
 MSQ_INLINE msq_seat *msq_lease(msq_queue *queue, uint32_t role) {
     for (size_t place = 0; place < queue->count; place++) {
         if (queue->roles[place] == role && msq_lease_at(queue, place)) {
@@ -112,7 +129,6 @@ MSQ_INLINE msq_seat *msq_lease(msq_queue *queue, uint32_t role) {
     return NULL;
 }
 
-/* Gives a leased seat of this queue back; of NULL nothing. */
 MSQ_INLINE void msq_release(msq_queue *queue, msq_seat *seat) {
     if (seat != NULL) {
         size_t place = (size_t)((struct msq_place *)(void *)seat - queue->places);
@@ -135,10 +151,6 @@ MSQ_INLINE bool msq_lease_all(msq_queue *queue) {
     return false;
 }
 
-/*
- * Ends the queue as msq_close does, by all its seats: there is none afterwards.
- * MSQ_OK; MSQ_NO_SEAT where there is none, MSQ_IN_USE where a seat is leased, or MSQ_MEMORY: it is then as it was.
- */
 MSQ_INLINE uint32_t msq_queue_close(msq_queue *queue, msq_value *values, size_t values_len, msq_rest *rest) {
     if (queue->places == NULL) {
         return MSQ_NO_SEAT;
@@ -168,7 +180,6 @@ MSQ_INLINE uint32_t msq_queue_close(msq_queue *queue, msq_value *values, size_t 
     return code;
 }
 
-/* Drops all seats of a queue, none of which is leased: there is none afterwards. */
 MSQ_INLINE void msq_queue_drop(msq_queue *queue) {
     for (size_t place = 0; place < queue->count; place++) {
         msq_drop(&queue->places[place].seat);

@@ -112,7 +112,7 @@ public:
     }
 
     // The same with room for all values that the queue may hold.
-    closed close() { return close(home_ ? home_->nodes : 0); }
+    closed close() { return close(home_ ? home_->room : 0); }
 
 private:
     std::shared_ptr<msq_queue> home_;

@@ -23,7 +23,7 @@ typedef void (*msq_free_one)(void *object, void *context);
 
 /*
  * Makes a queue, all zeros before, with room for `capacity` pointers, and seats for `threads` threads that call it at one time,
- * up to 65,535. More may find room, as many as there are seats at most.
+ * up to 65,535, or 32,767 of MSQ_RING. More may find room: as many as there are seats at most, of MSQ_RING MSQ_RESERVE a seat.
  * MSQ_OK; MSQ_IN_USE where there is a queue already; else MSQ_BAD_SIZE or MSQ_MEMORY, and there is none.
  */
 MSQ_INLINE uint32_t msq_queue_open(msq_queue *queue, uint32_t kind, uint32_t capacity, uint16_t threads);
@@ -105,7 +105,8 @@ MSQ_INLINE uint32_t msq_queue_open(msq_queue *queue, uint32_t kind, uint32_t cap
         for (size_t place = 0; place < threads; place++) {
             roles[place] = MSQ_BOTH;
         }
-        code = msq_queue_create(queue, kind, capacity + 1 + threads, MSQ_MOST_COUNT, roles, threads);
+        const uint32_t nodes = kind == MSQ_RING ? capacity + 1 : capacity + 1 + threads;
+        code = msq_queue_create(queue, kind, nodes, MSQ_MOST_COUNT, roles, threads);
         free(roles);
     }
     return code;
@@ -196,9 +197,9 @@ MSQ_INLINE uint32_t msq_queue_left(msq_queue *queue, msq_remaining *left) {
 MSQ_INLINE uint32_t msq_destroy_worn(msq_queue *queue, msq_free_one free_one, void *context) {
     msq_rest rest = {0, 0, false, false};
     uint32_t code = MSQ_MEMORY;
-    msq_value *values = (msq_value *)calloc(queue->nodes, sizeof *values);
+    msq_value *values = (msq_value *)calloc(queue->room, sizeof *values);
     if (values != NULL) {
-        code = msq_queue_close(queue, values, queue->nodes, &rest);
+        code = msq_queue_close(queue, values, queue->room, &rest);
         for (uint64_t k = 0; code == MSQ_OK && free_one != NULL && k < rest.left; k++) {
             free_one((void *)(uintptr_t)values[k].body, context);
         }

@@ -1,8 +1,9 @@
-// A queue of values of any type for C++14 and later, over the queues of pointers of msq_queue.h.
+// A queue of values of any type for C++14 and later, over the queues of pointers of msq_queue.h and of words of msq_words.h.
 //
-// Any thread calls it, as often as it likes: no thread has a seat of its own. A value is moved in and moved out: a small one that
-// is trivially copyable lies in the queue itself, any other in a box. Values of one thread come out in its order, each once, and
-// what is left is destroyed with the queue. Only tested, as all of msq_queue.h.
+// Any thread calls it, as often as it likes: no thread has a seat of its own. A value is moved in and moved out: one of up to 24
+// bytes that may be moved by its bytes, as a number, a pointer or a unique_ptr, lies in the queue itself; any other is in a box.
+// Values of one thread come out in its order, each once, and what is left is destroyed with the queue. Only tested, as all of
+// msq_queue.h.
 //
 //     msq::queue<std::string> queue(1000);
 //     queue.push("a string");           // sleeps while the queue is full
@@ -16,7 +17,7 @@
 #define MSQ_QUEUE_HPP
 
 #include "msq.hpp"
-#include "msq_queue.h"
+#include "msq_words.h"
 
 #include <cstring>
 #include <iterator>
@@ -31,53 +32,116 @@
 
 namespace msq {
 
+// Whether a value may be moved by its bytes alone, as if what is left of it were not there. Specialize it for a type of yours.
+template <class T> struct is_trivially_relocatable : std::is_trivially_copyable<T> {};
+template <class T> struct is_trivially_relocatable<std::unique_ptr<T>> : std::true_type {};
+template <class T> struct is_trivially_relocatable<std::shared_ptr<T>> : std::true_type {};
+
 namespace detail {
 
-// Whether a value lies in the queue: in 6 bytes, all that a body has.
+// Whether a value lies in a queue of words.
 template <class T>
-struct lies_in_place : std::integral_constant<bool, std::is_trivially_copyable<T>::value &&
-                                                        std::is_default_constructible<T>::value && sizeof(T) <= 6> {};
+struct lies_in_place : std::integral_constant<bool, is_trivially_relocatable<T>::value &&
+                                                        sizeof(T) <= sizeof(msq_words) && alignof(T) <= alignof(msq_words)> {};
 
-// How a value becomes a pointer of the queue, and a value again.
-template <class T, bool in_place = lies_in_place<T>::value> struct passed;
-
-template <class T> struct passed<T, true> {
-    // The value as a pointer, the low bytes of which it is.
-    static void *out(T &value) noexcept {
-        uintptr_t bits = 0;
-        std::memcpy(&bits, &value, sizeof value);
-        return reinterpret_cast<void *>(bits);
-    }
-    static void back(T &, void *) noexcept {}
-    static void in(void *object, T &value) noexcept {
-        const auto bits = reinterpret_cast<uintptr_t>(object);
-        std::memcpy(&value, &bits, sizeof value);
-    }
-    template <class Use> static void with(void *object, Use use) {
-        T value;
-        in(object, value);
-        use(std::move(value));
-    }
-    static void destroy(void *, void *) noexcept {}
+// How long a push or a pop may sleep: none, or so many nanoseconds.
+struct patience {
+    bool waits;
+    uint64_t ns;
 };
 
-template <class T> struct passed<T, false> {
-    // None where there is no memory.
-    static void *out(T &value) { return new (std::nothrow) T(std::move(value)); }
-    // A push that was refused.
-    static void back(T &value, void *object) {
-        std::unique_ptr<T> box(static_cast<T *>(object));
-        value = std::move(*box);
+// Values that pass as the words that their bytes are.
+template <class T> struct by_words {
+    static uint32_t open(msq_queue *home, uint32_t, uint32_t capacity, uint16_t threads) noexcept {
+        return msq_words_open(home, capacity, threads);
     }
-    static void in(void *object, T &value) {
-        std::unique_ptr<T> box(static_cast<T *>(object));
-        value = std::move(*box);
+
+    // The value stays where it isn't pushed; else its bytes are the queue's.
+    static uint32_t push(msq_queue *home, T &value, patience how) {
+        alignas(T) unsigned char raw[sizeof(T)];
+        T *moved = new (raw) T(std::move(value));
+        msq_words words{};
+        std::memcpy(&words, raw, sizeof raw);
+        const uint32_t code = how.waits ? msq_words_queue_push_wait_for(home, &words, how.ns)
+                                        : msq_words_queue_push(home, &words);
+        if (code != MSQ_OK) {
+            value = std::move(*moved);
+            moved->~T();
+        }
+        return code;
     }
-    template <class Use> static void with(void *object, Use use) {
-        std::unique_ptr<T> box(static_cast<T *>(object));
-        use(std::move(*box));
+
+    template <class Use> static uint32_t pop(msq_queue *home, patience how, Use use) {
+        msq_words words{};
+        const uint32_t code = how.waits ? msq_words_queue_pop_wait_for(home, &words, how.ns)
+                                        : msq_words_queue_pop(home, &words);
+        if (code == MSQ_OK) {
+            let_go(words, use);
+        }
+        return code;
     }
-    static void destroy(void *object, void *) noexcept { delete static_cast<T *>(object); }
+
+    static uint32_t shut(msq_queue *home) noexcept { return msq_words_queue_shut(home); }
+    static void destroy(msq_queue *home) noexcept { msq_words_destroy(home, destroy_one, nullptr); }
+    static uint32_t emptiness(msq_queue *) noexcept { return MSQ_UNCOUNTED; }
+    static uint32_t len(msq_queue *, msq_length *) noexcept { return MSQ_UNCOUNTED; }
+    static uint32_t left(msq_queue *, msq_remaining *) noexcept { return MSQ_UNCOUNTED; }
+
+private:
+    // The value with these bytes, which ends once it was used.
+    template <class Use> static void let_go(const msq_words &words, Use use) {
+        struct held {
+            alignas(T) unsigned char raw[sizeof(T)];
+            T &value() noexcept { return *reinterpret_cast<T *>(raw); }
+            ~held() { value().~T(); }
+        };
+        held it;
+        std::memcpy(it.raw, &words, sizeof it.raw);
+        use(std::move(it.value()));
+    }
+    static void destroy_one(const msq_words *words, void *) noexcept {
+        let_go(*words, [](T &&) {});
+    }
+};
+
+// Values that pass in boxes, by their addresses.
+template <class T> struct by_boxes {
+    static uint32_t open(msq_queue *home, uint32_t kind, uint32_t capacity, uint16_t threads) noexcept {
+        return msq_queue_open(home, kind, capacity, threads);
+    }
+
+    static uint32_t push(msq_queue *home, T &value, patience how) {
+        std::unique_ptr<T> box(new (std::nothrow) T(std::move(value)));
+        if (box == nullptr) {
+            return MSQ_MEMORY;
+        }
+        const uint32_t code = how.waits ? msq_queue_push_wait_for(home, box.get(), how.ns) : msq_queue_push(home, box.get());
+        if (code == MSQ_OK) {
+            box.release();
+        } else {
+            value = std::move(*box);
+        }
+        return code;
+    }
+
+    template <class Use> static uint32_t pop(msq_queue *home, patience how, Use use) {
+        void *object = nullptr;
+        const uint32_t code = how.waits ? msq_queue_pop_wait_for(home, &object, how.ns) : msq_queue_pop(home, &object);
+        std::unique_ptr<T> box(static_cast<T *>(object));
+        if (box != nullptr) {
+            use(std::move(*box));
+        }
+        return code;
+    }
+
+    static uint32_t shut(msq_queue *home) noexcept { return msq_queue_shut(home); }
+    static void destroy(msq_queue *home) noexcept { msq_destroy(home, destroy_one, nullptr); }
+    static uint32_t emptiness(msq_queue *home) noexcept { return msq_queue_emptiness(home); }
+    static uint32_t len(msq_queue *home, msq_length *length) noexcept { return msq_queue_len(home, length); }
+    static uint32_t left(msq_queue *home, msq_remaining *left) noexcept { return msq_queue_left(home, left); }
+
+private:
+    static void destroy_one(void *object, void *) noexcept { delete static_cast<T *>(object); }
 };
 
 } // namespace detail
@@ -94,14 +158,15 @@ private:
 };
 #endif
 
-// A queue of values. It may be moved while no other call uses it.
+// A queue of values. It may be moved while no other call uses it. One whose values lie in it is non-blocking, and can't be looked
+// at: its looks answer MSQ_UNCOUNTED.
 template <class T> class queue {
-    using passed = detail::passed<T>;
-    static constexpr bool boxed = !detail::lies_in_place<T>::value;
+    using passed = std::conditional_t<detail::lies_in_place<T>::value, detail::by_words<T>, detail::by_boxes<T>>;
+    using patience = detail::patience;
 
     struct ender {
         void operator()(msq_queue *home) const noexcept {
-            msq_destroy(home, passed::destroy, nullptr);
+            passed::destroy(home);
             delete home;
         }
     };
@@ -121,11 +186,10 @@ public:
     static std::pair<msq_code, queue> create(uint32_t capacity, kind kind = kind::non_blocking,
                                              uint16_t threads = usual_threads) noexcept {
         queue made;
-        made.home_.reset(new (std::nothrow) msq_queue{});
         auto code = MSQ_MEMORY;
+        made.home_.reset(new (std::nothrow) msq_queue{});
         if (made.home_ != nullptr) {
-            code = static_cast<msq_code>(
-                msq_queue_open(made.home_.get(), static_cast<uint32_t>(kind), capacity, threads));
+            code = static_cast<msq_code>(passed::open(made.home_.get(), static_cast<uint32_t>(kind), capacity, threads));
         }
         return {code, code == MSQ_OK ? std::move(made) : queue()};
     }
@@ -134,52 +198,49 @@ public:
 
     // Pushes a value, which stays as it was unless it answers MSQ_OK: MSQ_NO_NODE where the queue is full, MSQ_CLOSED,
     // MSQ_BUSY, MSQ_MEMORY where there is none for a box, or a worn word.
-    msq_code try_push(T &&value) {
-        return pushed(value, [&](void *object) { return msq_queue_push(home_.get(), object); });
-    }
+    msq_code try_push(T &&value) { return give(value, {false, 0}); }
     msq_code try_push(const T &value) {
         T copy(value);
         return try_push(std::move(copy));
     }
 
     // The same, and sleeps while the queue is full: as long as it takes, or for some time.
-    msq_code push_wait(T &&value) {
-        return pushed(value, [&](void *object) { return msq_queue_push_wait(home_.get(), object); });
-    }
+    msq_code push_wait(T &&value) { return give(value, {true, MSQ_FOREVER}); }
     msq_code push_wait(const T &value) {
         T copy(value);
         return push_wait(std::move(copy));
     }
     template <class Rep, class Period> msq_code push_wait_for(T &&value, std::chrono::duration<Rep, Period> time) {
-        return pushed(value, [&](void *object) {
-            return msq_queue_push_wait_for(home_.get(), object, detail::nanoseconds(time));
-        });
+        return give(value, {true, detail::nanoseconds(time)});
     }
 
     // Pops the value at the front into `value`, which stays as it was unless it answers MSQ_OK: MSQ_EMPTY, MSQ_CLOSED where the
     // queue is closed and empty, MSQ_BUSY, or a worn word.
-    msq_code try_pop(T &value) {
-        return popped([&](void **object) { return msq_queue_pop(home_.get(), object); },
-                      [&](void *object) { passed::in(object, value); });
-    }
+    msq_code try_pop(T &value) { return take_into(value, {false, 0}); }
 
     // The same, and sleeps while the queue is empty: as long as it takes, or for some time.
-    msq_code pop_wait(T &value) {
-        return popped([&](void **object) { return msq_queue_pop_wait(home_.get(), object); },
-                      [&](void *object) { passed::in(object, value); });
-    }
+    msq_code pop_wait(T &value) { return take_into(value, {true, MSQ_FOREVER}); }
     template <class Rep, class Period> msq_code pop_wait_for(T &value, std::chrono::duration<Rep, Period> time) {
-        return popped(
-            [&](void **object) { return msq_queue_pop_wait_for(home_.get(), object, detail::nanoseconds(time)); },
-            [&](void *object) { passed::in(object, value); });
+        return take_into(value, {true, detail::nanoseconds(time)});
+    }
+
+    // Pops the value at the front, where there is one, and hands it to `use`: whether there was. It doesn't sleep.
+    template <class Use> bool consume_one(Use &&use) { return consumed(use) == MSQ_OK; }
+
+    // Hands one value after another to `use`, until the queue is found empty: how many there were. It doesn't sleep.
+    template <class Use> size_t consume_all(Use &&use) {
+        size_t count = 0;
+        while (consumed(use) == MSQ_OK) {
+            count++;
+        }
+        return count;
     }
 
 #if __cplusplus >= 201703L
     // The value at the front; none where there is none, whatever the code.
     std::optional<T> try_pop() {
         std::optional<T> value;
-        popped([&](void **object) { return msq_queue_pop(home_.get(), object); },
-               [&](void *object) { passed::with(object, [&](T &&it) { value.emplace(std::move(it)); }); });
+        take({false, 0}, [&](T &&it) { value.emplace(std::move(it)); });
         return value;
     }
 #endif
@@ -187,20 +248,20 @@ public:
     // No value is pushed behind it, and what is in the queue stays to be popped; all that sleep are woken. MSQ_CLOSED where it
     // was closed before.
     msq_code close() noexcept {
-        return home_ ? static_cast<msq_code>(msq_queue_shut(home_.get())) : MSQ_NO_SEAT;
+        return answer([&] { return passed::shut(home_.get()); });
     }
 
     // MSQ_OK where the queue holds a value, else MSQ_EMPTY, MSQ_CLOSED or MSQ_BUSY.
     msq_code emptiness() noexcept {
-        return home_ ? static_cast<msq_code>(msq_queue_emptiness(home_.get())) : MSQ_NO_SEAT;
+        return answer([&] { return passed::emptiness(home_.get()); });
     }
     // The bounds are there exactly at MSQ_OK: MSQ_UNCOUNTED of the two-lock queue.
     msq_code len(msq_length &length) noexcept {
-        return home_ ? static_cast<msq_code>(msq_queue_len(home_.get(), &length)) : MSQ_NO_SEAT;
+        return answer([&] { return passed::len(home_.get(), &length); });
     }
     // How many pushes are left, exactly at MSQ_OK.
     msq_code left(msq_remaining &left) noexcept {
-        return home_ ? static_cast<msq_code>(msq_queue_left(home_.get(), &left)) : MSQ_NO_SEAT;
+        return answer([&] { return passed::left(home_.get(), &left); });
     }
 
 #if defined(__cpp_exceptions)
@@ -217,9 +278,9 @@ public:
 
     // Pops the value at the front, and sleeps while the queue is empty. Throws refused, with MSQ_CLOSED or a worn word.
     T pop() {
-        void *object = nullptr;
-        check(home_ ? static_cast<msq_code>(msq_queue_pop_wait(home_.get(), &object)) : MSQ_NO_SEAT);
-        return taken(object);
+        slot found;
+        check(take({true, MSQ_FOREVER}, [&](T &&it) { found.fill(std::move(it)); }));
+        return std::move(found.value());
     }
 
     // Pops values one by one, and sleeps while there is none, until the queue is closed and empty.
@@ -248,11 +309,12 @@ public:
         explicit iterator(queue *from) : from_(from) { next(); }
 
         void next() {
-            value_.reset();
-            const auto code = from_->popped([&](void **object) { return msq_queue_pop_wait(from_->home_.get(), object); },
-                                            [&](void *object) {
-                                                passed::with(object, [&](T &&it) { value_.reset(new T(std::move(it))); });
-                                            });
+            const auto code = from_->take({true, MSQ_FOREVER}, [&](T &&it) {
+                value_ ? void(*value_ = std::move(it)) : value_.reset(new T(std::move(it)));
+            });
+            if (code != MSQ_OK) {
+                value_.reset();
+            }
             if (code != MSQ_OK && code != MSQ_CLOSED) {
                 throw refused(code);
             }
@@ -267,34 +329,50 @@ public:
 #endif
 
 private:
-    template <class Push> msq_code pushed(T &value, Push push) {
-        if (!home_) {
-            return MSQ_NO_SEAT;
-        }
-        void *object = passed::out(value);
-        if (boxed && object == nullptr) {
-            return MSQ_MEMORY;
-        }
-        const auto code = static_cast<msq_code>(push(object));
-        if (code != MSQ_OK) {
-            passed::back(value, object);
+    template <class Call> msq_code answer(Call call) noexcept {
+        return home_ ? static_cast<msq_code>(call()) : MSQ_NO_SEAT;
+    }
+    msq_code give(T &value, patience how) {
+        return home_ ? static_cast<msq_code>(passed::push(home_.get(), value, how)) : MSQ_NO_SEAT;
+    }
+    template <class Use> msq_code take(patience how, Use use) {
+        return home_ ? static_cast<msq_code>(passed::pop(home_.get(), how, use)) : MSQ_NO_SEAT;
+    }
+    // Where others are in the way it tries again.
+    template <class Use> msq_code consumed(Use &use) {
+        msq_code code = MSQ_BUSY;
+        while (code == MSQ_BUSY) {
+            code = take({false, 0}, [&](T &&it) { use(std::move(it)); });
         }
         return code;
     }
-
-    template <class Pop, class Use> msq_code popped(Pop pop, Use use) {
-        if (!home_) {
-            return MSQ_NO_SEAT;
-        }
-        void *object = nullptr;
-        const auto code = static_cast<msq_code>(pop(&object));
-        if (code == MSQ_OK) {
-            use(object);
-        }
-        return code;
+    msq_code take_into(T &value, patience how) {
+        return take(how, [&](T &&it) { value = std::move(it); });
     }
 
 #if defined(__cpp_exceptions)
+    // Room for a value.
+    class slot {
+    public:
+        slot() noexcept = default;
+        slot(const slot &) = delete;
+        slot &operator=(const slot &) = delete;
+        ~slot() {
+            if (full_) {
+                value().~T();
+            }
+        }
+        void fill(T &&it) {
+            new (raw_) T(std::move(it));
+            full_ = true;
+        }
+        T &value() noexcept { return *reinterpret_cast<T *>(raw_); }
+
+    private:
+        alignas(T) unsigned char raw_[sizeof(T)];
+        bool full_ = false;
+    };
+
     static void check(msq_code code) {
         if (code != MSQ_OK) {
             throw refused(code);
@@ -303,16 +381,6 @@ private:
     static queue made(std::pair<msq_code, queue> answer) {
         check(answer.first);
         return std::move(answer.second);
-    }
-    static T taken(void *object) { return taken(object, detail::lies_in_place<T>()); }
-    static T taken(void *object, std::true_type) {
-        T value;
-        passed::in(object, value);
-        return value;
-    }
-    static T taken(void *object, std::false_type) {
-        std::unique_ptr<T> box(static_cast<T *>(object));
-        return std::move(*box);
     }
 #endif
 

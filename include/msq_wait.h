@@ -30,7 +30,7 @@ extern long syscall(long number, ...);
 
 /* How often a call looks before it sleeps, and the turns of each look. */
 #ifndef MSQ_LOOKS
-#define MSQ_LOOKS 11
+#define MSQ_LOOKS 16
 #endif
 #define MSQ_TURNS 64
 

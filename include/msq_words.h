@@ -246,8 +246,8 @@ MSQ_INLINE uint32_t msq_words_open(msq_queue *queue, uint32_t capacity, uint16_t
         roles[place] = MSQ_BOTH;
     }
     if (seats != NULL && roles != NULL && msq_queue_room(queue, roles, threads)) {
-        queue->nodes = capacity + 1 + threads;
-        code = msq_words_create(queue->nodes, MSQ_MOST_COUNT, roles, threads, seats, threads);
+        queue->room = capacity + 1 + threads;
+        code = msq_words_create(capacity + 1 + threads, MSQ_MOST_COUNT, roles, threads, seats, threads);
     }
     for (size_t place = 0; code == MSQ_OK && place < threads; place++) {
         queue->places[place].seat = seats[place].seat;
@@ -264,13 +264,13 @@ MSQ_INLINE uint32_t msq_words_open(msq_queue *queue, uint32_t capacity, uint16_t
 MSQ_INLINE uint32_t msq_words_destroy_worn(msq_queue *queue, msq_free_words free_one, void *context) {
     msq_rest rest = {0, 0, false, false};
     uint32_t code = MSQ_MEMORY;
-    msq_item *items = (msq_item *)calloc(queue->nodes, sizeof *items);
+    msq_item *items = (msq_item *)calloc(queue->room, sizeof *items);
     msq_words_seat *seats = (msq_words_seat *)calloc(queue->count, sizeof *seats);
     if (items != NULL && seats != NULL) {
         for (size_t place = 0; place < queue->count; place++) {
             seats[place].seat = queue->places[place].seat;
         }
-        code = msq_checked_words_close(seats, queue->count, items, queue->nodes, &rest);
+        code = msq_checked_words_close(seats, queue->count, items, queue->room, &rest);
         for (size_t place = 0; place < queue->count; place++) {
             queue->places[place].seat = seats[place].seat;
         }

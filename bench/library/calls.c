@@ -1,5 +1,5 @@
 /* Times calls of libmsq: `calls QUEUE KIND COUNT` prints how many nanoseconds the works of KIND took, each thread COUNT times.
- * QUEUE is non-blocking or two-lock, KIND one, four, pair or two; bench/queues/works.rs says what a thread does in each. */
+ * QUEUE is non-blocking, two-lock or ring, KIND one, four, pair or two; bench/queues/works.rs says what a thread does in each. */
 #define _POSIX_C_SOURCE 200809L
 
 #include "msq.h"
@@ -109,13 +109,16 @@ static int time_of(uint32_t queue, const struct kind *kind, uint64_t count) {
 
 int main(int argc, char **argv) {
     if (argc == 4) {
-        uint32_t queue = strcmp(argv[1], "two-lock") == 0 ? MSQ_TWO_LOCK : MSQ_NON_BLOCKING;
+        uint32_t queue = MSQ_NON_BLOCKING;
+        while (queue < MSQ_RING && strcmp(argv[1], msq_kind_name(queue)) != 0) {
+            queue++;
+        }
         for (size_t k = 0; k < sizeof kinds / sizeof *kinds; k++) {
             if (strcmp(argv[2], kinds[k].name) == 0) {
                 return time_of(queue, &kinds[k], strtoull(argv[3], NULL, 10));
             }
         }
     }
-    fputs("calls non-blocking|two-lock one|four|pair|two COUNT\n", stderr);
+    fputs("calls non-blocking|two-lock|ring one|four|pair|two COUNT\n", stderr);
     return 2;
 }

@@ -24,7 +24,7 @@ static void calls_are_refused(uint32_t kind) {
     expect("a pop without a seat", msq_try_pop(&seats[0], 8, &value), MSQ_NO_SEAT);
     expect("a shut without a seat", msq_try_shut(&seats[0], 8), MSQ_NO_SEAT);
     expect("a meeting without seats", msq_meet(&seats[0], &seats[1]), MSQ_NO_SEAT);
-    expect("no such kind", msq_create(2, 4, MSQ_MOST_COUNT, roles, 2, seats, 2), MSQ_BAD_SIZE);
+    expect("no such kind", msq_create(3, 4, MSQ_MOST_COUNT, roles, 2, seats, 2), MSQ_BAD_SIZE);
     expect("no such role", msq_create(kind, 4, MSQ_MOST_COUNT, none, 2, seats, 2), MSQ_BAD_SIZE);
     expect("one node", msq_create(kind, 1, MSQ_MOST_COUNT, roles, 2, seats, 2), MSQ_BAD_SIZE);
     expect("a role less", msq_create(kind, 4, MSQ_MOST_COUNT, roles, 1, seats, 2), MSQ_BAD_SIZE);
@@ -93,7 +93,8 @@ static void two_queues_are_told(uint32_t kind) {
     expect("a meeting with an empty seat", msq_meet(&one[0], &other[1]), MSQ_NO_SEAT);
     expect("a meeting of one empty seat", msq_meet(&other[1], &other[1]), MSQ_NO_SEAT);
     expect("a close of one queue", msq_close(one, 2, values, 3, &rest), MSQ_OK);
-    expect("a close of the other", msq_close(other, 1, values, 3, &rest), MSQ_OK);
+    expect("a close of the other by what is left of it", msq_close(other, 1, values, 3, &rest), kind == MSQ_RING ? MSQ_IN_USE : MSQ_OK);
+    msq_drop(&other[0]);
 }
 
 /* Pushes and pops by turns, until a push is refused: how many were not. */
@@ -141,6 +142,74 @@ static void the_ends_wear_out(uint32_t kind) {
     msq_drop(&seats[1]);
 }
 
+/* A ring that two values make full, and whose seats have places in reserve. */
+static void a_ring_is_full(void) {
+    const uint8_t roles[] = {MSQ_BOTH, MSQ_BOTH};
+    msq_seat seats[2] = {0};
+    msq_value values[2 + 2 * MSQ_RESERVE];
+    msq_rest rest = {0, 0, false, false};
+    uint64_t count = 0;
+    expect("create", msq_create(MSQ_RING, 2, MSQ_MOST_COUNT, roles, 2, seats, 2), MSQ_OK);
+    while (count < 100 && msq_try_push(&seats[0], count, 8) == MSQ_OK) {
+        count++;
+    }
+    expect("a reserve is pushed", count, MSQ_RESERVE);
+    expect("a push to a full ring", msq_try_push(&seats[0], 1, 8), MSQ_NO_NODE);
+    expect("one by a seat without a reserve", msq_try_push(&seats[1], 1, 8), MSQ_NO_NODE);
+    msq_drop(&seats[1]);
+    expect("close without a seat that was dropped", msq_close(seats, 1, values, 2, &rest), MSQ_IN_USE);
+    expect("a pop", msq_try_pop(&seats[0], 8, values), MSQ_OK);
+    expect("the front", values[0].body, 0);
+    msq_drop(&seats[0]);
+}
+
+/* All that a ring holds at the most has room at its end. */
+static void a_full_ring_is_closed(void) {
+    const uint8_t roles[] = {MSQ_BOTH, MSQ_BOTH};
+    msq_seat seats[2] = {0};
+    msq_value values[2 + 2 * MSQ_RESERVE];
+    msq_rest rest = {0, 0, false, false};
+    expect("create", msq_create(MSQ_RING, 2, MSQ_MOST_COUNT, roles, 2, seats, 2), MSQ_OK);
+    expect("a push that fills a reserve", msq_try_push(&seats[0], 0, 8), MSQ_OK);
+    expect("a push that fills the other", msq_try_push(&seats[1], 1, 8), MSQ_OK);
+    for (uint64_t body = 2; body < 2 * MSQ_RESERVE; body++) {
+        expect("a push from a reserve", msq_try_push(&seats[body % 2], body, 8), MSQ_OK);
+    }
+    expect("room", msq_room_for(MSQ_RING, 2, 2) >= 2 * MSQ_RESERVE, true);
+    expect("close", msq_close(seats, 2, values, msq_room_for(MSQ_RING, 2, 2), &rest), MSQ_OK);
+    expect("all are left", rest.left, 2 * MSQ_RESERVE);
+    expect("the last one", values[2 * MSQ_RESERVE - 1].body, 2 * MSQ_RESERVE - 1);
+}
+
+/* At the limit 1 a seat fills its reserve once, and then no more. */
+static void a_ring_wears_out(void) {
+    const uint8_t roles[] = {MSQ_GIVER, MSQ_TAKER};
+    msq_seat seats[2] = {0};
+    uint32_t code;
+    expect("create", msq_create(MSQ_RING, 2, 1, roles, 2, seats, 2), MSQ_OK);
+    expect("pushes", pushed(&seats[0], &seats[1], &code), MSQ_RESERVE);
+    expect("a push of a worn ring", code, MSQ_WORN_TAIL);
+    expect("a second one", msq_try_push(&seats[0], 1, 8), MSQ_WORN_TAIL);
+    expect("a shut of a worn ring", msq_try_shut(&seats[0], 8), MSQ_OK);
+    expect("a push behind it", msq_try_push(&seats[0], 1, 8), MSQ_CLOSED);
+    msq_drop(&seats[0]);
+    msq_drop(&seats[1]);
+}
+
+/* A ring has 32,767 seats at the most. */
+static void seats_of_a_ring_are_few(void) {
+    enum { MOST = 32767 };
+    static uint8_t roles[MOST + 1];
+    static msq_seat seats[MOST + 1];
+    memset(roles, MSQ_BOTH, sizeof roles);
+    expect("a seat too many", msq_create(MSQ_RING, 2, MSQ_MOST_COUNT, roles, MOST + 1, seats, MOST + 1), MSQ_BAD_SIZE);
+    expect("all seats", msq_create(MSQ_RING, 2, MSQ_MOST_COUNT, roles, MOST, seats, MOST), MSQ_OK);
+    expect("a push by the last one", msq_try_push(&seats[MOST - 1], 1, 8), MSQ_OK);
+    for (size_t k = 0; k < MOST; k++) {
+        msq_drop(&seats[k]);
+    }
+}
+
 /* The least and the greatest sizes of a queue, and what lies beyond them. */
 static void sizes_have_their_ranges(uint32_t kind) {
     const uint8_t roles[] = {MSQ_BOTH};
@@ -155,8 +224,9 @@ static void sizes_have_their_ranges(uint32_t kind) {
     }
 }
 
-/* Each code has its name and a text of its own, and no other number has one. */
+/* Each code has its name and a text of its own, and no other number has one; so has each kind a name. */
 static void codes_have_names(void) {
+    const char *kinds[] = {"non-blocking", "two-lock", "ring", "no such kind"};
     static const struct {
         uint32_t code;
         const char *name;
@@ -178,23 +248,32 @@ static void codes_have_names(void) {
             same += strcmp(msq_strerror(codes[k].code), msq_strerror(codes[j].code)) == 0;
         }
     }
+    for (uint32_t kind = 0; kind < sizeof kinds / sizeof *kinds; kind++) {
+        expect("a kind's name", (uint64_t)strcmp(msq_kind_name(kind), kinds[kind]), 0);
+    }
     expect("codes", next, count);
     expect("two codes with one text", same, 0);
 }
 
 int main(void) {
     codes_have_names();
-    for (uint32_t kind = MSQ_NON_BLOCKING; kind <= MSQ_TWO_LOCK; kind++) {
+    for (uint32_t kind = MSQ_NON_BLOCKING; kind <= MSQ_RING; kind++) {
         calls_are_refused(kind);
         a_queue_is_closed(kind);
         two_queues_are_told(kind);
+        sizes_have_their_ranges(kind);
+    }
+    for (uint32_t kind = MSQ_NON_BLOCKING; kind <= MSQ_TWO_LOCK; kind++) {
         the_free_list_wears_out(kind, 1, 1, MSQ_WORN_FREE);
         the_free_list_wears_out(kind, 2, 2, MSQ_NO_NODE);
         the_free_list_wears_out(kind, 3, 2, MSQ_WORN_FREE);
         the_free_list_wears_out(kind, 4, 3, MSQ_NO_NODE);
         the_ends_wear_out(kind);
-        sizes_have_their_ranges(kind);
     }
+    a_ring_is_full();
+    a_full_ring_is_closed();
+    a_ring_wears_out();
+    seats_of_a_ring_are_few();
     printf("%u answers as they should be, %u not\n", right, wrong);
     return wrong != 0;
 }

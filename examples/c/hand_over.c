@@ -114,8 +114,8 @@ static int run(uint32_t kind, unsigned half, uint64_t each) {
         fprintf(stderr, "hand_over: an object is lost, came twice, or isn't as it was handed over\n");
         return 1;
     }
-    printf("%s: %u threads, %llu objects as they were handed over, each once\n",
-           kind == MSQ_NON_BLOCKING ? "non-blocking" : "two-lock", 2 * half, (unsigned long long)(half * each));
+    printf("%s: %u threads, %llu objects as they were handed over, each once\n", msq_kind_name(kind), 2 * half,
+           (unsigned long long)(half * each));
     return 0;
 }
 
@@ -125,6 +125,10 @@ int main(int argc, char **argv) {
     if (threads < 2 || threads > MOST) {
         return 2;
     }
-    return run(MSQ_NON_BLOCKING, threads / 2, values / (threads / 2)) ||
-           run(MSQ_TWO_LOCK, threads / 2, values / (threads / 2));
+    for (uint32_t kind = MSQ_NON_BLOCKING; kind <= MSQ_RING; kind++) {
+        if (run(kind, threads / 2, values / (threads / 2))) {
+            return 1;
+        }
+    }
+    return 0;
 }

@@ -123,7 +123,7 @@ static int is_refused(void) {
     msq_rest rest;
     msq_seat *giver, *taker;
     if (msq_queue_close(&queue, left, 3, &rest) != MSQ_NO_SEAT || msq_lease(&queue, MSQ_GIVER) != NULL ||
-        msq_queue_create(&queue, 2, 4, MSQ_MOST_COUNT, roles, 2) != MSQ_BAD_SIZE ||
+        msq_queue_create(&queue, 3, 4, MSQ_MOST_COUNT, roles, 2) != MSQ_BAD_SIZE ||
         msq_queue_create(&queue, MSQ_TWO_LOCK, 4, MSQ_MOST_COUNT, roles, 0) != MSQ_BAD_SIZE ||
         msq_queue_create(&queue, MSQ_TWO_LOCK, 4, MSQ_MOST_COUNT, roles, 2) != MSQ_OK ||
         msq_queue_create(&queue, MSQ_TWO_LOCK, 4, MSQ_MOST_COUNT, roles, 2) != MSQ_IN_USE) {
@@ -159,11 +159,11 @@ int main(int count, char **words) {
         return 1;
     }
     msq_queue_drop(&queue);
-    for (uint32_t kind = MSQ_NON_BLOCKING; kind <= MSQ_TWO_LOCK; kind++) {
+    for (uint32_t kind = MSQ_NON_BLOCKING; kind <= MSQ_RING; kind++) {
         if (!is_right(kind, rounds)) {
             return 1;
         }
-        printf("%s: %u rounds, values in order, each once\n", kind == MSQ_TWO_LOCK ? "two-lock" : "non-blocking", rounds);
+        printf("%s: %u rounds, values in order, each once\n", msq_kind_name(kind), rounds);
     }
     return 0;
 }

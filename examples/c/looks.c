@@ -15,8 +15,8 @@ static void expect(const char *what, uint64_t found, uint64_t due) {
     }
 }
 
-/* The length is so many, where it can be told. */
-static void expect_length(uint32_t kind, msq_seat *seat, uint64_t due) {
+/* The length is so many, where it can be told; of a ring that is shut, by two seats, none at least. */
+static void expect_length(uint32_t kind, msq_seat *seat, uint64_t due, bool is_shut) {
     msq_length length = {9, 9};
     if (kind == MSQ_TWO_LOCK) {
         expect("a length that isn't counted", msq_len(seat, &length), MSQ_UNCOUNTED);
@@ -24,7 +24,7 @@ static void expect_length(uint32_t kind, msq_seat *seat, uint64_t due) {
         return;
     }
     expect("a length", msq_len(seat, &length), MSQ_OK);
-    expect("at least", length.least, due);
+    expect("at least", length.least, kind == MSQ_RING && is_shut ? 0 : due);
     expect("at most", length.most, due);
 }
 
@@ -41,22 +41,22 @@ static void a_queue_is_seen(uint32_t kind) {
     expect("create", msq_create(kind, 8, MSQ_MOST_COUNT, roles, 2, seats, 2), MSQ_OK);
     for (int k = 0; k < 2; k++) {
         expect("a new queue", msq_emptiness(&seats[k]), MSQ_EMPTY);
-        expect_length(kind, &seats[k], 0);
+        expect_length(kind, &seats[k], 0, false);
     }
     for (uint64_t body = 1; body <= 3; body++) {
         expect("a push", msq_try_push(&seats[0], body, 8), MSQ_OK);
         expect("a value", msq_emptiness(&seats[1]), MSQ_OK);
-        expect_length(kind, &seats[1], body);
+        expect_length(kind, &seats[1], body, false);
     }
     expect("a shut", msq_try_shut(&seats[0], 8), MSQ_OK);
     for (uint64_t body = 1; body <= 3; body++) {
         expect("a value in a shut queue", msq_emptiness(&seats[0]), MSQ_OK);
-        expect_length(kind, &seats[0], 4 - body);
+        expect_length(kind, &seats[0], 4 - body, true);
         expect("a pop", msq_try_pop(&seats[1], 8, &value), MSQ_OK);
         expect("its body", value.body, body);
     }
     expect("a queue that is shut and empty", msq_emptiness(&seats[1]), MSQ_CLOSED);
-    expect_length(kind, &seats[1], 0);
+    expect_length(kind, &seats[1], 0, true);
     msq_drop(&seats[0]);
     msq_drop(&seats[1]);
 }
@@ -85,6 +85,29 @@ static void pushes_are_left(uint32_t kind) {
     msq_drop(&seats[1]);
 }
 
+/* Each push raises the one word of a ring that wears. Its 128 slots and 64 places in reserve take 192 of the 299 places that it has
+ * with two values, two seats and a limit of 101. */
+static void pushes_are_left_of_a_ring(void) {
+    const uint8_t roles[] = {MSQ_GIVER, MSQ_TAKER};
+    msq_seat seats[2] = {0};
+    msq_value value;
+    msq_remaining left;
+    uint64_t done = 0;
+    expect("create", msq_create(MSQ_RING, 2, 101, roles, 2, seats, 2), MSQ_OK);
+    do {
+        expect("what is left", msq_left(&seats[done % 2], &left), MSQ_OK);
+        expect("pushes", left.pushes, done < 107 ? 107 - done : 0);
+        expect("of Tail", left.tail, left.pushes);
+        expect("of Free", left.free, UINT64_MAX);
+        expect("of Head", left.head, UINT64_MAX);
+        done += msq_try_push(&seats[0], done, 8) == MSQ_OK;
+    } while (msq_try_pop(&seats[1], 8, &value) == MSQ_OK);
+    expect("pushes by reserves of 32, the last one filled before 107", done, 128);
+    expect("a push of a worn ring", msq_try_push(&seats[0], 1, 8), MSQ_WORN_TAIL);
+    msq_drop(&seats[0]);
+    msq_drop(&seats[1]);
+}
+
 /* Whatever the nodes and the limit: as many pushes as are left aren't refused, in rounds that fill the queue and empty it. */
 static void so_many_are_done(uint32_t kind, uint32_t nodes, uint64_t limit) {
     const uint8_t roles[] = {MSQ_GIVER, MSQ_TAKER};
@@ -107,9 +130,13 @@ static void so_many_are_done(uint32_t kind, uint32_t nodes, uint64_t limit) {
 }
 
 int main(void) {
-    for (uint32_t kind = MSQ_NON_BLOCKING; kind <= MSQ_TWO_LOCK; kind++) {
+    for (uint32_t kind = MSQ_NON_BLOCKING; kind <= MSQ_RING; kind++) {
         a_queue_is_seen(kind);
-        pushes_are_left(kind);
+        if (kind == MSQ_RING) {
+            pushes_are_left_of_a_ring();
+        } else {
+            pushes_are_left(kind);
+        }
         for (uint32_t nodes = 2; nodes <= 6; nodes++) {
             for (uint64_t limit = 1; limit <= 60; limit++) {
                 so_many_are_done(kind, nodes, limit);

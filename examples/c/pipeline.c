@@ -172,9 +172,8 @@ static int run(uint32_t kind, unsigned threads, uint64_t values) {
         free(workers[k].popped);
     }
     if (!failed) {
-        printf("%s: %u threads, %llu values in order, each once; %.0f ns each\n",
-               kind == MSQ_NON_BLOCKING ? "non-blocking" : "two-lock", 2 * half, (unsigned long long)(half * each),
-               time / (double)(half * each));
+        printf("%s: %u threads, %llu values in order, each once; %.0f ns each\n", msq_kind_name(kind), 2 * half,
+               (unsigned long long)(half * each), time / (double)(half * each));
     }
     return failed;
 }
@@ -185,5 +184,5 @@ int main(int argc, char **argv) {
     if (threads < 2 || threads > MOST - 1) {
         return fail("threads", threads);
     }
-    return run(MSQ_NON_BLOCKING, threads, values) || run(MSQ_TWO_LOCK, threads, values);
+    return run(MSQ_NON_BLOCKING, threads, values) || run(MSQ_TWO_LOCK, threads, values) || run(MSQ_RING, threads, values);
 }

@@ -47,11 +47,11 @@ static void sizes_have_their_ranges(uint32_t kind) {
     expect("no place", msq_queue_open(&queue, kind, 0, 1), MSQ_BAD_SIZE);
     expect("no thread", msq_queue_open(&queue, kind, 1, 0), MSQ_BAD_SIZE);
     expect("too many nodes", msq_queue_open(&queue, kind, MSQ_MOST_NODES - 1, 1), MSQ_BAD_SIZE);
-    expect("no such kind", msq_queue_open(&queue, 2, 1, 1), MSQ_BAD_SIZE);
+    expect("no such kind", msq_queue_open(&queue, 3, 1, 1), MSQ_BAD_SIZE);
     expect("the least one", msq_queue_open(&queue, kind, 1, 1), MSQ_OK);
     expect("a second one", msq_queue_open(&queue, kind, 1, 1), MSQ_IN_USE);
     expect("its end", msq_destroy(&queue, NULL, NULL), MSQ_OK);
-    expect("with most threads", msq_queue_open(&queue, kind, 1, UINT16_MAX), MSQ_OK);
+    expect("with most threads", msq_queue_open(&queue, kind, 1, kind == MSQ_RING ? INT16_MAX : UINT16_MAX), MSQ_OK);
     expect("its end", msq_destroy(&queue, NULL, NULL), MSQ_OK);
 }
 
@@ -76,7 +76,7 @@ static void a_queue_answers(uint32_t kind) {
     while (msq_queue_push_wait_for(&queue, &objects[count], MILLISECOND) == MSQ_OK) {
         count++;
     }
-    expect("room for two and one for the seat at most", count <= 3, true);
+    expect("room for two and what the seat may keep at most", count <= (kind == MSQ_RING ? 2 + MSQ_RESERVE : 3), true);
     expect("a push to a full queue", msq_queue_push(&queue, objects), MSQ_NO_NODE);
     expect("one that waits", msq_queue_push_wait_for(&queue, objects, MILLISECOND), MSQ_NO_NODE);
     expect("a pop", msq_queue_pop(&queue, &object), MSQ_OK);
@@ -90,7 +90,7 @@ static void a_queue_answers(uint32_t kind) {
     while (msq_queue_pop_wait_for(&queue, &object, MILLISECOND) == MSQ_OK) {
         count--;
     }
-    expect("what was left", count, 2);
+    expect("what was left, but for the two", count, 2);
     expect("a pop of a shut queue", msq_queue_pop(&queue, &object), MSQ_CLOSED);
     expect("one that waits", msq_queue_pop_wait(&queue, &object), MSQ_CLOSED);
     expect("it is shut and empty", msq_queue_emptiness(&queue), MSQ_CLOSED);
@@ -112,6 +112,13 @@ static void what_is_left_is_freed(uint32_t kind) {
     expect("its end", msq_destroy(&queue, count_one, objects), MSQ_OK);
     expect("all were freed", freed, 100);
     expect("there is none", msq_queue_pop(&queue, (void **)&seat), MSQ_NO_SEAT);
+}
+
+/* A ring has no more than 32,767 seats. */
+static void a_ring_has_fewer_seats(void) {
+    msq_queue queue = {0};
+    expect("a thread too many", msq_queue_open(&queue, MSQ_RING, 1, INT16_MAX + 1), MSQ_BAD_SIZE);
+    expect("there is none", msq_queue_pop(&queue, NULL), MSQ_NO_SEAT);
 }
 
 /* At the limit 1 pops end with a worn word, before the queue is empty. */
@@ -138,12 +145,15 @@ static void a_worn_queue_is_freed(uint32_t kind) {
 
 int main(void) {
     no_queue_answers();
-    for (uint32_t kind = MSQ_NON_BLOCKING; kind <= MSQ_TWO_LOCK; kind++) {
+    for (uint32_t kind = MSQ_NON_BLOCKING; kind <= MSQ_RING; kind++) {
         sizes_have_their_ranges(kind);
         a_queue_answers(kind);
         what_is_left_is_freed(kind);
+    }
+    for (uint32_t kind = MSQ_NON_BLOCKING; kind <= MSQ_TWO_LOCK; kind++) {
         a_worn_queue_is_freed(kind);
     }
+    a_ring_has_fewer_seats();
     printf("%u answers as they should be, %u not\n", right, wrong);
     return wrong != 0;
 }

@@ -140,12 +140,12 @@ int main(int count, char **words) {
             return 1;
         }
     }
-    for (uint32_t kind = MSQ_NON_BLOCKING; kind <= MSQ_TWO_LOCK; kind++) {
+    for (uint32_t kind = MSQ_NON_BLOCKING; kind <= MSQ_RING; kind++) {
         pass(kind, threads);
         is_destroyed(kind);
         if (wrong == 0) {
-            printf("%s: %u threads, %llu strings in order, each once\n", kind == MSQ_TWO_LOCK ? "two-lock" : "non-blocking",
-                   threads, (unsigned long long)(each * givers));
+            printf("%s: %u threads, %llu strings in order, each once\n", msq_kind_name(kind), threads,
+                   (unsigned long long)(each * givers));
         }
     }
     for (unsigned giver = 0; giver < givers; giver++) {

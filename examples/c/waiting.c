@@ -101,7 +101,7 @@ static int fail(uint32_t run, const char *what, uint32_t code) {
 /* Ends the queue: whether each body that was pushed came once, to a thread or as one that was left. */
 static int judge(uint32_t run, struct worker *workers, uint32_t givers, uint32_t all) {
     msq_seat seats[2 * MOST + 1];
-    msq_value left[NODES];
+    msq_value left[NODES + MSQ_RESERVE * (2 * MOST + 1)];
     msq_rest rest;
     uint32_t came[MOST * VALUES] = {0};
     for (uint32_t k = 0; k < all; k++) {
@@ -110,8 +110,9 @@ static int judge(uint32_t run, struct worker *workers, uint32_t givers, uint32_t
             came[body] += workers[k].popped[body];
         }
     }
-    const uint32_t code = msq_close(seats, all, left, NODES, &rest);
-    if (code != MSQ_OK || rest.left > NODES) {
+    const size_t room = sizeof left / sizeof *left;
+    const uint32_t code = msq_close(seats, all, left, room, &rest);
+    if (code != MSQ_OK || rest.left > room) {
         return fail(run, "close", code);
     }
     for (uint32_t k = 0; k < rest.left; k++) {
@@ -166,7 +167,7 @@ static int run_once(uint32_t run, struct worker *me) {
         workers[k].values = any(me, VALUES + 1);
         roles[k] = k < givers || k + 1 == all ? MSQ_GIVER : MSQ_TAKER;
     }
-    const uint32_t code = msq_create(run % 2, 2 + any(me, NODES - 1), limit, roles, all, seats, all);
+    const uint32_t code = msq_create(run % 3, 2 + any(me, NODES - 1), limit, roles, all, seats, all);
     if (code != MSQ_OK) {
         return fail(run, "create", code);
     }

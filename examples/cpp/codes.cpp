@@ -18,14 +18,25 @@ static void expect(const char *what, bool holds) {
     }
 }
 
-using box = std::unique_ptr<int>;
 using std::chrono::milliseconds;
 
-static box boxed(int number) {
-    return box(new int(number));
-}
+// A number that owns memory: one that may be moved by its bytes, and one that may not.
+struct small {
+    std::unique_ptr<int> at;
+    explicit small(int number) : at(new int(number)) {}
+    int operator*() const { return *at; }
+};
+struct large : small {
+    using small::small;
+    char apart[64] = {};
+};
 
-static void a_queue_answers(msq::kind kind) {
+namespace msq {
+template <> struct is_trivially_relocatable<small> : std::true_type {};
+} // namespace msq
+
+template <class box> static void a_queue_answers(msq::kind kind) {
+    const bool in_place = msq::detail::lies_in_place<box>::value;
     auto made = msq::queue<box>::create(2, kind, 1);
     expect("create", made.first == MSQ_OK && made.second);
     auto queue = std::move(made.second);
@@ -33,22 +44,22 @@ static void a_queue_answers(msq::kind kind) {
     expect("no thread", msq::queue<box>::create(2, kind, 0).first == MSQ_BAD_SIZE);
     expect("too many nodes", msq::queue<box>::create(MSQ_MOST_NODES, kind, 1).first == MSQ_BAD_SIZE);
 
-    box value = boxed(7);
+    box value(7);
     msq_length length{9, 9};
     msq_remaining left{0, 0, 0, 0};
-    expect("it is empty", queue.emptiness() == MSQ_EMPTY);
+    expect("it is empty", queue.emptiness() == (in_place ? MSQ_UNCOUNTED : MSQ_EMPTY));
     expect("a pop of nothing", queue.try_pop(value) == MSQ_EMPTY && *value == 7);
     expect("a pop that waits for nothing", queue.pop_wait_for(value, milliseconds(1)) == MSQ_EMPTY && *value == 7);
-    expect("a push", queue.try_push(boxed(1)) == MSQ_OK);
-    expect("it holds a value", queue.emptiness() == MSQ_OK);
-    expect("a push that waits", queue.push_wait(boxed(2)) == MSQ_OK);
-    if (kind == msq::kind::two_lock) {
+    expect("a push", queue.try_push(box(1)) == MSQ_OK);
+    expect("it holds a value", queue.emptiness() == (in_place ? MSQ_UNCOUNTED : MSQ_OK));
+    expect("a push that waits", queue.push_wait(box(2)) == MSQ_OK);
+    if (in_place || kind == msq::kind::two_lock) {
         expect("no length", queue.len(length) == MSQ_UNCOUNTED && length.least == 9);
     } else {
         expect("two values", queue.len(length) == MSQ_OK && length.least == 2 && length.most == 2);
     }
-    expect("pushes are left", queue.left(left) == MSQ_OK && left.pushes > 0);
-    while (queue.try_push(boxed(3)) == MSQ_OK) {
+    expect("pushes are left", in_place ? queue.left(left) == MSQ_UNCOUNTED : queue.left(left) == MSQ_OK && left.pushes > 0);
+    while (queue.try_push(box(3)) == MSQ_OK) {
     }
     expect("a push to a full queue", queue.try_push(std::move(value)) == MSQ_NO_NODE && *value == 7);
     expect("one that waits", queue.push_wait_for(std::move(value), milliseconds(1)) == MSQ_NO_NODE && *value == 7);
@@ -63,12 +74,12 @@ static void a_queue_answers(msq::kind kind) {
     }
     expect("a pop of a closed queue", queue.try_pop(value) == MSQ_CLOSED && *value == 3);
     expect("one that waits", queue.pop_wait(value) == MSQ_CLOSED && *value == 3);
-    expect("it is closed and empty", queue.emptiness() == MSQ_CLOSED);
+    expect("it is closed and empty", queue.emptiness() == (in_place ? MSQ_UNCOUNTED : MSQ_CLOSED));
 }
 
-static void no_queue_answers() {
+template <class box> static void no_queue_answers() {
     msq::queue<box> none;
-    box value = boxed(7);
+    box value(7);
     msq_length length{};
     msq_remaining left{};
     expect("none", !none);
@@ -82,17 +93,26 @@ static void no_queue_answers() {
     expect("looks at none", none.emptiness() == MSQ_NO_SEAT && none.len(length) == MSQ_NO_SEAT && none.left(left) == MSQ_NO_SEAT);
 }
 
-// A small value lies in the queue, whatever its bytes are.
+// Values lie in the queue by their size and what moves them, and come as they were, whatever their bytes are.
+template <class T> static bool comes(T value, const T &same) {
+    auto queue = msq::queue<T>::create(4).second;
+    T found{};
+    return queue.try_push(std::move(value)) == MSQ_OK && queue.try_pop(found) == MSQ_OK && found == same;
+}
+
 static void small_values_pass() {
-    struct small {
-        int16_t x, y, z;
-    };
-    auto queue = msq::queue<small>::create(4).second;
-    small found{0, 0, 0};
-    expect("it lies in place", msq::detail::lies_in_place<small>::value && !msq::detail::lies_in_place<box>::value);
-    expect("zeros", queue.try_push(small{0, 0, 0}) == MSQ_OK && queue.try_push(small{-1, -1, -1}) == MSQ_OK);
-    expect("came", queue.try_pop(found) == MSQ_OK && found.x == 0 && found.y == 0 && found.z == 0);
-    expect("ones", queue.try_pop(found) == MSQ_OK && found.x == -1 && found.y == -1 && found.z == -1);
+    using msq::detail::lies_in_place;
+    expect("what lies in place", lies_in_place<uint64_t>::value && lies_in_place<std::unique_ptr<int>>::value &&
+                                     lies_in_place<std::shared_ptr<int>>::value && lies_in_place<small>::value);
+    expect("what doesn't", !lies_in_place<std::string>::value && !lies_in_place<large>::value);
+    expect("zeros", comes<uint64_t>(0, 0));
+    expect("ones", comes<uint64_t>(UINT64_MAX, UINT64_MAX));
+    expect("a byte", comes<char>('x', 'x'));
+    expect("a key of 64 bits", comes<uint64_t>(UINT64_C(0x123456789abcdef0), UINT64_C(0x123456789abcdef0)));
+    const auto shared = std::make_shared<int>(7);
+    expect("a shared pointer", comes(shared, shared) && shared.use_count() == 1);
+    msq::queue<std::shared_ptr<int>>::create(4).second.try_push(shared);
+    expect("what is left ends with its queue", shared.use_count() == 1);
 }
 
 // A queue may be moved, and a call that sleeps is woken by a push of another thread.
@@ -156,12 +176,35 @@ static void optional_values_come() {
 }
 #endif
 
+// As boost::lockfree::queue has it.
+static void values_are_consumed() {
+    for (auto kind : {msq::kind::non_blocking, msq::kind::two_lock, msq::kind::ring}) {
+        auto queue = msq::queue<std::string>::create(8, kind, 2).second;
+        std::string all;
+        const auto use = [&](std::string &&text) { all += std::move(text); };
+        expect("none of nothing", !queue.consume_one(use) && queue.consume_all(use) == 0 && all.empty());
+        for (const char *text : {"a", "b", "c"}) {
+            queue.try_push(text);
+        }
+        expect("the first one", queue.consume_one(use) && all == "a");
+        expect("all others", queue.consume_all(use) == 2 && all == "abc");
+        queue.try_push("d");
+        queue.close();
+        expect("what a closed one has", queue.consume_all(use) == 1 && all == "abcd");
+        expect("none of a closed one", !queue.consume_one(use));
+    }
+}
+
 int main() {
-    a_queue_answers(msq::kind::non_blocking);
-    a_queue_answers(msq::kind::two_lock);
-    no_queue_answers();
+    a_queue_answers<small>(msq::kind::non_blocking);
+    a_queue_answers<large>(msq::kind::non_blocking);
+    a_queue_answers<large>(msq::kind::two_lock);
+    a_queue_answers<large>(msq::kind::ring);
+    no_queue_answers<small>();
+    no_queue_answers<large>();
     small_values_pass();
     a_sleeper_is_woken();
+    values_are_consumed();
 #if defined(__cpp_exceptions)
     calls_throw();
 #endif

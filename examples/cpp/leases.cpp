@@ -111,13 +111,12 @@ int main(int count, char **words) {
         return 2;
     }
     auto rounds = static_cast<unsigned>(std::stoul(words[1]));
-    for (auto kind : {msq::kind::non_blocking, msq::kind::two_lock}) {
+    for (auto kind : {msq::kind::non_blocking, msq::kind::two_lock, msq::kind::ring}) {
         if (!is_right(kind, rounds)) {
             std::fprintf(stderr, "leases: wrong\n");
             return 1;
         }
-        std::printf("%s: %u rounds, values in order, each once\n",
-                    kind == msq::kind::two_lock ? "two-lock" : "non-blocking", rounds);
+        std::printf("%s: %u rounds, values in order, each once\n", msq_kind_name(static_cast<uint32_t>(kind)), rounds);
     }
     return 0;
 }

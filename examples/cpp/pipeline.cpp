@@ -147,6 +147,6 @@ int main(int argc, char **argv) {
     size_t threads = argc > 1 ? std::strtoul(argv[1], nullptr, 10) : 4;
     uint64_t values = argc > 2 ? std::strtoull(argv[2], nullptr, 10) : 100000;
     bool good = threads >= 2 && run(msq::kind::non_blocking, "non-blocking", threads, values) &&
-                run(msq::kind::two_lock, "two-lock", threads, values);
+                run(msq::kind::two_lock, "two-lock", threads, values) && run(msq::kind::ring, "ring", threads, values);
     return good ? 0 : 1;
 }

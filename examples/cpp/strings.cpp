@@ -110,12 +110,12 @@ int main(int count, char **words) {
         return 2;
     }
     const uint64_t each = std::stoull(words[2]) / (threads / 2);
-    for (auto kind : {msq::kind::non_blocking, msq::kind::two_lock}) {
+    for (auto kind : {msq::kind::non_blocking, msq::kind::two_lock, msq::kind::ring}) {
         pass(kind, threads, each);
         is_destroyed(kind);
         if (!wrong) {
             std::printf("%s: %llu threads, %llu strings in order, each once\n",
-                        kind == msq::kind::two_lock ? "two-lock" : "non-blocking",
+                        msq_kind_name(static_cast<uint32_t>(kind)),
                         static_cast<unsigned long long>(threads), static_cast<unsigned long long>(each * (threads / 2)));
         }
     }

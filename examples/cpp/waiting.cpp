@@ -104,8 +104,15 @@ std::string one_by_one(msq::kind kind) {
     if (made.first != MSQ_OK || seats[0].pop_wait_for(value, time) != MSQ_EMPTY) {
         return "a pop of an empty queue";
     }
-    if (seats[1].push_wait(1) != MSQ_OK || seats[1].push_wait(2) != MSQ_OK ||
-        seats[1].push_wait_for(3, time) != MSQ_NO_NODE) {
+    if (seats[1].push_wait(1) != MSQ_OK || seats[1].push_wait(2) != MSQ_OK) {
+        return "a push";
+    }
+    // A seat of a ring goes on from its reserve.
+    size_t count = 2;
+    while (seats[1].try_push(count + 1) == MSQ_OK) {
+        count++;
+    }
+    if (count != (kind == msq::kind::ring ? MSQ_RESERVE : 2) || seats[1].push_wait_for(3, time) != MSQ_NO_NODE) {
         return "a push to a full queue";
     }
     if (std::chrono::steady_clock::now() - began < 2 * time) {
@@ -118,7 +125,7 @@ std::string one_by_one(msq::kind kind) {
         return "a pop";
     }
     auto ended = msq::close(seats);
-    if (ended.code != MSQ_OK || ended.left.size() != 1 || ended.lost != 0) {
+    if (ended.code != MSQ_OK || ended.left.size() != count - 1 || ended.lost != 0) {
         return "a close with room";
     }
     return seats[0].try_pop(value) == MSQ_NO_SEAT && msq::seat().push_wait(1) == MSQ_NO_SEAT ? "" : "a call without a seat";
@@ -137,7 +144,7 @@ std::string closed_with_too_little_room(msq::kind kind) {
 
 int main(int argc, char **argv) {
     const uint64_t values = argc > 1 ? std::strtoull(argv[1], nullptr, 10) : 10000;
-    for (auto kind : {msq::kind::non_blocking, msq::kind::two_lock}) {
+    for (auto kind : {msq::kind::non_blocking, msq::kind::two_lock, msq::kind::ring}) {
         for (auto &fault : {handed_over(kind, values), one_by_one(kind), closed_with_too_little_room(kind)}) {
             if (!fault.empty()) {
                 std::fprintf(stderr, "waiting: %s\n", fault.c_str());
@@ -145,6 +152,6 @@ int main(int argc, char **argv) {
             }
         }
     }
-    std::printf("%llu values came, each once\n", static_cast<unsigned long long>(2 * sides * values));
+    std::printf("%llu values came, each once\n", static_cast<unsigned long long>(3 * sides * values));
     return 0;
 }

@@ -87,7 +87,8 @@ fn main() -> ExitCode {
         eprintln!("usage: leases ROUNDS");
         return ExitCode::from(2);
     };
-    for (name, kind) in [("non-blocking", Kind::NonBlocking), ("two-lock", Kind::TwoLock)] {
+    let kinds = [("non-blocking", Kind::NonBlocking), ("two-lock", Kind::TwoLock), ("ring", Kind::Ring)];
+    for (name, kind) in kinds {
         if !is_right(kind, rounds) {
             eprintln!("leases: wrong");
             return ExitCode::FAILURE;

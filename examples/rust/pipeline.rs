@@ -99,5 +99,6 @@ fn main() -> Result<(), Refusal> {
     let threads = words.next().and_then(|word| word.parse().ok()).unwrap_or(4);
     let values = words.next().and_then(|word| word.parse().ok()).unwrap_or(100_000);
     run(Kind::NonBlocking, threads, values)?;
-    run(Kind::TwoLock, threads, values)
+    run(Kind::TwoLock, threads, values)?;
+    run(Kind::Ring, threads, values)
 }

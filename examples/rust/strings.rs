@@ -113,13 +113,14 @@ fn main() -> ExitCode {
     let came: Came = (0..givers)
         .map(|_| (0..values / givers).map(|_| AtomicU8::new(0)).collect())
         .collect();
-    let passes: [(&str, &dyn Fn() -> bool); 3] = [
+    let passes: [(&str, &dyn Fn() -> bool); 4] = [
         ("non-blocking", &|| {
             passes_a_queue(Kind::NonBlocking, threads, &came)
         }),
         ("two-lock", &|| {
             passes_a_queue(Kind::TwoLock, threads, &came)
         }),
+        ("ring", &|| passes_a_queue(Kind::Ring, threads, &came)),
         ("a channel", &|| passes_a_channel(threads, &came)),
     ];
     for (name, passes) in passes {

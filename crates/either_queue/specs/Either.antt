@@ -9,6 +9,32 @@ use Rattle.either_queue.specs.declared.either.EitherQueue.TheVariants as queue
 use Rattle.either_queue.specs.declared.either.EitherSeat.{EitherSeat}
 use Rattle.either_queue.specs.declared.either.EitherSeat.TheVariants as seat
 
+-- a queue of the first kind
+abbrev pub first_of : {A B : Type 0} → A → EitherQueue A B
+first_of a = queue.First a
+
+-- a queue of the second
+abbrev pub second_of : {A B : Type 0} → B → EitherQueue A B
+second_of b = queue.Second b
+
+-- a seat of a queue of the first kind
+abbrev pub as_first : {S T : Type 0} → S → EitherSeat S T
+as_first s = seat.First s
+
+-- a seat of a queue of the second
+abbrev pub as_second : {S T : Type 0} → T → EitherSeat S T
+as_second t = seat.Second t
+
+-- a seat is one of a queue of the first kind
+abbrev pub IsFirst : {S T : Type 0} → EitherSeat S T → Type 0
+IsFirst (seat.First s) = Unit {0}
+IsFirst (seat.Second t) = ⊥
+
+-- a seat is one of a queue of the second
+abbrev pub IsSecond : {S T : Type 0} → EitherSeat S T → Type 0
+IsSecond (seat.First s) = ⊥
+IsSecond (seat.Second t) = Unit {0}
+
 -- what each seat may do
 abbrev pub either_permits : {A B : Type 0} → (A → List Permit) → (B → List Permit) → EitherQueue A B → List Permit
 either_permits first second (queue.First a) = first a

@@ -4,81 +4,97 @@ use Rattle.std.specs.List.{All}
 use mathlib.Core.List.{map-map}
 use Rattle.std.proofs.lemmas.List.{length-map}
 use Rattle.line_table.specs.declared.lines.Kind.{Kind}
-use Rattle.history.specs.Limits.{actor_bits}
-use Rattle.node_arena.specs.declared.roles.Role.{Role}
+use Rattle.history.specs.Seats.{Permit}
 use Rattle.history.specs.Openings.{AreNew}
+use Rattle.node_arena.specs.declared.roles.Role.{Role}
 use Rattle.node_arena.specs.declared.seats.Seat.{Seat}
-use Rattle.node_arena.specs.Seats.{known_of}
-use Rattle.node_arena.specs.Plans.{Layout, IsPlanned}
+use Rattle.node_arena.specs.Seats as arena
 use Rattle.node_arena.specs.Making.{IsMade}
 use Rattle.owned_seats.specs.Owned.{queue_of, seat_of}
 use Rattle.owned_seats.proofs.Shares.{All-unmap}
 use Rattle.any_queue.specs.declared.picked.PickedQueue.{PickedQueue}
 use Rattle.any_queue.specs.Picked.{picked_arena_of, picked_permits_of}
-use Rattle.msq_c.proofs.Sizes.{is_split, enough, some_count, few_counts}
+use Rattle.ring_queue.specs.declared.queue.RingQueue.{RingQueue}
+use Rattle.ring_queue.specs.declared.roles.Role.{Role as RingRole}
+use Rattle.ring_queue.specs.declared.seats.Seat.{Seat as RingSeat}
+use Rattle.ring_queue.specs.Making as ring
+use Rattle.ring_queue.specs.Queues.{permits_in}
+use Rattle.ring_queue.specs.Seats as rings
+use Rattle.either_queue.specs.declared.either.EitherQueue.TheVariants.{First, Second}
+use Rattle.either_queue.specs.Either.{first_of, second_of, as_first, as_second}
+use Rattle.either_queue.proofs.Within.{known_first, known_second}
+use Rattle.msq_c.specs.Queues.{Queue, SeatOf, known_of, permits_of}
 use Rattle.msq_c.specs.declared.own_seats.OwnSeat.{OwnSeat}
 use Rattle.msq_c.specs.declared.handles.MsqSeat.{MsqSeat}
 use Rattle.msq_c.specs.Own.{Owned, owned_in}
 use Rattle.msq_c.specs.Seats.{own_at, known_at}
-use Rattle.msq_c.specs.Made.{AreUnused, ArePut, AreMade, AreAsked, Asks, plan_for, kind_number, role_number, seat_at}
+use Rattle.msq_c.specs.Made.{IsNew, AreUnused, ArePut, AreAsked, count_for, plan_for, places_for, reserve, kind_number, role_number, ring_role_number, seat_at}
 
-pub all_made : (owned : List Owned) (seats : List OwnSeat) (slots : List MsqSeat)
-    → map owned_in seats ≡ owned → (z : Layout) → AreUnused z owned → ArePut seats slots → AreMade z slots
-all_made owned seats slots e z u p =
-    let same : owned ≡ map (λ (h : MsqSeat). owned_in (own_at h)) slots =
-    sym e ∙ ap (map owned_in) (sym p.those) ∙ map-map owned_in own_at slots in
-    let known : map (λ (s : Owned). known_of (seat_of s)) owned ≡ map known_at slots =
-    ap (map (λ (s : Owned). known_of (seat_of s))) same ∙ map-map (λ (s : Owned). known_of (seat_of s)) (λ (h : MsqSeat). owned_in (own_at h)) slots in
-    let sat : map seat_of owned ≡ map seat_at slots = ap (map seat_of) same ∙ map-map seat_of (λ (h : MsqSeat). owned_in (own_at h)) slots in
-    record {
-      queue = u.queue;
-      made = subst (IsMade z (picked_arena_of u.queue)) sat u.made;
-      full = p.full;
-      one = All-unmap (λ s. queue_of s ≡ u.queue) (λ (h : MsqSeat). owned_in (own_at h)) slots (subst (All (λ s. queue_of s ≡ u.queue)) same u.one);
-      unused = subst (λ ks. AreNew (picked_permits_of u.queue) ks) known u.unused;
-    }
+-- a new queue of nodes, and its seats, as those of one of any kind
+module _ (kind nodes limit : ℕ) (numbers : List ℕ) (k : Kind) (roles : List Role) (kinds : kind_number k ≡ kind) (those : map role_number roles ≡ numbers)
+    (p : PickedQueue) (within : List (Seat (Unit {0}))) (q : Queue) (seats : List SeatOf) (is : q ≡ first_of p) (are : seats ≡ map as_first within) where
+  pub linked_new : IsMade (plan_for k nodes limit roles) (picked_arena_of p) within → IsNew kind nodes limit numbers q seats
+  linked_new made = subst (λ (x : Queue). IsNew kind nodes limit numbers x seats) (sym is)
+      (record { layout = plan_for k nodes limit roles; of_kind = kinds; of_roles = those; planned = refl; within = within; those = are; made = made })
 
--- the seats of a new queue of a plan, each with a share
-pub unused_of : (z : Layout) (q : PickedQueue) (seats : List (Seat (Unit {0}))) (owned : List Owned) → All (λ s. queue_of s ≡ q) owned → map seat_of owned ≡ seats
-    → IsMade z (picked_arena_of q) seats → AreNew (picked_permits_of q) (map known_of seats) → AreUnused z owned
-unused_of z q seats owned one e made new = record {
-  queue = q;
-  made = subst (IsMade z (picked_arena_of q)) (sym e) made;
-  one = one;
-  unused = subst (λ ks. AreNew (picked_permits_of q) ks) (ap (map known_of) (sym e) ∙ map-map known_of seat_of owned) new;
-}
+  pub linked_unused : AreNew (picked_permits_of p) (map arena.known_of within) → AreNew (permits_of q) (map known_of seats)
+  linked_unused new = subst (λ (x : Queue). AreNew (permits_of x) (map known_of seats)) (sym is)
+      (subst (AreNew (picked_permits_of p)) (sym (known_first arena.known_of rings.known_of seats within are)) new)
 
--- handles that blocks with the seats of a new queue were put into
-pub made_if : {V E B : Type 0} (out : Result V E) (items : V → List MsqSeat) (value : B → OwnSeat) (boxes : List B) (owned : List Owned)
-    → map (λ b. owned_in (value b)) boxes ≡ owned → (z : Layout) → AreUnused z owned → IfOk out (λ v. ArePut (map value boxes) (items v)) → IfOk out (λ v. AreMade z (items v))
-made_if (Ok v) items value boxes owned e z u p = all_made owned (map value boxes) (items v) (map-map owned_in value boxes ∙ e) z u p
-made_if (Err refusal) items value boxes owned e z u p = tt
+-- a new ring, and its seats
+module _ (values limit : ℕ) (numbers : List ℕ) (roles : List RingRole) (those : map ring_role_number roles ≡ numbers)
+    (r : RingQueue) (within : List RingSeat) (q : Queue) (seats : List SeatOf) (is : q ≡ second_of r) (are : seats ≡ map as_second within) where
+  pub ring_new : ring.IsMade values reserve (places_for values (length numbers) limit) roles r within → IsNew 2 values limit numbers q seats
+  ring_new made = subst (λ (x : Queue). IsNew 2 values limit numbers x seats) (sym is)
+      (refl, record { roles = roles; of_roles = those; within = within; those = are; made = made })
 
--- what was asked for, by the numbers of a kind and of roles
-module _ (kind nodes limit : ℕ) (numbers : List ℕ) (k : Kind) (roles : List Role) (kinds : kind_number k ≡ kind) (those : map role_number roles ≡ numbers) where
-  many : length numbers ≡ length roles
-  many = ap length (sym those) ∙ length-map roles role_number
+  pub ring_unused : AreNew (permits_in r) (map rings.known_of within) → AreNew (permits_of q) (map known_of seats)
+  ring_unused new = subst (λ (x : Queue). AreNew (permits_of x) (map known_of seats)) (sym is)
+      (subst (AreNew (permits_in r)) (sym (known_second arena.known_of rings.known_of seats within are)) new)
 
-  -- its sizes are in their ranges
-  pub planned_of : Asks kind nodes limit numbers → IsPlanned (plan_for k nodes limit roles)
-  planned_of a = record {
-    split = is_split nodes;
-    nodes = a.sizes.some_nodes;
-    numbered = enough nodes a.sizes.numbered;
-    counts = some_count nodes limit a.sizes.counts;
-    counted = few_counts nodes limit;
-    some_actors = subst (λ n. 1 ≤ n) many a.sizes.some_seats;
-    few_actors = subst (λ n. n < 2 ^ actor_bits) many a.sizes.few_seats;
+-- as many seats as numbers of roles
+pub many_new : (kind nodes limit : ℕ) (numbers : List ℕ) (q : Queue) (seats : List SeatOf) → IsNew kind nodes limit numbers q seats → length seats ≡ length numbers
+many_new kind nodes limit numbers (First p) seats n =
+    ap length n.those ∙ length-map n.within as_first ∙ n.made.count ∙ sym (length-map n.layout.roles role_number) ∙ ap length n.of_roles
+many_new kind nodes limit numbers (Second r) seats n =
+    ap length n.1.those ∙ length-map n.1.within as_second ∙ n.1.made.count ∙ sym (length-map n.1.roles ring_role_number) ∙ ap length n.1.of_roles
+
+module _ (kind nodes limit : ℕ) (numbers : List ℕ) where
+  -- the seats of a new queue, each with a share
+  pub unused_of : (q : Queue) (seats : List SeatOf) (owned : List Owned) → All (λ s. queue_of s ≡ q) owned → map seat_of owned ≡ seats
+      → IsNew kind nodes limit numbers q seats → AreNew (permits_of q) (map known_of seats) → AreUnused kind nodes limit numbers owned
+  unused_of q seats owned one e made new = record {
+    queue = q;
+    made = subst (IsNew kind nodes limit numbers q) (sym e) made;
+    one = one;
+    unused = subst (λ ks. AreNew (permits_of q) ks) (ap (map known_of) (sym e) ∙ map-map known_of seat_of owned) new;
   }
 
-  -- and handles with its seats are as they were asked for
-  pub asked_if : {V E : Type 0} (out : Result V E) (items : V → List MsqSeat)
-      → IfOk out (λ v. AreMade (plan_for k nodes limit roles) (items v)) → IfOk out (λ v. AreAsked kind nodes limit numbers (items v))
-  asked_if (Ok v) items m = record { layout = plan_for k nodes limit roles; of_kind = kinds; of_roles = those; planned = refl; made = m }
-  asked_if (Err refusal) items m = tt
+  all_asked : (owned : List Owned) (seats : List OwnSeat) (slots : List MsqSeat)
+      → map owned_in seats ≡ owned → AreUnused kind nodes limit numbers owned → ArePut seats slots → AreAsked kind nodes limit numbers slots
+  all_asked owned seats slots e u p =
+      let same : owned ≡ map (λ (h : MsqSeat). owned_in (own_at h)) slots =
+      sym e ∙ ap (map owned_in) (sym p.those) ∙ map-map owned_in own_at slots in
+      let known : map (λ (s : Owned). known_of (seat_of s)) owned ≡ map known_at slots =
+      ap (map (λ (s : Owned). known_of (seat_of s))) same ∙ map-map (λ (s : Owned). known_of (seat_of s)) (λ (h : MsqSeat). owned_in (own_at h)) slots in
+      let sat : map seat_of owned ≡ map seat_at slots = ap (map seat_of) same ∙ map-map seat_of (λ (h : MsqSeat). owned_in (own_at h)) slots in
+      record {
+        queue = u.queue;
+        made = subst (IsNew kind nodes limit numbers u.queue) sat u.made;
+        full = p.full;
+        one = All-unmap (λ s. queue_of s ≡ u.queue) (λ (h : MsqSeat). owned_in (own_at h)) slots (subst (All (λ s. queue_of s ≡ u.queue)) same u.one);
+        unused = subst (λ ks. AreNew (permits_of u.queue) ks) known u.unused;
+      }
+
+  -- handles that blocks with the seats of a new queue were put into
+  pub asked_if : {V E B : Type 0} (out : Result V E) (items : V → List MsqSeat) (value : B → OwnSeat) (boxes : List B) (owned : List Owned)
+      → map (λ b. owned_in (value b)) boxes ≡ owned → AreUnused kind nodes limit numbers owned → IfOk out (λ v. ArePut (map value boxes) (items v))
+      → IfOk out (λ v. AreAsked kind nodes limit numbers (items v))
+  asked_if (Ok v) items value boxes owned e u p = all_asked owned (map value boxes) (items v) (map-map owned_in value boxes ∙ e) u p
+  asked_if (Err refusal) items value boxes owned e u p = tt
 
   -- as many as there are roles
   pub len_if : {V E : Type 0} (out : Result V E) (items : V → List MsqSeat)
-      → IfOk out (λ v. AreMade (plan_for k nodes limit roles) (items v)) → IfOk out (λ v. length (items v) ≡ length numbers)
-  len_if (Ok v) items m = sym (length-map (items v) seat_at) ∙ m.made.count ∙ sym many
+      → IfOk out (λ v. AreAsked kind nodes limit numbers (items v)) → IfOk out (λ v. length (items v) ≡ length numbers)
+  len_if (Ok v) items m = sym (length-map (items v) seat_at) ∙ many_new kind nodes limit numbers m.queue (map seat_at (items v)) m.made
   len_if (Err refusal) items m = tt

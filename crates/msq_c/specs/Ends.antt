@@ -1,19 +1,18 @@
 -- The end of a queue, by handles.
-use Rattle.std.specs.Prelude.{◌≡◌, ℕ, ◌+◌, List, [], length, map, true, false}
+use Rattle.std.specs.Prelude.{◌≡◌, ℕ, ◌+◌, ◌≤◌, List, [], length, map, vec_capacity, true, false}
 use Rattle.std.specs.List.{All, AllPass}
 use Rattle.history.specs.Closing.{Closes}
 use Rattle.history.specs.declared.refusals.Refusal.TheVariants.{Memory}
 use Rattle.history.specs.declared.rests.Rest.{Rest}
-use Rattle.node_arena.specs.declared.ended.Ended.{Ended}
-use Rattle.node_arena.specs.declared.seats.Seat.{Seat}
-use Rattle.node_arena.specs.Ended.{HasRoomFor, Leaves}
-use Rattle.owned_seats.specs.declared.closing.EndRoom.{EndRoom}
-use Rattle.owned_seats.specs.Unended.{HasEndRoom}
-use Rattle.any_queue.specs.declared.picked.PickedQueue.{PickedQueue}
-use Rattle.any_queue.specs.Picked.{picked_arena_of, picked_permits_of}
+use Rattle.node_arena.specs.Ended.{HasRoomFor}
+use Rattle.any_queue.specs.Picked.{picked_arena_of}
+use Rattle.ring_queue.specs.Closing as ring
+use Rattle.either_queue.specs.Ends.{HasEitherRoom}
+use Rattle.msq_c.specs.declared.own_seats.EndRoom.{EndRoom}
 use Rattle.msq_c.specs.declared.handles.MsqSeat.{MsqSeat}
 use Rattle.msq_c.specs.declared.troubles.Trouble.{Trouble}
 use Rattle.msq_c.specs.declared.troubles.Trouble.TheVariants.{Refused, BadSize, NoHandle, InUse, Raced}
+use Rattle.msq_c.specs.Queues.{Queue, EndOf, permits_of, EndsWith, IsEnough}
 use Rattle.msq_c.specs.Own.{Owned, owned_in}
 use Rattle.msq_c.specs.Seats.{is_full, own_at, known_at, queue_at}
 
@@ -27,7 +26,7 @@ AreEmpty slots = All (λ h. is_full h ≡ false) slots
 
 -- the full ones of these handles are of one queue
 pub record AreOfOne (slots : List MsqSeat) : Type 0 where
-  pub queue : PickedQueue
+  pub queue : Queue
   pub one : All (λ h. is_full h ≡ true → queue_at h ≡ queue) slots
 
 -- full handles keep their seats
@@ -40,32 +39,40 @@ abbrev pub owned_at : MsqSeat → Owned
 owned_at h = owned_in (own_at h)
 
 -- the queue of these handles was closed by all of them, with its end
-pub record ClosesHandles (slots : List MsqSeat) (rest : Rest) (end : Ended (Unit {0})) : Type 0 where
-  pub queue : PickedQueue
+pub record ClosesHandles (slots : List MsqSeat) (rest : Rest) (end : EndOf) : Type 0 where
+  pub queue : Queue
   pub one : All (λ h. queue_at h ≡ queue) slots
-  pub closes : Closes (picked_permits_of queue) (map known_at slots) rest
-  pub ends : Leaves (picked_arena_of queue) end rest
+  pub closes : Closes (permits_of queue) (map known_at slots) rest
+  pub ends : EndsWith queue end rest
 
 -- memory was refused
 abbrev pub IsMemory : Trouble → Type 0
 IsMemory refusal = refusal ≡ Refused Memory
 
--- there is room for the end of a queue by a seat and so many others
-abbrev pub HasAnyRoom : PickedQueue → (others : ℕ) → EndRoom PickedQueue (Seat (Unit {0})) → Type 0
-HasAnyRoom queue others room = HasEndRoom (λ q. HasRoomFor (picked_arena_of q)) queue others room
+-- there is room for the end of a queue by so many seats, which are enough for it
+pub record HasAnyRoom (q : Queue) (count : ℕ) (room : EndRoom) : Type 0 where
+  pub enough : IsEnough q count
+  pub rest : HasEitherRoom (λ p. HasRoomFor (picked_arena_of p)) ring.HasRoomFor q count room.rest
+  pub none : room.seats.items ≡ []
+  pub seats : count ≤ vec_capacity room.seats
 
--- there is room for the end of the queue of full handles, whichever it is
-abbrev pub HasRoomOf : List MsqSeat → EndRoom PickedQueue (Seat (Unit {0})) → Type 0
-HasRoomOf slots room = (q : PickedQueue) (others : ℕ) → length slots ≡ others + 1 → All (λ h. is_full h ≡ true → queue_at h ≡ q) slots → HasAnyRoom q others room
+-- there is room for the end of the queue of full handles by all of them, whichever it is
+abbrev pub HasRoomOf : List MsqSeat → EndRoom → Type 0
+HasRoomOf slots room = (q : Queue) (others : ℕ) → length slots ≡ others + 1 → All (λ h. is_full h ≡ true → queue_at h ≡ q) slots → HasAnyRoom q (others + 1) room
 
--- why there is no such room: there are no handles, or memory was refused
+-- why there is no such room: others have a share of the queue, or it asks for more seats; or memory was refused
+abbrev pub IsRoomless : Trouble → Type 0
+IsRoomless InUse = Unit {0}
+IsRoomless (Refused refusal) = refusal ≡ Memory
+IsRoomless _ = ⊥
+
+-- the same of handles, of which there may be none
 abbrev pub RefusesRoom : List MsqSeat → Trouble → Type 0
 RefusesRoom slots BadSize = slots ≡ []
-RefusesRoom slots (Refused refusal) = refusal ≡ Memory
-RefusesRoom slots _ = ⊥
+RefusesRoom slots refusal = IsRoomless refusal
 
--- why a queue isn't closed: a handle is empty, and nothing changed; there are no handles; others have a share of it, or memory
--- was refused, and then all handles keep their seats; or others got a share meanwhile, and then all are empty
+-- why a queue isn't closed: a handle is empty, and nothing changed; there are no handles; others have a share of it, it
+-- is a ring that has further seats, or memory was refused, and then all handles keep their seats; or others got a share meanwhile, and then all are empty
 abbrev pub RefusesClose : List MsqSeat → List MsqSeat → Trouble → Type 0
 RefusesClose slots slots' NoHandle = (AreFull slots → ⊥) × (slots' ≡ slots)
 RefusesClose slots slots' BadSize = slots ≡ []

@@ -1,6 +1,7 @@
 pub mod Boxed
 pub mod Codes
 pub mod Ends
+pub mod Queues
 pub mod Looks
 pub mod Made
 pub mod Own

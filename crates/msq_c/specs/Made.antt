@@ -1,26 +1,33 @@
 -- The handles of a new queue.
-use Rattle.std.specs.Prelude.{◌≡◌, ℕ, ◌<◌, ◌≤◌, ◌^◌, ◌⊎◌, ◌≢◌, min, List, map, length, Result, OnOk, OnErr, IfErr}
+use Rattle.std.specs.Prelude.{◌≡◌, ℕ, ◌+◌, ◌*◌, ◌<◌, ◌≤◌, ◌^◌, ◌⊎◌, ◌≢◌, ◌-◌, min, List, map, length, Result, OnOk, OnErr, IfErr}
 use Rattle.std.specs.List.{All}
 use Rattle.line_table.specs.declared.lines.Kind.{Kind}
 use Rattle.line_table.specs.declared.lines.Kind.TheVariants.{NonBlocking, TwoLock}
 use Rattle.history.specs.declared.refusals.Refusal.TheVariants.{Memory}
 use Rattle.history.specs.Openings.{AreNew}
 use Rattle.history.specs.Limits.{actor_bits}
-use Rattle.counted_ref.specs.Ref.{reserved_node, count_bits}
+use Rattle.counted_ref.specs.Ref.{reserved_node}
 use Rattle.node_arena.specs.declared.seats.Seat.{Seat}
 use Rattle.node_arena.specs.declared.roles.Role.{Role}
 use Rattle.node_arena.specs.declared.roles.Role.TheVariants.{Giver, Taker, Both}
-use Rattle.node_arena.specs.Seats.{known_of}
 use Rattle.node_arena.specs.Plans.{Layout}
 use Rattle.node_arena.specs.Making.{IsMade}
 use Rattle.owned_seats.specs.Owned.{queue_of, seat_of}
 use Rattle.any_queue.specs.Splits.{bits_for, greatest_count, limited_plan}
 use Rattle.any_queue.specs.declared.picked.PickedQueue.{PickedQueue}
-use Rattle.any_queue.specs.Picked.{picked_arena_of, picked_permits_of}
+use Rattle.any_queue.specs.Picked.{picked_arena_of}
+use Rattle.ring_queue.specs.declared.queue.RingQueue.{RingQueue}
+use Rattle.ring_queue.specs.declared.roles.Role.{Role as RingRole}
+use Rattle.ring_queue.specs.declared.roles.Role.TheVariants as ring_role
+use Rattle.ring_queue.specs.declared.seats.Seat.{Seat as RingSeat}
+use Rattle.ring_queue.specs.Making as ring
+use Rattle.either_queue.specs.declared.either.EitherQueue.TheVariants.{First, Second}
+use Rattle.either_queue.specs.Either.{as_first, as_second}
 use Rattle.msq_c.specs.declared.own_seats.OwnSeat.{OwnSeat}
 use Rattle.msq_c.specs.declared.handles.MsqSeat.{MsqSeat}
 use Rattle.msq_c.specs.declared.troubles.Trouble.{Trouble}
 use Rattle.msq_c.specs.declared.troubles.Trouble.TheVariants.{Refused, BadSize, InUse}
+use Rattle.msq_c.specs.Queues.{Queue, SeatOf, known_of, permits_of}
 use Rattle.msq_c.specs.Own.{Owned, seat_in}
 use Rattle.msq_c.specs.Ends.{AreFull, AreEmpty}
 use Rattle.msq_c.specs.Seats.{own_at, known_at, queue_at}
@@ -36,6 +43,12 @@ role_number Giver = 1
 role_number Taker = 2
 role_number Both = 3
 
+-- the number of a role in a ring
+abbrev pub ring_role_number : RingRole → ℕ
+ring_role_number ring_role.Giver = 1
+ring_role_number ring_role.Taker = 2
+ring_role_number ring_role.Both = 3
+
 -- a number is that of a role
 abbrev pub IsRole : ℕ → Type 0
 IsRole n = (1 ≤ n) × (n ≤ 3)
@@ -49,29 +62,40 @@ count_for nodes limit = min limit (greatest_count (bits_for nodes))
 abbrev pub plan_for : Kind → (nodes limit : ℕ) → List Role → Layout
 plan_for kind nodes limit roles = limited_plan kind nodes (count_for nodes limit) roles
 
--- a queue of either kind has such sizes, of the split for its nodes
+-- how many places a seat of a ring may have in reserve
+abbrev pub reserve : ℕ
+reserve = 32
+
+-- the last place of a ring that so many values make full, with so many seats and this limit: so many pushes are left at first, and
+-- more, as its slots and all reserves are no more than three times its values and reserves; or the greatest place there is
+abbrev pub places_for : (values seats limit : ℕ) → ℕ
+places_for values seats limit = min (limit + 3 * (values + reserve * seats)) (2 ^ 62 - 1)
+
+-- a queue has such sizes
 pub record AreSizes (nodes limit seats : ℕ) : Type 0 where
   pub some_nodes : 2 ≤ nodes
   pub numbered : nodes < reserved_node 32
   pub counts : 1 ≤ limit
-  pub counted : limit < 2 ^ count_bits 16
+  pub counted : limit < 2 ^ 62
   pub some_seats : 1 ≤ seats
   pub few_seats : seats < 2 ^ actor_bits
 
 -- no queue has such sizes: one of them is out of its range
 abbrev pub AreNoSizes : (nodes limit seats : ℕ) → Type 0
 AreNoSizes nodes limit seats =
-    ((nodes < 2) ⊎ (reserved_node 32 ≤ nodes)) ⊎ ((limit < 1) ⊎ (2 ^ count_bits 16 ≤ limit)) ⊎ ((seats < 1) ⊎ (2 ^ actor_bits ≤ seats))
+    ((nodes < 2) ⊎ (reserved_node 32 ≤ nodes)) ⊎ ((limit < 1) ⊎ (2 ^ 62 ≤ limit)) ⊎ ((seats < 1) ⊎ (2 ^ actor_bits ≤ seats))
 
--- these numbers ask for a queue: they are of a kind and of roles, and its sizes are in their ranges
+-- these numbers ask for a queue: they are of a kind and of roles, its sizes are in their ranges, and a ring has so few seats
 pub record Asks (kind nodes limit : ℕ) (roles : List ℕ) : Type 0 where
-  pub of_kind : kind ≤ 1
+  pub of_kind : kind ≤ 2
   pub of_roles : All IsRole roles
   pub sizes : AreSizes nodes limit (length roles)
+  pub few_of_ring : kind ≡ 2 → length roles < 2 ^ 15
 
--- one of these numbers is out of its range: that of the kind, that of a role, or a size
+-- one of these numbers is out of its range: that of the kind, that of a role, a size, or how many seats a ring has
 abbrev pub IsOutOfRange : (kind nodes limit : ℕ) (roles : List ℕ) → Type 0
-IsOutOfRange kind nodes limit roles = (1 < kind) ⊎ (All IsRole roles → ⊥) ⊎ AreNoSizes nodes limit (length roles)
+IsOutOfRange kind nodes limit roles =
+    (2 < kind) ⊎ (All IsRole roles → ⊥) ⊎ AreNoSizes nodes limit (length roles) ⊎ ((kind ≡ 2) × (2 ^ 15 ≤ length roles))
 
 -- a queue may be made: its numbers are in their ranges, and there is an empty handle for each role
 pub record MayMake (kind nodes limit : ℕ) (roles : List ℕ) (slots : List MsqSeat) : Type 0 where
@@ -79,12 +103,35 @@ pub record MayMake (kind nodes limit : ℕ) (roles : List ℕ) (slots : List Msq
   pub count : length roles ≡ length slots
   pub asks : Asks kind nodes limit roles
 
--- these are the seats of one new queue of a plan, each with a share
-pub record AreUnused (z : Layout) (owned : List Owned) : Type 0 where
-  pub queue : PickedQueue
-  pub made : IsMade z (picked_arena_of queue) (map seat_of owned)
+-- a new queue of nodes, and its seats: of the kind and of the roles with these numbers, and of these sizes
+pub record IsNewLinked (kind nodes limit : ℕ) (roles : List ℕ) (q : PickedQueue) (seats : List SeatOf) : Type 0 where
+  pub layout : Layout
+  pub of_kind : kind_number layout.setup.kind ≡ kind
+  pub of_roles : map role_number layout.roles ≡ roles
+  pub planned : layout ≡ plan_for layout.setup.kind nodes limit layout.roles
+  pub within : List (Seat (Unit {0}))
+  pub those : seats ≡ map as_first within
+  pub made : IsMade layout (picked_arena_of q) within
+
+-- a new ring, and its seats: of the roles with these numbers, and of these sizes
+pub record IsNewRing (values limit : ℕ) (numbers : List ℕ) (q : RingQueue) (seats : List SeatOf) : Type 0 where
+  pub roles : List RingRole
+  pub of_roles : map ring_role_number roles ≡ numbers
+  pub within : List RingSeat
+  pub those : seats ≡ map as_second within
+  pub made : ring.IsMade values reserve (places_for values (length numbers) limit) roles q within
+
+-- a new queue of the kind with this number, and its seats
+abbrev pub IsNew : (kind nodes limit : ℕ) (roles : List ℕ) → Queue → List SeatOf → Type 0
+IsNew kind nodes limit roles (First q) seats = IsNewLinked kind nodes limit roles q seats
+IsNew kind nodes limit roles (Second q) seats = (kind ≡ 2) × IsNewRing nodes limit roles q seats
+
+-- these are the seats of one new queue, as these numbers ask for it, each with a share
+pub record AreUnused (kind nodes limit : ℕ) (roles : List ℕ) (owned : List Owned) : Type 0 where
+  pub queue : Queue
+  pub made : IsNew kind nodes limit roles queue (map seat_of owned)
   pub one : All (λ s. queue_of s ≡ queue) owned
-  pub unused : AreNew (picked_permits_of queue) (map (λ s. known_of (seat_of s)) owned)
+  pub unused : AreNew (permits_of queue) (map (λ s. known_of (seat_of s)) owned)
 
 -- these handles are full of these seats, in their order
 pub record ArePut (seats : List OwnSeat) (slots : List MsqSeat) : Type 0 where
@@ -92,24 +139,17 @@ pub record ArePut (seats : List OwnSeat) (slots : List MsqSeat) : Type 0 where
   pub those : map own_at slots ≡ seats
 
 -- the seat itself of a handle, where there is one
-abbrev pub seat_at : MsqSeat → Seat (Unit {0})
+abbrev pub seat_at : MsqSeat → SeatOf
 seat_at h = seat_in (own_at h)
 
--- these handles have all the seats of one new queue of a plan, in their order
-pub record AreMade (z : Layout) (slots : List MsqSeat) : Type 0 where
-  pub queue : PickedQueue
-  pub made : IsMade z (picked_arena_of queue) (map seat_at slots)
+-- these handles have all the seats of one new queue, in their order: of the kind and of the roles with these numbers, and of these
+-- sizes
+pub record AreAsked (kind nodes limit : ℕ) (roles : List ℕ) (slots : List MsqSeat) : Type 0 where
+  pub queue : Queue
+  pub made : IsNew kind nodes limit roles queue (map seat_at slots)
   pub full : AreFull slots
   pub one : All (λ h. queue_at h ≡ queue) slots
-  pub unused : AreNew (picked_permits_of queue) (map known_at slots)
-
--- these handles have all the seats of one new queue: of the kind and of the roles with these numbers, and of these sizes
-pub record AreAsked (kind nodes limit : ℕ) (roles : List ℕ) (slots : List MsqSeat) : Type 0 where
-  pub layout : Layout
-  pub of_kind : kind_number layout.setup.kind ≡ kind
-  pub of_roles : map role_number layout.roles ≡ roles
-  pub planned : layout ≡ plan_for layout.setup.kind nodes limit layout.roles
-  pub made : AreMade layout slots
+  pub unused : AreNew (permits_of queue) (map known_at slots)
 
 -- why no queue is made: a handle is full; else a number is out of its range, or there are fewer handles than roles, or more;
 -- else memory was refused

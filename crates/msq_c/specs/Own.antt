@@ -3,31 +3,42 @@ use Rattle.std.specs.Prelude.{◌≡◌, ◌⊎◌, ℕ, ◌≤◌, ◌^◌, Lis
 use Rattle.history.specs.Limits.{body_bits}
 use Rattle.history.specs.Seats.{Permit, Known, MayPush, MayPop}
 use Rattle.history.specs.Answers.{StopsPush, StopsPop, StopsShut, PushRefused, PopRefused}
-use Rattle.node_arena.specs.declared.seats.Seat.{Seat}
-use Rattle.node_arena.specs.Seats.{known_of}
 use Rattle.owned_seats.specs.declared.seats.OwnedSeat.{OwnedSeat}
 use Rattle.owned_seats.specs.Owned.{queue_of, seat_of}
-use Rattle.any_queue.specs.declared.picked.PickedQueue.{PickedQueue}
-use Rattle.any_queue.specs.contracts.picked.PickedQueueFifo.TheImpl as fifo
-use Rattle.any_queue.specs.Picked.{picked_permits_of, PickedPushRefused, PickedPopRefused, PickedShutRefused}
+use Rattle.history.specs.declared.queues.Fifo.{Ghosts}
+use Rattle.any_queue.specs.Picked.{IsPickedSeat, PickedPushRefused, PickedPopRefused, PickedShutRefused}
+use Rattle.ring_queue.specs.Queues.{IsQueueSeat, push_causes, pop_causes, shut_causes}
+use Rattle.either_queue.specs.Either.{IsEitherSeat, EitherCause}
 use Rattle.msq_c.specs.declared.own_seats.OwnSeat.{OwnSeat}
 use Rattle.msq_c.specs.declared.troubles.Trouble.{Trouble}
 use Rattle.msq_c.specs.declared.troubles.Trouble.TheVariants.{Refused, BadSize, NoRole}
+use Rattle.msq_c.specs.Queues.{Queue, SeatOf, known_of, permits_of}
 
--- a seat of a queue of either kind, with its share
+-- what a queue of any kind names as a queue with seats
+abbrev pub fifo : Ghosts Queue SeatOf
+fifo = record {
+  is_seat = IsEitherSeat IsPickedSeat IsQueueSeat;
+  permits = permits_of;
+  known = known_of;
+  push_cause = EitherCause PickedPushRefused push_causes;
+  pop_cause = EitherCause PickedPopRefused pop_causes;
+  shut_cause = EitherCause PickedShutRefused shut_causes;
+}
+
+-- a seat of a queue of any kind, with its share
 abbrev pub Owned : Type 0
-Owned = OwnedSeat PickedQueue (Seat (Unit {0})) fifo.ghosts
+Owned = OwnedSeat Queue SeatOf fifo
 
 -- the seat with its share
 abbrev pub owned_in : OwnSeat → Owned
 owned_in s = s.owned
 
 -- the queue of a seat
-abbrev pub queue_in : OwnSeat → PickedQueue
+abbrev pub queue_in : OwnSeat → Queue
 queue_in s = queue_of s.owned
 
 -- the seat itself
-abbrev pub seat_in : OwnSeat → Seat (Unit {0})
+abbrev pub seat_in : OwnSeat → SeatOf
 seat_in s = seat_of s.owned
 
 -- what a seat knows
@@ -36,13 +47,13 @@ known_in s = known_of (seat_in s)
 
 -- what each seat of its queue may do
 abbrev pub permits_in : OwnSeat → List Permit
-permits_in s = picked_permits_of (queue_in s)
+permits_in s = permits_of (queue_in s)
 
 -- why a push is refused: by the queue, for its cause; or a number is out of its range, or the seat may not push, and nothing
 -- changed
 abbrev pub RefusesPush : OwnSeat → OwnSeat → (body turns : ℕ) → Trouble → Type 0
 RefusesPush s t body turns (Refused refusal) =
-    StopsPush refusal × PushRefused (known_in s) refusal (known_in t) × PickedPushRefused (queue_in s) (seat_in s) (seat_in t) turns refusal
+    StopsPush refusal × PushRefused (known_in s) refusal (known_in t) × EitherCause PickedPushRefused push_causes (queue_in s) (seat_in s) (seat_in t) turns refusal
 RefusesPush s t body turns BadSize = ((turns ≡ 0) ⊎ (2 ^ body_bits ≤ body)) × (t ≡ s)
 RefusesPush s t body turns NoRole = (MayPush (permits_in s) (known_in s).number → ⊥) × (t ≡ s)
 RefusesPush s t body turns _ = ⊥
@@ -50,7 +61,7 @@ RefusesPush s t body turns _ = ⊥
 -- why a pop is refused: by the queue, for its cause; or the turns are none, or the seat may not pop, and nothing changed
 abbrev pub RefusesPop : OwnSeat → OwnSeat → (turns : ℕ) → Trouble → Type 0
 RefusesPop s t turns (Refused refusal) =
-    StopsPop refusal × PopRefused (known_in s) refusal (known_in t) × PickedPopRefused (queue_in s) (seat_in s) (seat_in t) turns refusal
+    StopsPop refusal × PopRefused (known_in s) refusal (known_in t) × EitherCause PickedPopRefused pop_causes (queue_in s) (seat_in s) (seat_in t) turns refusal
 RefusesPop s t turns BadSize = (turns ≡ 0) × (t ≡ s)
 RefusesPop s t turns NoRole = (MayPop (permits_in s) (known_in s).number → ⊥) × (t ≡ s)
 RefusesPop s t turns _ = ⊥
@@ -58,7 +69,7 @@ RefusesPop s t turns _ = ⊥
 -- why a shut is refused: by the queue, for its cause; or the turns are none, or the seat may not push, and nothing changed
 abbrev pub RefusesShut : OwnSeat → OwnSeat → (turns : ℕ) → Trouble → Type 0
 RefusesShut s t turns (Refused refusal) =
-    StopsShut refusal × PushRefused (known_in s) refusal (known_in t) × PickedShutRefused (queue_in s) (seat_in s) (seat_in t) turns refusal
+    StopsShut refusal × PushRefused (known_in s) refusal (known_in t) × EitherCause PickedShutRefused shut_causes (queue_in s) (seat_in s) (seat_in t) turns refusal
 RefusesShut s t turns BadSize = (turns ≡ 0) × (t ≡ s)
 RefusesShut s t turns NoRole = (MayPush (permits_in s) (known_in s).number → ⊥) × (t ≡ s)
 RefusesShut s t turns _ = ⊥

@@ -2,11 +2,11 @@
 use Rattle.std.specs.Prelude.{◌≡◌, List, Result, Ok, Err}
 use Rattle.history.specs.declared.rests.Rest.{Rest}
 use Rattle.history.specs.Rests.{left_of, taken_of, whole_of, was_shut_of}
-use Rattle.node_arena.specs.declared.ended.Ended.{Ended}
 use Rattle.msq_c.specs.declared.handles.MsqSeat.{MsqSeat}
 use Rattle.msq_c.specs.declared.values.MsqValue.{MsqValue}
 use Rattle.msq_c.specs.declared.rests.MsqRest.{MsqRest}
 use Rattle.msq_c.specs.declared.troubles.Trouble.{Trouble}
+use Rattle.msq_c.specs.Queues.{EndOf}
 use Rattle.msq_c.specs.Ends.{AreEmpty, ClosesHandles, RefusesClose}
 use Rattle.msq_c.specs.Values.{count_told, AreWritten}
 
@@ -20,7 +20,7 @@ pub record IsRest (rest : Rest) (told : MsqRest) : Type 0 where
 -- the queue of these handles was closed by all of them, which are empty then, and C got what was left
 pub record Closed (slots slots' : List MsqSeat) (vs vs' : List MsqValue) (told : MsqRest) : Type 0 where
   pub rest : Rest
-  pub end : Ended (Unit {0})
+  pub end : EndOf
   pub closes : ClosesHandles slots rest end
   pub empty : AreEmpty slots'
   pub tells : IsRest rest told

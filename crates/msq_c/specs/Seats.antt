@@ -3,11 +3,11 @@ use Rattle.std.specs.Prelude.{◌≡◌, ◌↔◌, ◌⊎◌, ℕ, Bool, true, 
 use Rattle.history.specs.Seats.{Known}
 use Rattle.history.specs.Answers.{Pushed, PopAnswers, DidShut, Meets}
 use Rattle.history.specs.declared.operations.Taken.{Taken}
-use Rattle.any_queue.specs.declared.picked.PickedQueue.{PickedQueue}
 use Rattle.msq_c.specs.declared.own_seats.OwnSeat.{OwnSeat}
 use Rattle.msq_c.specs.declared.handles.MsqSeat.{MsqSeat}
 use Rattle.msq_c.specs.declared.troubles.Trouble.{Trouble}
 use Rattle.msq_c.specs.declared.troubles.Trouble.TheVariants.{NoHandle}
+use Rattle.msq_c.specs.Queues.{Queue}
 use Rattle.msq_c.specs.Own.{queue_in, known_in, RefusesPush, RefusesPop, RefusesShut}
 
 -- whether there is a seat
@@ -23,7 +23,7 @@ abbrev pub known_at : MsqSeat → Known
 known_at h = known_in (own_at h)
 
 -- the queue of the seat, where there is one
-abbrev pub queue_at : MsqSeat → PickedQueue
+abbrev pub queue_at : MsqSeat → Queue
 queue_at h = queue_in (own_at h)
 
 -- a call by a handle keeps whether it is full, and its queue

@@ -2,7 +2,6 @@
 ghost use Rattle.std.specs.Prelude.{◌≡◌};
 
 use arena_queue::Left;
-use node_arena::Len;
 
 /// Bounds of how many values a queue held.
 #[repr(C)]
@@ -10,20 +9,6 @@ use node_arena::Len;
 pub struct MsqLen {
     pub least: u64,
     pub most: u64,
-}
-
-impl MsqLen {
-    ghost use Rattle.msq_c.specs.Looks.{len_of};
-
-    /// What C gets of the bounds.
-    pub(crate) fn of(len: Len) -> MsqLen
-        ensures { result ≡ len_of len }
-    {
-        MsqLen {
-            least: len.least,
-            most: len.most,
-        }
-    }
 }
 
 /// How many pushes a queue has left, and what the counts of its words leave.
@@ -37,9 +22,9 @@ pub struct MsqLeft {
 }
 
 impl MsqLeft {
-    ghost use Rattle.msq_c.specs.Looks.{left_of};
+    ghost use Rattle.msq_c.specs.Looks.{left_of, left_in};
 
-    /// What C gets of what is left.
+    /// What C gets of what is left of a queue of nodes.
     pub(crate) fn of(left: Left) -> MsqLeft
         ensures { result ≡ left_of left }
     {
@@ -48,6 +33,18 @@ impl MsqLeft {
             free: left.free,
             tail: left.tail,
             head: left.head,
+        }
+    }
+
+    /// What C gets of how many pushes a ring has left.
+    pub(crate) fn of_ring(pushes: u64) -> MsqLeft
+        ensures { result ≡ left_in pushes }
+    {
+        MsqLeft {
+            pushes,
+            free: u64::MAX,
+            tail: pushes,
+            head: u64::MAX,
         }
     }
 }

@@ -1,23 +1,25 @@
 //! The end of a queue, by handles.
-ghost use Rattle.std.specs.Prelude.{◌≡◌, ◌++◌, ◌∷◌, [], map, length, true, IfOk, IfErr, OnOk, MatchBool};
+ghost use Rattle.std.specs.Prelude.{◌≡◌, ◌+◌, ◌++◌, ◌∷◌, [], map, length, true, IfOk, IfErr, OnOk, MatchBool};
 ghost use Rattle.std.specs.List.{All};
 ghost use Rattle.history.specs.Closing.{Closes};
-ghost use Rattle.node_arena.specs.Seats.{known_of};
 ghost use Rattle.owned_seats.specs.Owned.{queue_of, seat_of};
-ghost use Rattle.node_arena.specs.Ended.{Leaves};
-ghost use Rattle.any_queue.specs.Picked.{picked_arena_of, picked_permits_of};
+ghost use Rattle.msq_c.specs.Queues.{known_of, permits_of, EndsWith};
 ghost use Rattle.msq_c.specs.Seats.{is_full, own_at, queue_at};
 ghost use Rattle.msq_c.specs.Ends.{AreFull, AreEmpty, AreOfOne, KeepSeats, owned_at};
-ghost use Rattle.msq_c.specs.Ends.{HasAnyRoom, HasRoomOf, RefusesRoom};
+ghost use Rattle.msq_c.specs.Ends.{HasAnyRoom, HasRoomOf, IsRoomless, RefusesRoom};
 ghost use Rattle.msq_c.specs.Ends.{ClosesHandles, IsMemory, RefusesClose};
 
 use crate::handles::MsqSeat;
+use crate::own_seats::{EndRoom, Queue};
 use crate::troubles::Trouble;
-use any_queue::PickedQueue;
+use either_queue::EitherEnd;
 use history::{Refusal, Rest};
 use node_arena::Ended;
-use owned_seats::{EndRoom, OwnedSeat};
+use owned_seats::OwnedSeat;
 use std::alloc::Global;
+
+/// What an end of a queue gives beside the rest.
+pub(crate) type End = EitherEnd<Ended, ()>;
 
 // Whether each handle is full.
 fn all_are_full(slots: &[MsqSeat]) -> bool
@@ -26,49 +28,22 @@ fn all_are_full(slots: &[MsqSeat]) -> bool
     slots.iter().all(|slot| slot.is_full())
 }
 
-// How many shares there are of the queue of a full handle.
-fn shares_at(alloc: Global, slot: &mut MsqSeat) -> usize
+// Room for the end of the queue of a full handle by so many seats, which are all that have a share of it, and enough.
+fn room_at(alloc: Global, slot: &mut MsqSeat, count: usize) -> Result<EndRoom, Trouble>
     requires { is_full slot.old ≡ true }
     ensures full { is_full slot.new ≡ true }
     ensures seat { own_at slot.new ≡ own_at slot.old }
+    ensures room { IfOk result (HasAnyRoom (queue_at slot.old) count) }
+    ensures refused { IfErr result IsRoomless }
 {
     let own = slot.lift(alloc);
-    let shares = own.shares();
-    *slot = MsqSeat::of(own);
-    shares
-}
-
-// How many shares there are of the queue of full handles, by the first one.
-fn shares_of(alloc: Global, slots: &mut [MsqSeat]) -> usize
-    requires { AreFull slots.old }
-    ensures { KeepSeats slots.old slots.new }
-{
-    if slots.is_empty() {
-        return 0;
-    }
-    shares_at(alloc, &mut slots[0])
-}
-
-// Room for the end of the queue of a full handle, by its seat and so many others.
-fn room_at(
-    alloc: Global,
-    slot: &mut MsqSeat,
-    others: usize,
-) -> Result<EndRoom<PickedQueue>, Trouble>
-    requires { is_full slot.old ≡ true }
-    ensures full { is_full slot.new ≡ true }
-    ensures seat { own_at slot.new ≡ own_at slot.old }
-    ensures room { IfOk result (HasAnyRoom (queue_at slot.old) others) }
-    ensures only_memory { IfErr result IsMemory }
-{
-    let own = slot.lift(alloc);
-    let room = own.room(alloc, others);
+    let room = own.room(alloc, count);
     *slot = MsqSeat::of(own);
     room
 }
 
 // Room for the end of the queue of full handles by all of them.
-fn room_of(alloc: Global, slots: &mut [MsqSeat]) -> Result<EndRoom<PickedQueue>, Trouble>
+fn room_of(alloc: Global, slots: &mut [MsqSeat]) -> Result<EndRoom, Trouble>
     requires { AreFull slots.old }
     ensures seats { KeepSeats slots.old slots.new }
     ensures room { IfOk result (HasRoomOf slots.old) }
@@ -77,8 +52,8 @@ fn room_of(alloc: Global, slots: &mut [MsqSeat]) -> Result<EndRoom<PickedQueue>,
     if slots.is_empty() {
         return Err(Trouble::BadSize);
     }
-    let others = slots.len() - 1;
-    room_at(alloc, &mut slots[0], others)
+    let count = slots.len();
+    room_at(alloc, &mut slots[0], count)
 }
 
 // As many empty handles.
@@ -97,7 +72,7 @@ fn empties(alloc: Global, like: &[MsqSeat]) -> Result<Vec<MsqSeat>, Trouble>
 }
 
 // The seats of full handles, which are left empty; where memory is refused, as they were.
-fn take_all(alloc: Global, slots: &mut [MsqSeat]) -> Result<Vec<OwnedSeat<PickedQueue>>, Trouble>
+fn take_all(alloc: Global, slots: &mut [MsqSeat]) -> Result<Vec<OwnedSeat<Queue>>, Trouble>
     requires { AreFull slots.old }
     ensures taken { IfOk result (λ owned. owned.items ≡ map owned_at slots.old) }
     ensures empty { OnOk result (AreEmpty slots.new) }
@@ -116,25 +91,26 @@ fn take_all(alloc: Global, slots: &mut [MsqSeat]) -> Result<Vec<OwnedSeat<Picked
 
 // Ends the queue of these seats, the last one and others.
 fn ended(
-    room: EndRoom<PickedQueue>,
-    last: OwnedSeat<PickedQueue>,
-    others: Vec<OwnedSeat<PickedQueue>>,
-) -> Result<(Rest, Ended), Trouble>
-    requires room { HasAnyRoom (queue_of last) (length others.items) room }
+    room: EndRoom,
+    last: OwnedSeat<Queue>,
+    others: Vec<OwnedSeat<Queue>>,
+) -> Result<(Rest, End), Trouble>
+    requires room { HasAnyRoom (queue_of last) (length others.items + 1) room }
     requires others { All (λ s. queue_of s ≡ queue_of last) others.items }
-    ensures closes { IfOk result (λ r. Closes (picked_permits_of (queue_of last))
+    ensures closes { IfOk result (λ r. Closes (permits_of (queue_of last))
         (map (λ s. known_of (seat_of s)) (others.items ++ last ∷ [])) r.0) }
-    ensures ends { IfOk result (λ r. Leaves (picked_arena_of (queue_of last)) r.1 r.0) }
+    ensures ends { IfOk result (λ r. EndsWith (queue_of last) r.1 r.0) }
     ensures raced { IfErr result (λ refusal. refusal ≡ Trouble.Raced) }
 {
-    match last.close_with(room, others) {
-        Ok(closed) => Ok(closed),
+    let EndRoom { rest, seats } = room;
+    match last.into_queue(seats, others) {
+        Ok((queue, seats)) => Ok(queue.close_with(rest, seats)),
         Err(_) => Err(Trouble::Raced),
     }
 }
 
 /// Ends the queue of these handles, which are all that have a share of it.
-pub(crate) fn close(alloc: Global, slots: &mut [MsqSeat]) -> Result<(Rest, Ended), Trouble>
+pub(crate) fn close(alloc: Global, slots: &mut [MsqSeat]) -> Result<(Rest, End), Trouble>
     requires { AreOfOne slots.old }
     ensures closes { IfOk result (λ r. ClosesHandles slots.old r.0 r.1) }
     ensures empty { OnOk result (AreEmpty slots.new) }
@@ -142,9 +118,6 @@ pub(crate) fn close(alloc: Global, slots: &mut [MsqSeat]) -> Result<(Rest, Ended
 {
     if !all_are_full(slots) {
         return Err(Trouble::NoHandle);
-    }
-    if shares_of(alloc, slots) != slots.len() {
-        return Err(Trouble::InUse);
     }
     let room = room_of(alloc, slots)?;
     let mut owned = take_all(alloc, slots)?;

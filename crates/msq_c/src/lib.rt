@@ -2,11 +2,11 @@
 #![tactic(auto)]
 
 ghost use Rattle.std.specs.Prelude.{◌≡◌, false};
-ghost use Rattle.node_arena.specs.Looks.{FoundSo};
 ghost use Rattle.msq_c.specs.Codes.{Tells, done_code, pop_code};
 ghost use Rattle.msq_c.specs.Seats.{AnswersPush, AnswersPop, AnswersShut, AnswersMeet, MayMeet};
 ghost use Rattle.msq_c.specs.Seats.{is_full};
-ghost use Rattle.msq_c.specs.Looks.{emptiness_code, len_code, TellsLen, TellsLeft, AnswersLook};
+ghost use Rattle.msq_c.specs.Looks.{emptiness_code, len_code};
+ghost use Rattle.msq_c.specs.Looks.{TellsEmptiness, TellsLen, TellsLeft, AnswersLook};
 ghost use Rattle.msq_c.specs.Looks.{IsLenWritten, IsLeftWritten};
 ghost use Rattle.msq_c.specs.Made.{AnswersCreate};
 ghost use Rattle.msq_c.specs.Values.{IsWritten};
@@ -101,15 +101,16 @@ pub extern "C" fn msq_meet(alloc: Global, one: &mut MsqSeat, other: &mut MsqSeat
 pub extern "C" fn msq_emptiness(alloc: Global, slot: &mut MsqSeat) -> u32
     //= library/looks: A look from C at whether the queue is empty tells what `emptiness` of its queue does, by the codes of a
     //=   pop: 0 where it holds a value, `MSQ_EMPTY`, `MSQ_CLOSED` where it is shut too, `MSQ_BUSY` where pops took effect
-    //=   meanwhile. One at its length writes what `len` tells, and is told `MSQ_UNCOUNTED` exactly of a two-lock queue; one
-    //=   at what is left writes what `left` tells. Each is refused exactly where the handle is empty, with `MSQ_NO_SEAT`
-    //=   and no change, and else keeps it full, of the same queue.
-    ensures { Tells emptiness_code result (AnswersLook (λ q. FoundSo) slot.old slot.new) }
+    //=   meanwhile, or the place at the front of a ring that is shut isn't filled. One at its length writes what `len`
+    //=   tells, and is told `MSQ_UNCOUNTED` exactly of a two-lock queue; one at what is left writes what `left` tells, of a
+    //=   ring the pushes. Each is refused exactly where the handle is empty, with `MSQ_NO_SEAT` and no change, and else
+    //=   keeps it full, of the same queue.
+    ensures { Tells emptiness_code result (AnswersLook TellsEmptiness slot.old slot.new) }
 {
     code_of_emptiness(look::<ForValues>(alloc, slot))
 }
 
-/// Bounds of how many values the queue holds, which are written where they can be told: of the non-blocking queue alone.
+/// Bounds of how many values the queue holds, which are written where they can be told: not of the two-lock queue.
 #[unsafe(no_mangle)]
 pub extern "C" fn msq_len(alloc: Global, slot: &mut MsqSeat, len: &mut MsqLen) -> u32
     //= library/looks
@@ -118,7 +119,7 @@ pub extern "C" fn msq_len(alloc: Global, slot: &mut MsqSeat, len: &mut MsqLen) -
 {
     match look::<ForLength>(alloc, slot) {
         Ok(Some(found)) => {
-            *len = MsqLen::of(found);
+            *len = found;
             0
         }
         Ok(None) => UNCOUNTED,
@@ -135,15 +136,15 @@ pub extern "C" fn msq_left(alloc: Global, slot: &mut MsqSeat, left: &mut MsqLeft
 {
     match look::<ForPushes>(alloc, slot) {
         Ok(found) => {
-            *left = MsqLeft::of(found);
+            *left = found;
             0
         }
         Err(refusal) => refusal.code(),
     }
 }
 
-/// Makes a queue of a kind, 0 the non-blocking one and 1 the two-lock one, and fills as many handles as there are roles: 1
-/// pushes, 2 pops, 3 does both.
+/// Makes a queue of a kind, 0 the non-blocking one, 1 the two-lock one and 2 the ring, and fills as many handles as there are
+/// roles: 1 pushes, 2 pops, 3 does both.
 #[unsafe(no_mangle)]
 pub extern "C" fn msq_create(
     alloc: Global,
@@ -155,8 +156,9 @@ pub extern "C" fn msq_create(
 ) -> u32
     //= library/create: A queue made from C tells 0 only where all handles were empty, one for each role, and all
     //=   numbers in range; they are then all the seats, unused and in order, of one queue of the kind, nodes and roles asked
-    //=   for, with the limit as greatest count, or that of the split where it is less. Refused, no handle changed, and the code is just the one that include/msq.h has for
-    //=   the case.
+    //=   for, with the limit as greatest count, or that of the split where it is less; a ring has so many values, 32 places
+    //=   in reserve a seat, and places for as many pushes as the limit says, or all there are. Refused, no handle changed,
+    //=   and the code is just the one that include/msq.h has for the case.
     ensures { Tells done_code result
         (AnswersCreate kind nodes limit roles.now slots.old slots.new) }
 {
@@ -176,7 +178,8 @@ pub extern "C" fn msq_close(
     //= library/end: A queue ended from C tells 0 where all these handles, now empty, closed it: what is left is what
     //=   its own `close` says of their seats, the values written from the front, as many as have room. Refused, nothing
     //=   is written: at `MSQ_NO_SEAT` a handle is empty, and none changed; at `MSQ_BAD_SIZE` there is none; at
-    //=   `MSQ_IN_USE` and `MSQ_MEMORY` all keep their seats; at `MSQ_RACED` all are empty.
+    //=   `MSQ_IN_USE` and `MSQ_MEMORY` all keep their seats; at `MSQ_RACED` all are empty. A ring is ended by all seats that
+    //=   it was made with.
     ensures { Tells done_code result
         (AnswersClose slots.old slots.new values.old values.new rest.old rest.new) }
 {

@@ -1,61 +1,98 @@
 //! A look at its queue by a handle.
 ghost use Rattle.std.specs.Prelude.{◌≡◌};
-ghost use Rattle.node_arena.specs.Looks.{FoundSo};
-ghost use Rattle.msq_c.specs.Looks.{TellsLen, TellsLeft, AnswersLook, emptiness_code};
+ghost use Rattle.msq_c.specs.Looks as looks;
+ghost use Rattle.msq_c.specs.Looks.{TellsEmptiness, TellsLen, TellsLeft, AnswersLook, emptiness_code};
 
+use crate::bounds::{MsqLeft, MsqLen};
 use crate::handles::MsqSeat;
+use crate::own_seats::{Queue, QueueSeat};
 use crate::troubles::{EMPTY, Trouble};
-use any_queue::PickedQueue;
-use arena_queue::Left;
+use either_queue::{EitherQueue, EitherSeat};
 use history::Refusal;
-use node_arena::{Emptiness, Len, Seat};
+use node_arena::Emptiness as Found;
 use owned_seats::Look;
+use ring_queue::Emptiness;
 use std::alloc::Global;
+
+// What a queue of nodes was found to be, as one of any kind.
+fn widened(found: Found) -> Emptiness
+    ensures { result ≡ looks.widened found }
+{
+    match found {
+        Found::Empty => Emptiness::Empty,
+        Found::ShutEmpty => Emptiness::ShutEmpty,
+        Found::Holds => Emptiness::Holds,
+        Found::Moved => Emptiness::Moved,
+    }
+}
 
 /// A look at whether the queue is empty.
 pub(crate) struct ForValues;
 
-impl Look<PickedQueue> for ForValues {
+impl Look<Queue> for ForValues {
     type Told = Emptiness;
 
-    ghost tells = { λ q. FoundSo };
+    ghost tells = { TellsEmptiness };
 
-    fn look(queue: &PickedQueue, seat: &mut Seat) -> Emptiness {
-        queue.emptiness(seat)
+    fn look(queue: &Queue, seat: &mut QueueSeat) -> Emptiness {
+        match (queue, seat) {
+            (EitherQueue::First(queue), EitherSeat::First(seat)) => widened(queue.emptiness(seat)),
+            (EitherQueue::Second(queue), EitherSeat::Second(seat)) => queue.emptiness(seat),
+            _ => unreachable!(),
+        }
     }
 }
 
 /// A look at how many values the queue holds.
 pub(crate) struct ForLength;
 
-impl Look<PickedQueue> for ForLength {
-    type Told = Option<Len>;
+impl Look<Queue> for ForLength {
+    type Told = Option<MsqLen>;
 
     ghost tells = { TellsLen };
 
-    fn look(queue: &PickedQueue, seat: &mut Seat) -> Option<Len> {
-        queue.len(seat)
+    fn look(queue: &Queue, seat: &mut QueueSeat) -> Option<MsqLen> {
+        match (queue, seat) {
+            (EitherQueue::First(queue), EitherSeat::First(seat)) => {
+                let len = queue.len(seat)?;
+                Some(MsqLen {
+                    least: len.least,
+                    most: len.most,
+                })
+            }
+            (EitherQueue::Second(queue), EitherSeat::Second(seat)) => {
+                let len = queue.len(seat);
+                Some(MsqLen {
+                    least: len.least,
+                    most: len.most,
+                })
+            }
+            _ => unreachable!(),
+        }
     }
 }
 
 /// A look at how many pushes the queue has left.
 pub(crate) struct ForPushes;
 
-impl Look<PickedQueue> for ForPushes {
-    type Told = Left;
+impl Look<Queue> for ForPushes {
+    type Told = MsqLeft;
 
     ghost tells = { TellsLeft };
 
-    fn look(queue: &PickedQueue, seat: &mut Seat) -> Left {
-        queue.left(seat)
+    fn look(queue: &Queue, seat: &mut QueueSeat) -> MsqLeft {
+        match (queue, seat) {
+            (EitherQueue::First(queue), EitherSeat::First(seat)) => MsqLeft::of(queue.left(seat)),
+            (EitherQueue::Second(queue), EitherSeat::Second(seat)) => {
+                MsqLeft::of_ring(queue.left(seat))
+            }
+            _ => unreachable!(),
+        }
     }
 }
 
 /// A look by a handle.
-pub(crate) fn look<L: Look<PickedQueue>>(
-    alloc: Global,
-    slot: &mut MsqSeat,
-) -> Result<L::Told, Trouble>
+pub(crate) fn look<L: Look<Queue>>(alloc: Global, slot: &mut MsqSeat) -> Result<L::Told, Trouble>
     ensures { AnswersLook L.tells slot.old slot.new result }
 {
     if !slot.is_full() {
@@ -75,7 +112,7 @@ pub(crate) fn code_of_emptiness(found: Result<Emptiness, Trouble>) -> u32
         Ok(Emptiness::Holds) => 0,
         Ok(Emptiness::Empty) => EMPTY,
         Ok(Emptiness::ShutEmpty) => Trouble::Refused(Refusal::Closed).code(),
-        Ok(Emptiness::Moved) => Trouble::Refused(Refusal::Busy).code(),
+        Ok(Emptiness::Moved) | Ok(Emptiness::Unfilled) => Trouble::Refused(Refusal::Busy).code(),
         Err(refusal) => refusal.code(),
     }
 }

@@ -1,24 +1,35 @@
 //! A new queue, and a handle for each of its seats.
-ghost use Rattle.std.specs.Prelude.{◌≡◌, ◌≤◌, map, length, IfOk, IfErr, OnOk, OnErr, MatchBool};
+ghost use Rattle.std.specs.Prelude.{◌≡◌, ◌<◌, ◌≤◌, ◌^◌, map, length, IfOk, IfErr, OnOk, OnErr, MatchBool};
 ghost use Rattle.std.specs.List.{All};
-ghost use Rattle.node_arena.specs.Plans.{Layout, IsPlanned};
+ghost use Rattle.history.specs.Openings.{AreNew};
+ghost use Rattle.either_queue.specs.Either.{IsEitherSeat};
+ghost use Rattle.any_queue.specs.Picked.{IsPickedSeat};
+ghost use Rattle.ring_queue.specs.Queues.{IsQueueSeat};
+ghost use Rattle.msq_c.specs.Queues.{known_of, permits_of};
 ghost use Rattle.msq_c.specs.Ends.{AreEmpty, IsMemory};
 ghost use Rattle.msq_c.specs.Made as made;
-ghost use Rattle.msq_c.specs.Made.{plan_for};
-ghost use Rattle.msq_c.specs.Made.{kind_number, role_number, IsRole, AreSizes, AreNoSizes};
-ghost use Rattle.msq_c.specs.Made.{Asks, IsOutOfRange, MayMake};
-ghost use Rattle.msq_c.specs.Made.{AreUnused, AreMade, AreAsked, ArePut, RefusesCreate};
+ghost use Rattle.msq_c.specs.Made.{kind_number, role_number, ring_role_number, IsRole};
+ghost use Rattle.msq_c.specs.Made.{AreSizes, AreNoSizes, Asks, IsOutOfRange, MayMake, IsNew};
+ghost use Rattle.msq_c.specs.Made.{AreUnused, AreAsked, ArePut, RefusesCreate};
 ghost use Rattle.msq_c.specs.Own.{owned_in};
 
 use crate::handles::MsqSeat;
-use crate::own_seats::OwnSeat;
+use crate::own_seats::{OwnSeat, Queue, QueueSeat};
 use crate::troubles::Trouble;
 use any_queue::{PickedQueue, bits_for};
+use either_queue::EitherQueue;
 use history::{MOST_ACTOR, Refusal};
 use line_table::Kind;
 use node_arena::{Role, most_count, most_node};
 use owned_seats::{OwnedSeat, deal};
+use ring_queue::{MOST_SEATS, RingQueue, Role as RingRole};
 use std::alloc::Global;
+
+/// The number of the ring.
+const RING: u32 = 2;
+
+/// How many places a seat of a ring may have in reserve.
+const RESERVE: u32 = 32;
 
 // The kind of this number.
 fn kind_of(number: u32) -> Kind
@@ -58,6 +69,33 @@ pub(crate) fn roles_of(alloc: Global, numbers: &[u8]) -> Result<Vec<Role>, Troub
     Ok(roles)
 }
 
+// The role of this number in a ring.
+fn ring_role_of(number: u8) -> RingRole
+    requires { IsRole number }
+    ensures { ring_role_number result ≡ number }
+{
+    match number {
+        1 => RingRole::Giver,
+        2 => RingRole::Taker,
+        _ => RingRole::Both,
+    }
+}
+
+// The roles of these numbers in a ring.
+fn ring_roles_of(alloc: Global, numbers: &[u8]) -> Result<Vec<RingRole>, Trouble>
+    requires { All IsRole numbers.now }
+    ensures roles { IfOk result (λ roles. map ring_role_number roles.items ≡ numbers.now) }
+    ensures only_memory { IfErr result IsMemory }
+{
+    let mut roles = Vec::new(alloc);
+    for number in numbers {
+        if roles.push(ring_role_of(*number)).is_err() {
+            return Err(Trouble::Refused(Refusal::Memory));
+        }
+    }
+    Ok(roles)
+}
+
 // Whether each is the number of a role.
 fn are_roles(numbers: &[u8]) -> bool
     ensures { MatchBool result (All IsRole numbers.now) (¬ All IsRole numbers.now) }
@@ -72,7 +110,7 @@ fn are_sizes(nodes: u32, limit: u64, seats: usize) -> bool
     if nodes < 2 || nodes > most_node(32) {
         return false;
     }
-    if limit < 1 || limit > most_count(16) {
+    if limit < 1 || limit >= 1 << 62 {
         return false;
     }
     seats >= 1 && seats as u64 <= MOST_ACTOR
@@ -83,7 +121,10 @@ pub(crate) fn are_asked(kind: u32, nodes: u32, limit: u64, roles: &[u8]) -> bool
     ensures { MatchBool result (Asks kind nodes limit roles.now)
         (IsOutOfRange kind nodes limit roles.now) }
 {
-    if kind > 1 || !are_roles(roles) {
+    if kind > RING || !are_roles(roles) {
+        return false;
+    }
+    if kind == RING && roles.len() > MOST_SEATS {
         return false;
     }
     are_sizes(nodes, limit, roles.len())
@@ -123,23 +164,104 @@ pub(crate) fn count_for(nodes: u32, limit: u64) -> u64
     limit.min(most_count(bits_for(nodes)))
 }
 
-// A new queue's seats, each with a share, and what lies between them and its words.
-fn seats_of(
+// The last place of a ring that so many values make full, with so many seats and this limit.
+fn places_for(values: u32, seats: usize, limit: u64) -> u64
+    requires limit { limit < 2 ^ 62 }
+    requires seats { seats < 2 ^ 15 }
+    ensures { result ≡ made.places_for values seats limit }
+{
+    let room = u64::from(values) + u64::from(RESERVE) * seats as u64;
+    (limit + 3 * room).min((1 << 62) - 1)
+}
+
+// A new queue of nodes, of this kind, and its seats.
+fn new_linked(
     alloc: Global,
-    kind: Kind,
+    kind: u32,
     nodes: u32,
     limit: u64,
-    roles: &[Role],
-) -> Result<(Vec<OwnedSeat<PickedQueue>>, Spacer), Trouble>
-    requires { IsPlanned (plan_for kind nodes limit roles.now) }
-    ensures unused { IfOk result
-        (λ made. AreUnused (plan_for kind nodes limit roles.now) made.0.items) }
+    numbers: &[u8],
+) -> Result<(Queue, Vec<QueueSeat>), Trouble>
+    requires asks { Asks kind nodes limit numbers.now }
+    requires few { kind ≤ 1 }
+    ensures new { IfOk result (λ r. IsNew kind nodes limit numbers.now r.0 r.1.items) }
+    ensures seats { IfOk result
+        (λ r. All (IsEitherSeat IsPickedSeat IsQueueSeat r.0) r.1.items) }
+    ensures unused { IfOk result (λ r. AreNew (permits_of r.0) (map known_of r.1.items)) }
     ensures only_memory { IfErr result IsMemory }
 {
+    let roles = roles_of(alloc, numbers)?;
+    let kind = kind_of(kind);
     let count = count_for(nodes, limit);
-    let Ok((queue, seats)) = PickedQueue::with_limit(alloc, kind, nodes, count, roles) else {
+    let Ok((queue, seats)) = PickedQueue::with_limit(alloc, kind, nodes, count, &roles) else {
         return Err(Trouble::Refused(Refusal::Memory));
     };
+    let Ok(made) = EitherQueue::of_first(alloc, queue, seats) else {
+        return Err(Trouble::Refused(Refusal::Memory));
+    };
+    Ok(made)
+}
+
+// A new ring that so many values make full, and its seats.
+fn new_ring(
+    alloc: Global,
+    values: u32,
+    limit: u64,
+    numbers: &[u8],
+) -> Result<(Queue, Vec<QueueSeat>), Trouble>
+    requires { Asks 2 values limit numbers.now }
+    ensures new { IfOk result (λ r. IsNew 2 values limit numbers.now r.0 r.1.items) }
+    ensures seats { IfOk result
+        (λ r. All (IsEitherSeat IsPickedSeat IsQueueSeat r.0) r.1.items) }
+    ensures unused { IfOk result (λ r. AreNew (permits_of r.0) (map known_of r.1.items)) }
+    ensures only_memory { IfErr result IsMemory }
+{
+    let roles = ring_roles_of(alloc, numbers)?;
+    let places = places_for(values, numbers.len(), limit);
+    let Ok((queue, seats)) = RingQueue::new(alloc, values, RESERVE, places, &roles) else {
+        return Err(Trouble::Refused(Refusal::Memory));
+    };
+    let Ok(made) = EitherQueue::of_second(alloc, queue, seats) else {
+        return Err(Trouble::Refused(Refusal::Memory));
+    };
+    Ok(made)
+}
+
+// A new queue of the kind with this number, and its seats.
+fn new_queue(
+    alloc: Global,
+    kind: u32,
+    nodes: u32,
+    limit: u64,
+    numbers: &[u8],
+) -> Result<(Queue, Vec<QueueSeat>), Trouble>
+    requires { Asks kind nodes limit numbers.now }
+    ensures new { IfOk result (λ r. IsNew kind nodes limit numbers.now r.0 r.1.items) }
+    ensures seats { IfOk result
+        (λ r. All (IsEitherSeat IsPickedSeat IsQueueSeat r.0) r.1.items) }
+    ensures unused { IfOk result (λ r. AreNew (permits_of r.0) (map known_of r.1.items)) }
+    ensures only_memory { IfErr result IsMemory }
+{
+    if kind == RING {
+        return new_ring(alloc, nodes, limit, numbers);
+    }
+    new_linked(alloc, kind, nodes, limit, numbers)
+}
+
+// A new queue's seats, as these numbers ask for it, each with a share, and what lies between them and its words.
+fn seats_of(
+    alloc: Global,
+    kind: u32,
+    nodes: u32,
+    limit: u64,
+    numbers: &[u8],
+) -> Result<(Vec<OwnedSeat<Queue>>, Spacer), Trouble>
+    requires { Asks kind nodes limit numbers.now }
+    ensures unused { IfOk result
+        (λ made. AreUnused kind nodes limit numbers.now made.0.items) }
+    ensures only_memory { IfErr result IsMemory }
+{
+    let (queue, seats) = new_queue(alloc, kind, nodes, limit, numbers)?;
     let spacer = spacer_for(alloc, nodes)?;
     let Ok(owned) = deal(alloc, queue, seats) else {
         return Err(Trouble::Refused(Refusal::Memory));
@@ -148,10 +270,7 @@ fn seats_of(
 }
 
 // Each seat in a block of its own.
-fn boxed(
-    alloc: Global,
-    owned: Vec<OwnedSeat<PickedQueue>>,
-) -> Result<Vec<Box<OwnSeat, Global>>, Trouble>
+fn boxed(alloc: Global, owned: Vec<OwnedSeat<Queue>>) -> Result<Vec<Box<OwnSeat, Global>>, Trouble>
     ensures boxes { IfOk result (λ boxes. map (λ b. owned_in b.value) boxes.items ≡ owned.items) }
     ensures only_memory { IfErr result IsMemory }
 {
@@ -182,15 +301,6 @@ fn sealed(alloc: Global, boxes: Vec<Box<OwnSeat, Global>>) -> Result<Vec<MsqSeat
     Ok(handles)
 }
 
-// Handles with the seats of a new queue.
-fn made(alloc: Global, owned: Vec<OwnedSeat<PickedQueue>>) -> Result<Vec<MsqSeat>, Trouble>
-    ensures made { (z : Layout) → AreUnused z owned.items → IfOk result (λ h. AreMade z h.items) }
-    ensures only_memory { IfErr result IsMemory }
-{
-    let boxes = boxed(alloc, owned)?;
-    sealed(alloc, boxes)
-}
-
 // Handles with the seats of a new queue, as these numbers ask for it.
 fn handles_of(
     alloc: Global,
@@ -204,10 +314,9 @@ fn handles_of(
     ensures len { IfOk result (λ h. length h.items ≡ length numbers.now) }
     ensures only_memory { IfErr result IsMemory }
 {
-    let roles = roles_of(alloc, numbers)?;
-    let kind = kind_of(kind);
-    let (owned, _spacer) = seats_of(alloc, kind, nodes, limit, &roles)?;
-    made(alloc, owned)
+    let (owned, _spacer) = seats_of(alloc, kind, nodes, limit, numbers)?;
+    let boxes = boxed(alloc, owned)?;
+    sealed(alloc, boxes)
 }
 
 // Hands over what may go to another thread.

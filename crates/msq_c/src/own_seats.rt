@@ -1,31 +1,48 @@
-//! A seat of a queue of either kind, with its share, and its calls with plain numbers.
-ghost use Rattle.std.specs.Prelude.{◌≡◌, ◌<◌, IfOk, IfErr, OnOk};
+//! A seat of a queue of any kind, with its share, and its calls with plain numbers.
+ghost use Rattle.std.specs.Prelude.{◌≡◌, IfOk, IfErr, OnOk, MatchBool};
 ghost use Rattle.history.specs.Answers.{Pushed, PopAnswers, DidShut, Meets};
 
 use crate::troubles::Trouble;
 use any_queue::PickedQueue;
-use history::{Body, Taken};
-use owned_seats::{EndRoom, Look, OwnedSeat};
+use either_queue::{EitherQueue, EitherRoom, EitherSeat};
+use history::{Body, Refusal, Taken};
+use node_arena::Seat;
+use owned_seats::{Look, OwnedSeat};
+use ring_queue::{RingQueue, Seat as RingSeat};
 use std::alloc::Global;
+
+/// A queue of any kind: of nodes, or a ring.
+pub type Queue = EitherQueue<PickedQueue, RingQueue>;
+
+/// A seat of one.
+pub type QueueSeat = EitherSeat<Seat, RingSeat>;
+
+/// Memory for the end of a queue: for what is left and its seats as those of its kind, and for its seats without their shares.
+#[derive(Drop)]
+pub struct EndRoom {
+    pub(crate) rest: EitherRoom<Seat, RingSeat>,
+    pub(crate) seats: Vec<QueueSeat>,
+}
 
 /// How many words keep two seats apart whose blocks lie next to each other: each call writes its seat, and no two may be on
 /// one line of the cache, or on two that are fetched together.
 pub(crate) const APART: usize = 16;
 
-/// A seat of a queue of either kind, with its share of the queue, which lies first: include/msq.h compares these.
+/// A seat of a queue of any kind, with its share of the queue, which lies first: include/msq.h compares these.
 #[repr(C)]
 #[derive(Drop)]
 pub struct OwnSeat {
-    owned: OwnedSeat<PickedQueue>,
+    owned: OwnedSeat<Queue>,
     apart: [u64; APART],
 }
 
 impl OwnSeat {
     ghost use Rattle.msq_c.specs.Own.{queue_in, known_in, owned_in};
     ghost use Rattle.msq_c.specs.Own.{RefusesPush, RefusesPop, RefusesShut};
-    ghost use Rattle.msq_c.specs.Ends.{HasAnyRoom, IsMemory};
+    ghost use Rattle.msq_c.specs.Queues.{IsEnough};
+    ghost use Rattle.msq_c.specs.Ends.{HasAnyRoom, IsRoomless};
 
-    pub(crate) fn new(owned: OwnedSeat<PickedQueue>) -> OwnSeat
+    pub(crate) fn new(owned: OwnedSeat<Queue>) -> OwnSeat
         ensures { owned_in result ≡ owned }
     {
         OwnSeat {
@@ -34,7 +51,7 @@ impl OwnSeat {
         }
     }
 
-    pub(crate) fn into_owned(self) -> OwnedSeat<PickedQueue>
+    pub(crate) fn into_owned(self) -> OwnedSeat<Queue>
         ensures { result ≡ owned_in self }
     {
         let OwnSeat { owned, apart: _ } = self;
@@ -106,26 +123,38 @@ impl OwnSeat {
         self.owned.meet(&mut other.owned)
     }
 
-    pub(crate) fn look<L: Look<PickedQueue>>(&mut self) -> L::Told
+    pub(crate) fn look<L: Look<Queue>>(&mut self) -> L::Told
         ensures queue { queue_in self.new ≡ queue_in self.old }
         ensures told { L.tells (queue_in self.old) (known_in self.old) result (known_in self.new) }
     {
         self.owned.look::<L>()
     }
 
-    pub(crate) fn room(&self, alloc: Global, others: usize) -> Result<EndRoom<PickedQueue>, Trouble>
-        ensures room { IfOk result (HasAnyRoom (queue_in self.now) others) }
-        ensures only_memory { IfErr result IsMemory }
+    // Whether so many seats are enough for an end of the queue.
+    fn are_enough(&self, count: usize) -> bool
+        ensures { MatchBool result (IsEnough (queue_in self.now) count)
+            (¬ IsEnough (queue_in self.now) count) }
     {
-        match self.owned.room(alloc, others) {
-            Ok(room) => Ok(room),
-            Err(refusal) => Err(Trouble::Refused(refusal)),
+        match self.owned.queue() {
+            EitherQueue::First(_) => true,
+            EitherQueue::Second(ring) => count == ring.seat_count(),
         }
     }
 
-    pub(crate) fn shares(&self) -> usize
-        ensures { 0 < result }
+    /// Room for the end of the queue by so many seats, where there are no further shares of it, and they are enough.
+    pub(crate) fn room(&self, alloc: Global, count: usize) -> Result<EndRoom, Trouble>
+        ensures room { IfOk result (HasAnyRoom (queue_in self.now) count) }
+        ensures refused { IfErr result IsRoomless }
     {
-        self.owned.shares()
+        if self.owned.shares() != count || !self.are_enough(count) {
+            return Err(Trouble::InUse);
+        }
+        match (
+            self.owned.queue().room(alloc, count),
+            Vec::with_capacity(alloc, count),
+        ) {
+            (Ok(rest), Ok(seats)) => Ok(EndRoom { rest, seats }),
+            _ => Err(Trouble::Refused(Refusal::Memory)),
+        }
     }
 }

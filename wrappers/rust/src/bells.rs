@@ -7,7 +7,7 @@ use std::time::{Duration, Instant};
 use std::{hint, ptr, thread};
 
 /// How often a call looks before it sleeps, and the turns of each look.
-const LOOKS: u32 = 11;
+const LOOKS: u32 = 16;
 pub const TURNS: u32 = 64;
 
 const ALL: c_int = c_int::MAX;

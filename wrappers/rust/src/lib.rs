@@ -81,6 +81,9 @@ pub enum Kind {
     NonBlocking,
     /// A thread that stops within a call may keep others from pushing, or from popping.
     TwoLock,
+    /// The fastest; a thread that stops within a push keeps others from popping. It has 32,767 seats at most, and up to 31 values
+    /// a seat more find room than it is made for.
+    Ring,
 }
 
 /// A word whose count is at its limit.
@@ -90,7 +93,7 @@ pub enum WornWord {
     Free,
     /// The node was set aside: push again, by another one.
     Next,
-    /// No push and no shut comes any more: of the non-blocking queue.
+    /// No push and no shut comes any more: of the non-blocking queue. No push by a seat without a place in reserve: of the ring.
     Tail,
     /// No pop comes any more: of the two-lock queue.
     Head,
@@ -99,7 +102,7 @@ pub enum WornWord {
 /// Why a call is refused; the queue is then as if the call had not been.
 #[derive(Clone, Copy, Debug, PartialEq, Eq)]
 pub enum Refusal {
-    /// A push: all nodes were in use.
+    /// A push: all nodes were in use, or the ring was full.
     NoNode,
     /// The count of this word is at its limit.
     WornOut(WornWord),

@@ -23,16 +23,17 @@ pub struct Length {
     pub most: u64,
 }
 
-/// How many pushes a queue has left at least, and how often the counts of three of its words can still be raised.
+/// How many pushes a queue has left at least, and how often the counts of three of its words can still be raised; `u64::MAX` of
+/// one that doesn't wear.
 #[derive(Clone, Copy, Debug, PartialEq, Eq)]
 pub struct Left {
     /// While fewer pushes are called, done or refused, those under way too, no call finds Free, Tail or Head worn out.
     pub pushes: u64,
-    /// Free's: each node taken from the free list raises it, and each one given back.
+    /// Free's: each node taken from the free list raises it, and each one given back. None wears of a ring.
     pub free: u64,
-    /// Tail's: in the non-blocking queue each push raises it, in the two-lock queue nothing does.
+    /// Tail's: in the non-blocking queue and the ring each push raises it, in the two-lock queue nothing does.
     pub tail: u64,
-    /// Head's: each value popped raises it.
+    /// Head's: each value popped raises it. It doesn't wear of a ring.
     pub head: u64,
 }
 

@@ -55,7 +55,10 @@ impl Drop for Leased<'_> {
 impl<T> Pooled<T> {
     /// With room for so many values, and so many seats.
     pub fn new(kind: Kind, capacity: u32, threads: u16) -> Result<Pooled<T>, Refusal> {
-        let more = 1 + u32::from(threads);
+        let more = match kind {
+            Kind::NonBlocking | Kind::TwoLock => 1 + u32::from(threads),
+            Kind::Ring => 1,
+        };
         let nodes = capacity.checked_add(more).ok_or(Refusal::BadSize)?;
         if capacity == 0 {
             return Err(Refusal::BadSize);

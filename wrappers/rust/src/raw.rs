@@ -15,10 +15,11 @@ pub const WORN_HEAD: u32 = 39;
 
 pub const NON_BLOCKING: u32 = 0;
 pub const TWO_LOCK: u32 = 1;
+pub const RING: u32 = 2;
 pub const GIVER: u8 = 1;
 pub const TAKER: u8 = 2;
 pub const BOTH: u8 = 3;
-pub const MOST_COUNT: u64 = (1 << 48) - 1;
+pub const MOST_COUNT: u64 = (1 << 62) - 1;
 
 #[repr(C)]
 pub struct Seat {
@@ -94,6 +95,7 @@ pub fn seats(kind: Kind, nodes: u32, limit: u64, roles: &[u8]) -> Result<Vec<Sea
     let kind = match kind {
         Kind::NonBlocking => NON_BLOCKING,
         Kind::TwoLock => TWO_LOCK,
+        Kind::Ring => RING,
     };
     // SAFETY: both slices are as long as is said, and each seat is empty.
     let code = unsafe {

@@ -9,7 +9,7 @@ use std::sync::Arc;
 use std::thread;
 use std::time::{Duration, Instant};
 
-const KINDS: [Kind; 2] = [Kind::NonBlocking, Kind::TwoLock];
+const KINDS: [Kind; 3] = [Kind::NonBlocking, Kind::TwoLock, Kind::Ring];
 const SHORT: Duration = Duration::from_millis(1);
 
 /// A value of which those alive are counted.
@@ -60,7 +60,7 @@ fn a_queue_answers() {
         queue.push_wait("two".to_string()).unwrap();
         assert!(!queue.is_empty());
         let length = queue.len().map(|it| (it.least, it.most));
-        assert_eq!(length, (kind == Kind::NonBlocking).then_some((2, 2)));
+        assert_eq!(length, (kind != Kind::TwoLock).then_some((2, 2)));
         while queue.push("more".to_string()).is_ok() {}
         let full = queue.push("over".to_string()).unwrap_err();
         assert_eq!(

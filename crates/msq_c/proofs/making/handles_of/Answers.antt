@@ -1,19 +1,9 @@
-use Rattle.std.proofs.Common.{map, ap, ◌∙◌}
-use Rattle.msq_c.specs.Made.{role_number}
-use Rattle.msq_c.proofs.Made.{planned_of, asked_if, len_if}
+use Rattle.msq_c.proofs.Made.{asked_if, len_if}
 use Rattle.msq_c.proofs.making.handles_of.Goals as goal
 
-pub seats_of-requires : goal.seats_of-requires
-seats_of-requires c =
-    let those = ap (map role_number) c.deref.ensures.value ∙ c.in_ok-roles.ensures.roles in
-    planned_of _ c.args.nodes c.args.limit _ _ _ c.kind_of-kind.ensures those c.requires
-
 pub returns-clause-made : goal.returns-clause-made
-returns-clause-made c =
-    let those = ap (map role_number) c.deref.ensures.value ∙ c.in_ok-roles.ensures.roles in
-    asked_if _ c.args.nodes c.args.limit _ _ _ c.kind_of-kind.ensures those c.made.result (λ v. v.items) (c.made.ensures.made _ c.in_ok-owned.ensures.unused)
+returns-clause-made c = asked_if c.args.kind c.args.nodes c.args.limit c.args.numbers.now c.sealed.result (λ v. v.items) (λ b. b.value) c.in_ok-boxes.boxes.items c.in_ok-owned.owned.items
+    c.in_ok-boxes.ensures.boxes c.in_ok-owned.ensures.unused c.sealed.ensures.put
 
 pub returns-clause-len : goal.returns-clause-len
-returns-clause-len c =
-    let those = ap (map role_number) c.deref.ensures.value ∙ c.in_ok-roles.ensures.roles in
-    len_if _ c.args.nodes c.args.limit _ _ _ c.kind_of-kind.ensures those c.made.result (λ v. v.items) (c.made.ensures.made _ c.in_ok-owned.ensures.unused)
+returns-clause-len c = len_if c.args.kind c.args.nodes c.args.limit c.args.numbers.now c.sealed.result (λ v. v.items) (returns-clause-made c)

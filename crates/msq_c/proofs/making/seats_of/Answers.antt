@@ -1,10 +1,6 @@
-use Rattle.std.proofs.Common.{subst}
-use Rattle.any_queue.specs.Splits.{limited_plan}
-use Rattle.msq_c.specs.Made.{AreUnused}
 use Rattle.msq_c.proofs.Made.{unused_of}
 use Rattle.msq_c.proofs.making.seats_of.Goals as goal
 
 pub returns-clause-unused : goal.returns-clause-unused
-returns-clause-unused c = subst (λ n. AreUnused (limited_plan c.args.kind c.args.nodes n c.args.roles.now) c.in-Ok-deal.owned.items) c.count_for-count.ensures
-    (unused_of _ c.in-Ok.queue c.in-Ok.seats.items c.in-Ok-deal.owned.items c.in-Ok-deal.ensures.queue c.in-Ok-deal.ensures.seats
-    c.in-Ok.ensures.ok c.in-Ok.ensures.unused)
+returns-clause-unused c = unused_of c.args.kind c.args.nodes c.args.limit c.args.numbers.now c.in_ok-queue.queue c.in_ok-queue.seats.items c.in-Ok.owned.items
+    c.in-Ok.ensures.queue c.in-Ok.ensures.seats c.in_ok-queue.ensures.new c.in_ok-queue.ensures.unused

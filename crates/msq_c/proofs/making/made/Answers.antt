@@ -1,6 +1,0 @@
-use Rattle.msq_c.proofs.Made.{made_if}
-use Rattle.msq_c.proofs.making.made.Goals as goal
-
-pub returns-clause-made : goal.returns-clause-made
-returns-clause-made c z u = made_if c.sealed.result (λ v. v.items) (λ b. b.value) c.in_ok-boxes.boxes.items c.args.owned.items c.in_ok-boxes.ensures.boxes z u
-    c.sealed.ensures.put
