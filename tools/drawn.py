@@ -179,3 +179,32 @@ def timeline(history, width=80, first=1, last=0, actor=0, legend=0):
         rows.append(text if len(text) <= width else text[: width - 1] + "~")
     rows.append(f"steps {first} to {to} of {end}, operations {len(shown)} of {len(ops)}")
     return "".join(f"{row}\n" for row in rows)
+
+
+LOOKS = {"usual": "\033[0m", "bright": "\033[0;1;32m", "dim": "\033[0;2m"}
+
+
+def coloured(text, is_timeline):
+    """A picture or a timeline with its colours: a code wherever bytes look otherwise than the one before."""
+    told, last = "", "usual"
+    for row in text.splitlines(keepends=True):
+        star, bar = row.find("*"), row.find(" |") + 1
+        for column, byte in enumerate(row):
+            look = "usual"
+            if byte == "*" or not is_timeline and 0 <= star < column and byte != "\n":
+                look = "bright"
+            if not is_timeline and 0 < bar <= column and byte != "\n":
+                look = "dim"
+            told, last = told + (LOOKS[look] if look != last else "") + byte, look
+    return told
+
+
+def normal(text):
+    """A text with its codes, but for those behind which bytes look as before."""
+    told, last, code = "", LOOKS["usual"], LOOKS["usual"]
+    for part in re.split(r"(\033\[[\d;]*m)", text):
+        if part.startswith("\033"):
+            code = part
+        elif part:
+            told, last = told + (code if code != last else "") + part, code
+    return told

@@ -1,46 +1,46 @@
 -- What clap's reading of the words says of the file and the task.
 use Rattle.std.proofs.Common.{◌≡◌, ◌==◌, ℕ, List, [], ◌∷◌, length, map, Option, Some, None, Bool, true, false, not, ◌&&◌, refl, inl, inr, ap, codes, option_map, Bor}
-use Rattle.std.specs.Prelude.{unwrap_or, nat_eq}
-use Rattle.std.specs.Cmp.Lexicographic.{pointwise}
-use Rattle.std.specs.Prelude.{Result, Ok, Err, if◌then◌else◌}
+use Rattle.std.specs.Prelude.{unwrap_or}
+use Rattle.std.specs.Prelude.{Result, Ok, Err}
 use Rattle.std.specs.Str.Parse.{ParsesUnsigned}
 use Rattle.clap.specs.Matches.{ReadsOne}
 use Rattle.line_table.specs.declared.lines.Kind.TheVariants.{NonBlocking}
 use Rattle.queue_kinds.specs.declared.kinds.QueueKind.TheVariants.{Linked}
 use Rattle.clap.specs.Words.{App, Row, Text, fault_of, first_of, is_simple, is_simple_and_free, subcommand_of}
 use Rattle.clap.proofs.OnLiterals.{clap_on_literals}
-use Rattle.command_line.specs.Commands.{command_line_app, faults_in, file_met, kind_by, kind_named, met_in, SaysFlag, SaysNumberIn, TextRow}
+use Rattle.command_line.specs.declared.commands.Colours.TheVariants.{Auto}
+use Rattle.command_line.specs.Commands.{colours_by, colours_named, command_line_app, faults_in, file_met, kind_by, kind_named, met_in, SaysFlag, SaysNumberIn, TextRow}
 
-module _ (queues : TextRow) where
+module _ (queues whens : TextRow) where
   -- no words meet no command
-  pub met_in-nil : met_in queues [] ≡ None
+  pub met_in-nil : met_in queues whens [] ≡ None
   unfolding clap_on_literals met_in
   met_in-nil = refl
 
   -- clap tells the matches of this command line
-  pub is_simple-command_line : is_simple (command_line_app queues) ≡ true
+  pub is_simple-command_line : is_simple (command_line_app queues whens) ≡ true
   unfolding clap_on_literals
   is_simple-command_line = refl
 
   -- clap tells the faults of this command line
-  pub is_free-command_line : is_simple_and_free (command_line_app queues) ≡ true
+  pub is_free-command_line : is_simple_and_free (command_line_app queues whens) ≡ true
   unfolding clap_on_literals
   is_free-command_line = refl
 
   -- no words have no fault
-  pub faults_in-nil : faults_in queues [] ≡ []
+  pub faults_in-nil : faults_in queues whens [] ≡ []
   unfolding faults_in
   faults_in-nil = refl
 
   -- the faults of words are those that clap tells of this command line
-  pub faults_in-words : {A : Type 0} (f : A → Text) (words : List A) (is_empty : Bool) (app : App) → app ≡ command_line_app queues → is_empty ≡ (length words == 0) → is_empty ≡ false
-      → fault_of app (map f words) ≡ faults_in queues (map f words)
+  pub faults_in-words : {A : Type 0} (f : A → Text) (words : List A) (is_empty : Bool) (app : App) → app ≡ command_line_app queues whens → is_empty ≡ (length words == 0) → is_empty ≡ false
+      → fault_of app (map f words) ≡ faults_in queues whens (map f words)
   unfolding faults_in
   faults_in-words f [] is_empty app same is some = absurd cc
   faults_in-words f (word ∷ words) is_empty app same is some = ap (λ (a : App). fault_of a (f word ∷ map f words)) same
 
   -- the command that clap meets among the words
-  pub met_in-words : (app : App) (words : List Text) → app ≡ command_line_app queues → subcommand_of app words ≡ met_in queues words
+  pub met_in-words : (app : App) (words : List Text) → app ≡ command_line_app queues whens → subcommand_of app words ≡ met_in queues whens words
   unfolding met_in
   met_in-words app words same = ap (λ (a : App). subcommand_of a words) same
 
@@ -68,6 +68,14 @@ kind_named-some o found name told is = rw (← told, is) refl
 -- no option names the usual queue
 pub kind_named-none : (o : Option (Bor Text)) (found : Option Text) → option_map (λ s. s.now) o ≡ found → o ≡ None → kind_named found ≡ Linked NonBlocking
 kind_named-none o found told is = rw (← told, is) refl
+
+-- when a picture has colours, by the name in an option
+pub colours_named-some : (o : Option (Bor Text)) (found : Option Text) (name : Bor Text) → option_map (λ s. s.now) o ≡ found → o ≡ Some name → colours_named found ≡ colours_by name.now
+colours_named-some o found name told is = rw (← told, is) refl
+
+-- no option names the usual time
+pub colours_named-none : (o : Option (Bor Text)) (found : Option Text) → option_map (λ s. s.now) o ≡ found → o ≡ None → colours_named found ≡ Auto
+colours_named-none o found told is = rw (← told, is) refl
 
 -- the number that was read of an option, or another one
 pub SaysNumberIn-read : {E : Type 0} (bits : ℕ) (gives : List ℕ → Result ℕ E → Type 0) → ((t : List ℕ) (r : Result ℕ E) → gives t r → ParsesUnsigned bits 10 t r) → (o : Option Text) (r : Option ℕ) (other : ℕ)

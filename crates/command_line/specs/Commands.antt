@@ -12,6 +12,8 @@ use Rattle.counted_ref.specs.Ref.{reserved_node}
 use Rattle.line_table.specs.declared.lines.Kind.TheVariants.{TwoLock, NonBlocking}
 use Rattle.queue_kinds.specs.declared.kinds.QueueKind.{QueueKind}
 use Rattle.queue_kinds.specs.declared.kinds.QueueKind.TheVariants.{Linked, Ring}
+use Rattle.command_line.specs.declared.commands.Colours.{Colours}
+use Rattle.command_line.specs.declared.commands.Colours.TheVariants.{Auto, Always, Never}
 use Rattle.command_line.specs.declared.commands.Command.{Command}
 use Rattle.command_line.specs.declared.commands.Crew.{Crew}
 use Rattle.command_line.specs.declared.commands.Task.{Task}
@@ -62,6 +64,10 @@ TextRow = Bor (List (Bor Text))
 abbrev pub AreQueues : TextRow → Type 0
 AreQueues queues = map (λ (name : Bor Text). name.now) queues.now ≡ codes "two-lock" ∷ codes "nonblocking" ∷ codes "ring" ∷ []
 
+-- these are the names of the times at which a picture has colours
+abbrev pub AreWhens : TextRow → Type 0
+AreWhens whens = map (λ (name : Bor Text). name.now) whens.now ≡ codes "auto" ∷ codes "always" ∷ codes "never" ∷ []
+
 -- the required argument FILE
 abbrev pub file_rule : Rule
 file_rule = record (new_rule (codes "FILE")) { required = true }
@@ -92,18 +98,22 @@ abbrev pub queue_rule : TextRow → Rule
 queue_rule queues =
     record (new_rule (codes "QUEUE")) { long = Some (codes "queue"); parser = Some (Names queues); defaults = codes "nonblocking" ∷ [] }
 
+-- the option with one of the names of times at which a picture has colours
+abbrev pub color_rule : TextRow → Rule
+color_rule whens = record (new_rule (codes "COLOR")) { long = Some (codes "color"); parser = Some (Names whens); defaults = codes "auto" ∷ [] }
+
 -- the command `run`, with a FILE, and whether it is expanded
 abbrev pub run_app : App
 run_app = with_rule (file_app (codes "run")) (flag_rule (codes "EXPAND") (codes "expand"))
 
 -- the command `show`, with a FILE, so many columns, a first and a last step, an actor, whether it is a history, whether a page is
--- written, and whether lines are told
-abbrev pub show_app : App
-show_app =
-    with_rule (with_rule (with_rule (with_rule (with_rule (with_rule (with_rule (file_app (codes "show")) (number_rule (codes "WIDTH") (codes "width") 40 190 (codes "80")))
+-- written, whether lines are told, and when it has colours
+abbrev pub show_app : TextRow → App
+show_app whens =
+    with_rule (with_rule (with_rule (with_rule (with_rule (with_rule (with_rule (with_rule (file_app (codes "show")) (number_rule (codes "WIDTH") (codes "width") 40 190 (codes "80")))
     (number_rule (codes "FROM") (codes "from") 1 (2 ^ 64 - 1) (codes "1"))) (number_rule (codes "TO") (codes "to") 0 (2 ^ 64 - 1) (codes "0")))
     (number_rule (codes "ACTOR") (codes "actor") 0 65535 (codes "0"))) (flag_rule (codes "HISTORY") (codes "history")))
-    (flag_rule (codes "HTML") (codes "html"))) (flag_rule (codes "LINES") (codes "lines"))
+    (flag_rule (codes "HTML") (codes "html"))) (flag_rule (codes "LINES") (codes "lines"))) (color_rule whens)
 
 -- the command `place`, with a FILE, so many steps, and whether the lines of a reason are told
 abbrev pub place_app : App
@@ -130,10 +140,10 @@ bare_app =
     }
 
 -- the program's command line, as clap reads it
-abbrev pub command_line_app : TextRow → App
-command_line_app queues =
+abbrev pub command_line_app : (queues whens : TextRow) → App
+command_line_app queues whens =
     with_subcommand (with_subcommand (with_subcommand (with_subcommand (with_subcommand (with_subcommand (with_subcommand (with_subcommand bare_app
-    run_app.top) (file_app (codes "trace")).top) show_app.top) (file_app (codes "check")).top) place_app.top) (work_app queues).top)
+    run_app.top) (file_app (codes "trace")).top) (show_app whens).top) (file_app (codes "check")).top) place_app.top) (work_app queues).top)
     (post_app queues).top) explain_app.top
 
 -- the FILE among the matches of a command
@@ -171,6 +181,15 @@ abbrev pub kind_named : Option Text → QueueKind
 kind_named None = Linked NonBlocking
 kind_named (Some name) = kind_by name
 
+-- when a picture has colours that is named so
+abbrev pub colours_by : Text → Colours
+colours_by name = if pointwise nat_eq name (codes "always") then Always else (if pointwise nat_eq name (codes "never") then Never else Auto)
+
+-- the same of the name, and on a terminal where there is none
+abbrev pub colours_named : Option Text → Colours
+colours_named None = Auto
+colours_named (Some name) = colours_by name
+
 -- the workers, the queue and the nodes that a command's options say
 pub record IsCrewOf (options : List Row) (crew : Crew) : Type 0 where
   pub many : SaysNumber (one_of (codes "WORKERS") options) 4 crew.workers
@@ -196,6 +215,7 @@ pub record IsViewOf (options : List Row) (view : View) : Type 0 where
   pub history : SaysFlag (one_of (codes "HISTORY") options) view.is_history
   pub page : SaysFlag (one_of (codes "HTML") options) view.is_page
   pub legend : SaysFlag (one_of (codes "LINES") options) view.has_legend
+  pub colours : view.colours ≡ colours_named (first_of (codes "COLOR") options)
 
 -- the options of the command that was met are those of a task
 abbrev pub HasOptions : Option (Text × List Row) → Task → Type 0
@@ -229,31 +249,33 @@ AsksForCauses None flag = flag ≡ false
 AsksForCauses (Some command) flag = SaysFlag (one_of (codes "EXPLAIN") command.1) flag
 
 -- the command among the words, with its options
-unfoldable pub met_in : TextRow → List Text → Option (Text × List Row)
-met_in queues words = subcommand_of (command_line_app queues) words
+unfoldable pub met_in : (queues whens : TextRow) → List Text → Option (Text × List Row)
+met_in queues whens words = subcommand_of (command_line_app queues whens) words
 
 -- what clap may find wrong with the words; nothing where there are none, which ask for a run
-unfoldable pub faults_in : TextRow → List Text → Kinds
-faults_in queues [] = []
-faults_in queues (word ∷ words) = fault_of (command_line_app queues) (word ∷ words)
+unfoldable pub faults_in : (queues whens : TextRow) → List Text → Kinds
+faults_in queues whens [] = []
+faults_in queues whens (word ∷ words) = fault_of (command_line_app queues whens) (word ∷ words)
 
 -- a command is what the words ask for: the FILE that they name, and `-` where they name none; the task with its options;
 -- whether a fault is explained. Clap finds no fault in them
-pub record IsAsked (queues : TextRow) (words : List Text) (command : Command) : Type 0 where
-  pub file : string_bytes command.file ≡ unwrap_or (file_met (met_in queues words)) (codes "-")
-  pub task : IsTask (met_in queues words) command.task
-  pub explains : AsksForCauses (met_in queues words) command.explains
-  pub taken : faults_in queues words ≡ []
+pub record IsAsked (queues whens : TextRow) (words : List Text) (command : Command) : Type 0 where
+  pub file : string_bytes command.file ≡ unwrap_or (file_met (met_in queues whens words)) (codes "-")
+  pub task : IsTask (met_in queues whens words) command.task
+  pub explains : AsksForCauses (met_in queues whens words) command.explains
+  pub taken : faults_in queues whens words ≡ []
 
--- the same, of names of queues that lie somewhere
+-- the same, of names of queues and of times that lie somewhere
 pub record IsAskedSomewhere (words : List Text) (command : Command) : Type 0 where
   pub queues : TextRow
+  pub whens : TextRow
   pub named : AreQueues queues
-  pub asked : IsAsked queues words command
+  pub timed : AreWhens whens
+  pub asked : IsAsked queues whens words command
 
--- words are a command line, wherever the names of queues lie
+-- words are a command line, wherever the names of queues and of times lie
 abbrev pub AreTaken : List Text → Type 0
-AreTaken words = (queues : TextRow) → AreQueues queues → takes (command_line_app queues) words ≡ true
+AreTaken words = (queues whens : TextRow) → AreQueues queues → AreWhens whens → takes (command_line_app queues whens) words ≡ true
 
 -- the exit status for what clap says: 0 with help and the version, 1 where memory was refused, 2 with all else
 abbrev pub status_at : ErrorKind → ℕ
@@ -266,8 +288,10 @@ status_at _ = 2
 abbrev pub IsStatusAmong : Kinds → ℕ → Type 0
 IsStatusAmong kinds status = (status ≡ 1) ⊎ ((kind : ErrorKind) × IsAmong kind kinds × (status ≡ status_at kind))
 
--- the same, of what clap may find wrong with the words, for names of queues that lie somewhere
+-- the same, of what clap may find wrong with the words, for names of queues and of times that lie somewhere
 pub record IsStatusOf (words : List Text) (status : ℕ) : Type 0 where
   pub queues : TextRow
+  pub whens : TextRow
   pub named : AreQueues queues
-  pub among : IsStatusAmong (faults_in queues words) status
+  pub timed : AreWhens whens
+  pub among : IsStatusAmong (faults_in queues whens words) status

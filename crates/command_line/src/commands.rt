@@ -6,6 +6,7 @@ ghost use Rattle.command_line.specs.Commands.{command_line_app, explain_app, fau
 use crate::helps;
 use crate::messages::told;
 use crate::options::{Placing, crew_in, explains_in, flag_in, kind_in, placing_in, view_in};
+use crate::showing::show_command;
 use clap::builder::ValueParser;
 use clap::error::ErrorKind;
 use clap::{Arg, ArgAction, ArgMatches};
@@ -19,6 +20,9 @@ const VERSION: &str = "0.4.0";
 /// The names of the queues.
 static QUEUES: [&str; 3] = ["two-lock", "nonblocking", "ring"];
 
+/// The times at which a picture has colours.
+static WHENS: [&str; 3] = ["auto", "always", "never"];
+
 /// How `work` does jobs.
 #[derive(Clone, Copy, Debug)]
 pub struct Crew {
@@ -28,6 +32,15 @@ pub struct Crew {
     pub kind: QueueKind,
     /// How many nodes the queue has.
     pub nodes: u32,
+}
+
+/// When a picture has colours.
+#[derive(Clone, Copy, Debug, PartialEq, Eq)]
+pub enum Colours {
+    /// Where it is shown on a terminal.
+    Auto,
+    Always,
+    Never,
 }
 
 /// What `show` shows.
@@ -47,6 +60,8 @@ pub struct View {
     pub is_page: bool,
     /// Whether a picture tells what the lines in its rows do.
     pub has_legend: bool,
+    /// When a picture has colours.
+    pub colours: Colours,
 }
 
 /// What is done with a file.
@@ -100,7 +115,7 @@ pub fn read_words(alloc: Global, words: &[String]) -> Result<Command, (u8, Strin
     ensures status { IfErr result (λ e. IsStatusOf (map string_bytes words.now) e.0) }
     ensures memory { IfErr result (λ e. e.0 ≡ 1 → string_bytes e.1 ≡ []) }
 {
-    match asked(alloc, QUEUES.as_slice(), words) {
+    match asked(alloc, QUEUES.as_slice(), WHENS.as_slice(), words) {
         Ok(command) => Ok(command),
         Err(error) => Err(told(alloc, &error)),
     }
@@ -122,7 +137,7 @@ fn with_command<'a>(
 }
 
 /// A command of this name, with a FILE.
-fn command_on<'a>(
+pub(crate) fn command_on<'a>(
     alloc: Global,
     name: &'a str,
     about: &'a str,
@@ -155,7 +170,7 @@ fn explain_command<'a>(alloc: Global) -> Result<clap::Command<'a>, AllocError>
 }
 
 /// An option with a number in this range, and what it is where it isn't given.
-fn number_option<'a>(
+pub(crate) fn number_option<'a>(
     alloc: Global,
     id: &'a str,
     long: &'a str,
@@ -173,7 +188,7 @@ fn number_option<'a>(
 }
 
 /// An option that is given or not.
-fn flag_option<'a>(alloc: Global, id: &'a str, long: &'a str) -> Arg<'a>
+pub(crate) fn flag_option<'a>(alloc: Global, id: &'a str, long: &'a str) -> Arg<'a>
     ensures rule { rule_of result ≡ flag_rule id.entry.now long.entry.now }
     ensures local { result.global ≡ false }
 {
@@ -205,35 +220,6 @@ fn run_command<'a>(alloc: Global) -> Result<clap::Command<'a>, AllocError>
     )?;
     let expand = flag_option(alloc, "EXPAND", "expand");
     command.arg(expand.help("Writes the schedule that a recipe, of version 3, stands for"))
-}
-
-/// The command `show`.
-fn show_command<'a>(alloc: Global) -> Result<clap::Command<'a>, AllocError>
-    ensures { IfOk result (λ command. app_of command ≡ show_app) }
-{
-    let command = command_on(
-        alloc,
-        "show",
-        "Runs a schedule and draws it: an actor a column, a step a row; or draws a history",
-        "The schedule, or the history; - is standard input",
-        helps::SHOW,
-    )?;
-    let width = number_option(alloc, "WIDTH", "width", (40, 190), "80");
-    let command = command.arg(width.help("How many columns a row has at most, 40 to 190"))?;
-    let from = number_option(alloc, "FROM", "from", (1, u64::MAX), "1");
-    let command = command.arg(from.help("The first step that is shown, 1 to 2^64 - 1"))?;
-    let to = number_option(alloc, "TO", "to", (0, u64::MAX), "0");
-    let command = command.arg(to.help("The last step that is shown; 0 for a hundred steps"))?;
-    let actor = number_option(alloc, "ACTOR", "actor", (0, 65_535), "0");
-    let command = command.arg(actor.help(
-        "The one actor that is shown; 0 for as many as have room",
-    ))?;
-    let history = flag_option(alloc, "HISTORY", "history");
-    let command = command.arg(history.help("Draws the timeline of a history: an operation a row"))?;
-    let page = flag_option(alloc, "HTML", "html");
-    let command = command.arg(page.help("Writes a page for a browser that steps through the run"))?;
-    let lines = flag_option(alloc, "LINES", "lines");
-    command.arg(lines.help("Tells behind a picture what each line in its rows does"))
 }
 
 /// The command `place`.
@@ -291,8 +277,12 @@ fn post_command<'a>(alloc: Global, queues: &'a [&'a str]) -> Result<clap::Comman
 
 /// The command line: `run`, `trace`, `show`, `check`, `place`, `work` and `post` with a FILE, `explain` with a refusal,
 /// help and the version.
-fn command_line<'a>(alloc: Global, queues: &'a [&'a str]) -> Result<clap::Command<'a>, AllocError>
-    ensures { IfOk result (λ command. app_of command ≡ command_line_app queues.entry) }
+fn command_line<'a>(
+    alloc: Global,
+    queues: &'a [&'a str],
+    whens: &'a [&'a str],
+) -> Result<clap::Command<'a>, AllocError>
+    ensures { IfOk result (λ command. app_of command ≡ command_line_app queues.entry whens.entry) }
 {
     let program = clap::Command::new(alloc, "msq")
         .about(
@@ -311,7 +301,7 @@ fn command_line<'a>(alloc: Global, queues: &'a [&'a str]) -> Result<clap::Comman
         "The schedule; - is standard input",
         helps::TRACE,
     )?;
-    let program = program.subcommand(show_command(alloc)?)?;
+    let program = program.subcommand(show_command(alloc, whens)?)?;
     let program = with_command(
         alloc,
         program,
@@ -331,19 +321,20 @@ fn command_line<'a>(alloc: Global, queues: &'a [&'a str]) -> Result<clap::Comman
 fn asked(
     alloc: Global,
     queues: &'static [&'static str],
+    whens: &'static [&'static str],
     words: &[String],
 ) -> Result<Command, clap::Error>
-    ensures asked { IfOk result (IsAsked queues.entry (map string_bytes words.now)) }
-    ensures kinds { IfErr result (HasKind (faults_in queues.entry (map string_bytes words.now))) }
+    ensures asked { IfOk result (IsAsked queues.entry whens.entry (map string_bytes words.now)) }
+    ensures kinds { IfErr result (HasKind (faults_in queues.entry whens.entry (map string_bytes words.now))) }
     ensures passes { IfErr result (λ e.
-        takes (command_line_app queues.entry) (map string_bytes words.now) ≡ true
+        takes (command_line_app queues.entry whens.entry) (map string_bytes words.now) ≡ true
         → kind_of e ≡ ErrorKind.OutOfMemory) }
     ensures none { words.now ≡ [] → IfErr result (λ e. kind_of e ≡ ErrorKind.OutOfMemory) }
 {
     if words.is_empty() {
         return Ok(command_of(alloc, Task::Run, "-", false)?);
     }
-    let matches = command_line(alloc, queues)?.try_get_matches_from(words)?;
+    let matches = command_line(alloc, queues, whens)?.try_get_matches_from(words)?;
     let file = file_in(&matches).unwrap_or("-");
     Ok(command_of(alloc, task_in(&matches), file, explains_in(&matches))?)
 }

@@ -5,6 +5,7 @@ mod commands;
 mod helps;
 mod messages;
 mod options;
+mod showing;
 
-pub use commands::{Command, Crew, Task, View, read_words};
+pub use commands::{Colours, Command, Crew, Task, View, read_words};
 pub use options::Placing;

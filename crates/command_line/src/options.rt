@@ -1,9 +1,9 @@
 //! What is read of the options of a command.
 ghost use Rattle.std.specs.Prelude.{◌≡◌, codes};
 ghost use Rattle.clap.specs.Words.{first_of, found_of, one_of, rows_of, subcommand_rows_of};
-ghost use Rattle.command_line.specs.Commands.{kind_by, kind_named, AsksForCauses, IsCrewOf, IsPlacingOf, IsViewOf, SaysFlag, SaysNumber, SaysNumberIn};
+ghost use Rattle.command_line.specs.Commands.{colours_by, colours_named, kind_by, kind_named, AsksForCauses, IsCrewOf, IsPlacingOf, IsViewOf, SaysFlag, SaysNumber, SaysNumberIn};
 
-use crate::commands::{Crew, View};
+use crate::commands::{Colours, Crew, View};
 use clap::ArgMatches;
 use line_table::Kind;
 use queue_kinds::QueueKind;
@@ -44,6 +44,7 @@ pub(crate) fn view_in(options: &ArgMatches<'_>) -> View
         is_history: flag_in(options, "HISTORY"),
         is_page: flag_in(options, "HTML"),
         has_legend: flag_in(options, "LINES"),
+        colours: colours_in(options),
     }
 }
 
@@ -125,5 +126,28 @@ fn kind_of(name: &str) -> QueueKind
         QueueKind::Ring
     } else {
         QueueKind::Linked(Kind::NonBlocking)
+    }
+}
+
+/// When a picture has colours, by the name of the time, and by the usual one where none is named.
+fn colours_in(options: &ArgMatches<'_>) -> Colours
+    ensures { result ≡ colours_named (first_of (codes "COLOR") (rows_of (found_of options.now))) }
+{
+    match options.get_str("COLOR") {
+        Some(name) => colours_of(name),
+        None => Colours::Auto,
+    }
+}
+
+/// When a picture has colours that is named so.
+fn colours_of(name: &str) -> Colours
+    ensures { result ≡ colours_by name.now }
+{
+    if name == "always" {
+        Colours::Always
+    } else if name == "never" {
+        Colours::Never
+    } else {
+        Colours::Auto
     }
 }

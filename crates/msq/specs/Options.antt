@@ -1,5 +1,7 @@
 -- What commands do by their options.
-use Rattle.std.specs.Prelude.{◌≡◌, ℕ, List, [], Option, true, false, if◌then◌else◌}
+use Rattle.std.specs.Prelude.{◌≡◌, ℕ, List, [], Option, Bool, ◌&&◌, not, true, false, if◌then◌else◌}
+use Rattle.command_line.specs.declared.commands.Colours.{Colours}
+use Rattle.command_line.specs.declared.commands.Colours.TheVariants.{Auto, Always, Never}
 use Rattle.command_line.specs.declared.commands.View.{View as Asked}
 use Rattle.text_io.specs.Devices.{SinkState}
 use Rattle.page_engine.specs.Pages.{WritesPage}
@@ -16,6 +18,16 @@ pub record IsViewOf (options : Asked) (meanings : List Meaning) (view : View) : 
   pub last : view.to ≡ options.to
   pub actor : view.actor ≡ options.actor
   pub legend : view.legend.now ≡ (if options.has_legend then meanings else [])
+
+-- when options that draw ask for colours, where they are usual or aren't
+abbrev pub colours_at : Colours → (is_usual : Bool) → Bool
+colours_at Auto is_usual = is_usual
+colours_at Always is_usual = true
+colours_at Never is_usual = false
+
+-- whether what options ask for has colours, where they are usual or aren't: a page has none
+abbrev pub has_colours : Asked → (is_usual : Bool) → Bool
+has_colours options is_usual = if options.is_page && not options.is_history then false else colours_at options.colours is_usual
 
 -- known bytes were the text of a history, if the options say so, or else of a schedule; its timeline, its page in this frame, or
 -- its picture was written, of the view that they ask for

@@ -1,12 +1,16 @@
 //! Commands with options, which are handed on to the engines.
-ghost use Rattle.std.specs.Prelude.{◌≡◌, ◌↔◌, [], Err, IfOk, OnOk, if◌then◌else◌};
+ghost use Rattle.std.specs.Prelude.{◌≡◌, ◌↔◌, [], Err, IfOk, OnOk, if◌then◌else◌, option_map};
+ghost use Rattle.std.specs.Io.KnownBytes.{Keeps};
+ghost use Rattle.colours.specs.Colouring.{plain_state, state_of};
+ghost use Rattle.colours.specs.Plain.{plain};
 ghost use Rattle.job_engine.specs.Crews.{IsCrewQueue};
 ghost use Rattle.job_engine.specs.Queues.{queue_in};
 ghost use Rattle.job_engine.specs.Works.{IsBadSize};
 ghost use Rattle.place_engine.specs.Places.{TellsPlaces};
-ghost use Rattle.msq.specs.Options.{Draws};
+ghost use Rattle.msq.specs.Options.{Draws, has_colours};
 
-use command_line::{Crew, Placing, View as Asked};
+use colours::{Coloured, Drawing};
+use command_line::{Colours, Crew, Placing, View as Asked};
 use engine_faults::Fault;
 use history::Refusal;
 use job_engine::{JobQueue, work_text};
@@ -73,6 +77,62 @@ pub(crate) fn place_by<S: Source, W: Sink>(
 {
     let steps = u64::from(options.steps);
     place_text(alloc, reader, writer, steps, options.tells_why)
+}
+
+/// Whether what is drawn has colours; usual is where it may have some. A page has none.
+pub(crate) fn wants_colours(options: Asked, is_usual: bool) -> bool
+    //= program/colours: A picture or a timeline has colours where `--color always` asks for them, and, unless `--color never`
+    //=   does, where they are usual, as on a terminal. A page has none.
+    ensures { result ≡ has_colours options is_usual }
+{
+    if options.is_page && !options.is_history {
+        return false;
+    }
+    match options.colours {
+        Colours::Auto => is_usual,
+        Colours::Always => true,
+        Colours::Never => false,
+    }
+}
+
+/// Has a sink hand on the last of what was drawn, and answers what became of it.
+fn finished<W: Sink>(drawn: Result<(), Fault>, sink: &mut Coloured<W>) -> Result<(), Fault>
+    ensures same { OnOk result (result ≡ drawn) }
+    ensures kept { OnOk result (Keeps (state_of W.state sink.old).contents
+        (option_map plain (W.state sink.new.inner).contents)) }
+{
+    // Nothing was drawn, or the sink gave up.
+    if let Err(fault) = drawn
+        && fault.line.is_none()
+    {
+        return drawn;
+    }
+    sink.finish()?;
+    drawn
+}
+
+/// Draws with colours: a sink takes what `show_by` would write, with colours between the bytes. The sink comes back.
+pub(crate) fn show_coloured<'a, S: Source, W: Sink>(
+    alloc: Global,
+    options: Asked,
+    frame: &Frame<'_>,
+    meanings: &'a [Meaning<'a>],
+    reader: &mut S,
+    writer: W,
+) -> (Result<(), Fault>, W)
+    //= program/plain: What `msq show` writes with colours is, without their codes, what it writes without them.
+    ensures drawn { OnOk result.0 (Draws options frame.now meanings.now (S.state reader.old).left
+        (plain_state (W.state writer)) (plain_state (W.state result.1))) }
+{
+    let drawing = if options.is_history {
+        Drawing::Timeline
+    } else {
+        Drawing::Picture
+    };
+    let mut coloured = Coloured::new(writer, drawing);
+    let drawn = show_by(alloc, options, frame, meanings, reader, &mut coloured);
+    let outcome = finished(drawn, &mut coloured);
+    (outcome, coloured.into_inner())
 }
 
 /// Does the jobs that a source gives, by the options of `work`, and answers their queue.

@@ -1,7 +1,7 @@
 //! The program: its words, its files and its exit status.
 use crate::causes::tell_cause;
 use crate::notes::{Kept, NotedSink, NotedSource, Notes};
-use crate::options::{place_by, show_by, work_by};
+use crate::options::{place_by, show_by, show_coloured, wants_colours, work_by};
 use crate::progress::Progress;
 use check_engine::check_text;
 use command_line::{Command, Task, read_words};
@@ -70,6 +70,15 @@ fn words_of<R: Runtime + AllocGlobal>(rt: &R) -> io::Result<Vec<String>> {
     Ok(words)
 }
 
+/// How a command is obeyed.
+#[derive(Clone, Copy, Debug)]
+struct Manner {
+    /// Whether the text is kept, to explain a fault.
+    keeps: bool,
+    /// Whether what is drawn has colours.
+    has_colours: bool,
+}
+
 /// The status of a command that reads a file. A fault is explained where standard error is a terminal, or the words ask for it.
 fn obeyed<R: Runtime + AllocGlobal + Threads + Wait + Sync>(
     rt: &R,
@@ -83,7 +92,11 @@ fn obeyed<R: Runtime + AllocGlobal + Threads + Wait + Sync>(
         0
     };
     let progress = Progress::new(rt, terminals.error, terminals.output, whole);
-    let (outcome, notes) = outcome_of(rt, command, explains, &progress);
+    let manner = Manner {
+        keeps: explains,
+        has_colours: shows_colours(rt, command, terminals.output),
+    };
+    let (outcome, notes) = outcome_of(rt, command, manner, &progress);
     progress.wipe();
     let status = ended(rt, outcome);
     if explains && let Err(fault) = outcome {
@@ -109,15 +122,21 @@ fn length_of<R: Runtime>(rt: &R, file: &str) -> u64 {
 fn outcome_of<R: Runtime + AllocGlobal + Threads + Wait + Sync>(
     rt: &R,
     command: &Command,
-    keeps: bool,
+    manner: Manner,
     progress: &Progress<'_, R>,
 ) -> (Result<Ending, Fault>, Notes) {
     let file = command.file.as_str();
     if file == "-" {
-        return noted(rt, command, ReaderSource::new(rt.reader()), keeps, progress);
+        return noted(
+            rt,
+            command,
+            ReaderSource::new(rt.reader()),
+            manner,
+            progress,
+        );
     }
     match File::open(rt, file) {
-        Ok(file) => noted(rt, command, ReaderSource::new(file), keeps, progress),
+        Ok(file) => noted(rt, command, ReaderSource::new(file), manner, progress),
         Err(error) => {
             let cause = format!(in rt.alloc(); "{error}").ok();
             let fault = Fault::from(Refusal::Read);
@@ -131,29 +150,80 @@ fn noted<R: Runtime + AllocGlobal + Threads + Wait + Sync, S: Source + Drop>(
     rt: &R,
     command: &Command,
     source: S,
-    keeps: bool,
+    manner: Manner,
     progress: &Progress<'_, R>,
 ) -> (Result<Ending, Fault>, Notes) {
     let mut reader = NotedSource {
         inner: source,
         alloc: rt.alloc(),
-        text: Kept::new(rt.alloc(), keeps),
+        text: Kept::new(rt.alloc(), manner.keeps),
         unread: None,
         progress,
     };
-    let mut writer = NotedSink {
+    let writer = NotedSink {
         inner: WriterSink::new(io::writer(rt)),
         alloc: rt.alloc(),
         unwritten: None,
         progress,
     };
-    let outcome = outcome_on(rt, command, &mut reader, &mut writer);
+    let (outcome, writer) = outcome_in(rt, command, manner.has_colours, &mut reader, writer);
     let notes = Notes {
         text: reader.text,
         unread: reader.unread,
         unwritten: writer.unwritten,
     };
     (outcome, notes)
+}
+
+/// Whether a command draws with colours. On a terminal it does, unless `NO_COLOR` is set to a text.
+fn shows_colours<R: Runtime + AllocGlobal>(rt: &R, command: &Command, is_shown: bool) -> bool {
+    match command.task {
+        Task::Show(options) => wants_colours(options, is_shown && !is_set(rt, "NO_COLOR")),
+        _ => false,
+    }
+}
+
+/// Whether a variable of the environment is set to a text.
+fn is_set<R: Runtime + AllocGlobal>(rt: &R, name: &str) -> bool {
+    match env::var(rt, name) {
+        Ok(text) => !text.is_empty(),
+        Err(error) => error != env::VarError::NotPresent,
+    }
+}
+
+/// Obeys a command on what a source gives, and writes to a sink, which comes back.
+fn outcome_in<R: Runtime + AllocGlobal + Threads + Wait + Sync, S: Source, W: Sink>(
+    rt: &R,
+    command: &Command,
+    has_colours: bool,
+    reader: &mut S,
+    mut writer: W,
+) -> (Result<Ending, Fault>, W) {
+    match command.task {
+        Task::Show(options) if has_colours => {
+            let (drawn, writer) = show_coloured(
+                rt.alloc(),
+                options,
+                &page_frame(),
+                &ACCESSES,
+                reader,
+                writer,
+            );
+            (drawn.map(|()| Ending::Well), writer)
+        }
+        _ => {
+            let outcome = outcome_on(rt, command, reader, &mut writer);
+            (outcome, writer)
+        }
+    }
+}
+
+/// What stands around the trace in a page.
+fn page_frame() -> Frame<'static> {
+    Frame {
+        before: BEFORE,
+        after: AFTER,
+    }
 }
 
 /// Obeys a command on what a source gives, and writes to a sink.
@@ -168,11 +238,14 @@ fn outcome_on<R: Runtime + AllocGlobal + Threads + Wait + Sync, S: Source, W: Si
         Task::Expand => expand_text(rt.alloc(), reader, writer)?,
         Task::Trace => trace_text(rt.alloc(), reader, writer)?,
         Task::Show(options) => {
-            let frame = Frame {
-                before: BEFORE,
-                after: AFTER,
-            };
-            show_by(rt.alloc(), options, &frame, &ACCESSES, reader, writer)?;
+            show_by(
+                rt.alloc(),
+                options,
+                &page_frame(),
+                &ACCESSES,
+                reader,
+                writer,
+            )?;
         }
         Task::Check => {
             return Ok(Ending::from(check_text(rt.alloc(), reader, writer)?));

@@ -1,4 +1,5 @@
 //! Pictures and timelines, each against what was worked out by hand.
+mod coloured;
 mod comparing;
 mod meanings;
 mod timelines;

@@ -1,5 +1,5 @@
 use crate::tests::comparing::same;
-use command_line::{Command, Task, read_words};
+use command_line::{Colours, Command, Task, read_words};
 use line_table::Kind;
 use queue_kinds::QueueKind;
 use std::alloc::{AllocError, Global};
@@ -121,8 +121,20 @@ const PICTURES: [(&[&str], [u64; 4], [bool; 2], &str); 6] = [
     ),
 ];
 
+/// Words that ask for a picture, and when it has colours.
+const COLOURED: [(&[&str], Colours); 5] = [
+    (&["show", "a"], Colours::Auto),
+    (&["show", "--color", "auto", "a"], Colours::Auto),
+    (&["show", "--color=always", "a"], Colours::Always),
+    (&["show", "a", "--color", "never"], Colours::Never),
+    (
+        &["show", "--history", "a", "--color", "always", "--lines"],
+        Colours::Always,
+    ),
+];
+
 /// Words that ask for no command, and the status.
-const OTHERS: [(&[&str], u8); 54] = [
+const OTHERS: [(&[&str], u8); 57] = [
     (&["run"], 2),
     (&["run", "a", "b"], 2),
     (&["run", "--fast", "a"], 2),
@@ -138,6 +150,9 @@ const OTHERS: [(&[&str], u8); 54] = [
     (&["show", "a", "--to", "18446744073709551616"], 2),
     (&["show", "a", "--actor", "65536"], 2),
     (&["show", "a", "--history=true"], 2),
+    (&["show", "a", "--color"], 2),
+    (&["show", "a", "--color", "yes"], 2),
+    (&["show", "a", "--colour", "never"], 2),
     (&["show", "--help"], 0),
     (&["check"], 2),
     (&["place"], 2),
@@ -260,6 +275,24 @@ fn reads_what_a_picture_shows(rt: HostRuntime) -> Result<(), Fail> {
         };
         let due = Some((*view, *flags, *file));
         same(&rt, found, due, format_args!("{words:?}"));
+    }
+    Ok(())
+}
+
+#[test]
+fn reads_when_a_picture_has_colours(rt: HostRuntime) -> Result<(), Fail> {
+    for (words, colours) in &COLOURED {
+        let answer = read_words(rt.alloc(), &strings(rt.alloc(), words)?);
+        let found = match &answer {
+            Ok(
+                Command {
+                    task: Task::Show(view),
+                    ..
+                },
+            ) => Some(view.colours),
+            _ => None,
+        };
+        same(&rt, found, Some(*colours), format_args!("{words:?}"));
     }
     Ok(())
 }

@@ -2,7 +2,7 @@ use Rattle.std.proofs.Common.{◌≡◌, ◌-◌, ◌^◌, ap, ap₂, ◌∙◌,
 use Rattle.std.proofs.lemmas.Result.{IfOk-weaker}
 use Rattle.clap.specs.Words.{app_of, rule_of, with_rule}
 use Rattle.command_line.specs.Commands.{file_app, flag_rule, number_rule}
-use Rattle.command_line.proofs.commands.show_command.Goals as goal
+use Rattle.command_line.proofs.showing.show_command.Goals as goal
 
 pub returns : goal.returns
 returns c =
@@ -30,4 +30,7 @@ returns c =
     ≡ with_rule (with_rule (with_rule (with_rule (with_rule (with_rule (file_app (codes "show")) width) from) to) actor) (flag_rule (codes "HISTORY") (codes "history"))) (flag_rule (codes "HTML") (codes "html")) =
     c.in_ok-command-7.ensures.shape (ap (λ a. a.global) c.help-6.ensures ∙ c.flag_option-page.ensures.local) ∙ ap₂ with_rule five page_is in
     let lines_is : rule_of c.help-7.result ≡ flag_rule (codes "LINES") (codes "lines") = ap rule_of c.help-7.ensures ∙ c.flag_option-lines.ensures.rule in
-    IfOk-weaker c.arg-7.result _ _ (λ r h. h.shape (ap (λ a. a.global) c.help-7.ensures ∙ c.flag_option-lines.ensures.local) ∙ ap₂ with_rule six lines_is) c.arg-7.ensures
+    let seven : app_of c.in_ok-command-8.command
+    ≡ with_rule (with_rule (with_rule (with_rule (with_rule (with_rule (with_rule (file_app (codes "show")) width) from) to) actor) (flag_rule (codes "HISTORY") (codes "history"))) (flag_rule (codes "HTML") (codes "html"))) (flag_rule (codes "LINES") (codes "lines")) =
+    c.in_ok-command-8.ensures.shape (ap (λ a. a.global) c.help-7.ensures ∙ c.flag_option-lines.ensures.local) ∙ ap₂ with_rule six lines_is in
+    IfOk-weaker c.arg-8.result _ _ (λ r h. h.shape c.color_option.ensures.local ∙ ap₂ with_rule seven c.color_option.ensures.rule) c.arg-8.ensures

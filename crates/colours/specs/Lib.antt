@@ -1,0 +1,2 @@
+pub mod Colouring
+pub mod Plain

@@ -1,0 +1,58 @@
+//! The command `show`, which has the most options.
+ghost use Rattle.std.specs.Prelude.{◌≡◌, IfOk, false};
+ghost use Rattle.clap.specs.Words.{app_of, rule_of};
+ghost use Rattle.command_line.specs.Commands.{color_rule, show_app};
+
+use crate::commands::{command_on, flag_option, number_option};
+use crate::helps;
+use clap::Arg;
+use std::alloc::{AllocError, Global};
+
+/// The command `show`.
+pub(crate) fn show_command<'a>(
+    alloc: Global,
+    whens: &'a [&'a str],
+) -> Result<clap::Command<'a>, AllocError>
+    ensures { IfOk result (λ command. app_of command ≡ show_app whens.entry) }
+{
+    let command = command_on(
+        alloc,
+        "show",
+        "Runs a schedule and draws it: an actor a column, a step a row; or draws a history",
+        "The schedule, or the history; - is standard input",
+        helps::SHOW,
+    )?;
+    let width = number_option(alloc, "WIDTH", "width", (40, 190), "80");
+    let command = command.arg(width.help("How many columns a row has at most, 40 to 190"))?;
+    let from = number_option(alloc, "FROM", "from", (1, u64::MAX), "1");
+    let command = command.arg(from.help("The first step that is shown, 1 to 2^64 - 1"))?;
+    let to = number_option(alloc, "TO", "to", (0, u64::MAX), "0");
+    let command = command.arg(to.help("The last step that is shown; 0 for a hundred steps"))?;
+    let actor = number_option(alloc, "ACTOR", "actor", (0, 65_535), "0");
+    let command = command.arg(actor.help(
+        "The one actor that is shown; 0 for as many as have room",
+    ))?;
+    let history = flag_option(alloc, "HISTORY", "history");
+    let command = command.arg(history.help("Draws the timeline of a history: an operation a row"))?;
+    let page = flag_option(alloc, "HTML", "html");
+    let command = command.arg(page.help("Writes a page for a browser that steps through the run"))?;
+    let lines = flag_option(alloc, "LINES", "lines");
+    let command = command.arg(lines.help(
+        "Tells behind a picture what each line in its rows does",
+    ))?;
+    command.arg(color_option(alloc, whens))
+}
+
+/// The option with one of the times at which a picture has colours.
+fn color_option<'a>(alloc: Global, whens: &'a [&'a str]) -> Arg<'a>
+    ensures rule { rule_of result ≡ color_rule whens.entry }
+    ensures local { result.global ≡ false }
+{
+    Arg::new(alloc, "COLOR")
+        .long("color")
+        .value_parser(whens)
+        .default_value("auto")
+        .help(
+            "When a picture or a timeline has colours; auto: on a terminal, unless NO_COLOR is set",
+        )
+}

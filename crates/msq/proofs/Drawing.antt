@@ -1,0 +1,53 @@
+-- What is drawn to a sink that colours, and to the sink behind it.
+use Rattle.std.proofs.Common.{◌≡◌, ℕ, List, [], Option, None, Some, refl, sym, ap, ap₂, ◌∙◌, append-nil, subst}
+use Rattle.std.specs.Prelude.{option_map, OnOk, Result, Ok, Err}
+use Rattle.std.specs.Io.KnownBytes.{Appends, Keeps}
+use Rattle.colours.specs.declared.coloured.Coloured.{Coloured}
+use Rattle.colours.specs.Plain.{plain}
+use Rattle.colours.specs.Colouring.{IsUnused, plain_of, state_of}
+use Rattle.command_line.specs.declared.commands.View.{View as Asked}
+use Rattle.page_engine.specs.declared.engine.Frame.{Frame}
+use Rattle.show_engine.specs.declared.framing.Meaning.{Meaning}
+use Rattle.text_io.specs.Devices.{SinkState}
+use Rattle.msq.specs.Options.{Draws}
+
+-- nothing that is held back adds nothing
+plain_of-nil : (sent : Option (List ℕ)) → option_map plain sent ≡ plain_of sent []
+plain_of-nil None = refl
+plain_of-nil (Some bytes) = ap (λ (l : List ℕ). Some (plain l)) (sym (append-nil bytes))
+
+-- what a new sink that colours has is what the one behind it has
+pub contents_unused : {W : Type 0} (state : W → SinkState) (sink : Coloured W) (behind : W) → IsUnused sink behind
+    → option_map plain (state behind).contents ≡ (state_of state sink).contents
+contents_unused state sink behind is =
+    plain_of-nil (state behind).contents ∙ ap₂ (λ w held. plain_of (state w).contents held) (sym is.inner) (sym is.held)
+
+-- what holds where one call is Ok, whose answer is that of an earlier one
+pub OnOk-carried : {A E : Type 0} (result earlier : Result A E) (P K Q : Type 0) → OnOk result (result ≡ earlier) → OnOk earlier P → OnOk result K → (P → K → Q) → OnOk result Q
+OnOk-carried (Ok x) earlier P K Q same holds kept f = f (subst (λ r. OnOk r P) (sym same) holds) kept
+OnOk-carried (Err e) earlier P K Q same holds kept f = tt
+
+-- bytes that grew, and were kept then, grew
+Appends-carried : (before a b after : Option (List ℕ)) (bytes : List ℕ) → before ≡ a → Keeps b after → Appends a b bytes → Appends before after bytes
+Appends-carried before None b after bytes same kept grown = subst (λ o. Appends o after bytes) (sym same) tt
+Appends-carried before (Some x) None after bytes same kept grown = absurd grown
+Appends-carried before (Some x) (Some y) None bytes same kept grown = absurd kept
+Appends-carried before (Some x) (Some y) (Some z) bytes same kept grown = subst (λ o. Appends o (Some z) bytes) (sym same) (kept ∙ grown)
+
+-- what was drawn to one sink, as another one has it that kept as much
+pub Draws-carried : (options : Asked) (frame : Frame) (meanings : List Meaning) (given : Option (List ℕ)) (before a b after : SinkState)
+    → before.contents ≡ a.contents → Keeps b.contents after.contents → Draws options frame meanings given a b → Draws options frame meanings given before after
+Draws-carried options frame meanings given before a b after same kept d =
+    let carried : (bytes : List ℕ) → Appends a.contents b.contents bytes → Appends before.contents after.contents bytes =
+    λ bytes grown. Appends-carried before.contents a.contents b.contents after.contents bytes same kept grown in
+    record {
+      view = d.view;
+      asked = d.asked;
+      timeline = λ on. let t = d.timeline on in record { operations = t.operations; read = t.read; written = carried _ t.written };
+      page = λ off on.
+          let p = d.page off on in
+          record { schedule = p.schedule; in_range = p.in_range; read = p.read; holds = (p.holds.0, p.holds.1, carried _ p.holds.2) };
+      picture = λ off page.
+          let p = d.picture off page in
+          record { schedule = p.schedule; in_range = p.in_range; read = p.read; holds = (p.holds.0, p.holds.1, carried _ p.holds.2) };
+    }
