@@ -1,5 +1,5 @@
 -- What is told of each task once the submitter and each worker have brought their seats back, and the queue is closed.
-use Rattle.std.proofs.Common.{◌≡◌, ◌∙◌, ◌+◌, ◌<◌, ◌≤◌, ◌⊎◌, inl, inr, sym, refl, ap, subst, ℕ, zero, suc, List, [], ◌∷◌, ◌++◌, map, length, replicate, Option, Some, None, IsSomeAnd, slice_get, append-nil, length-append, eq-or-lt_of_le, arith}
+use Rattle.std.proofs.Common.{◌≡◌, ◌∙◌, ◌+◌, ◌<◌, ◌≤◌, inl, inr, sym, refl, ap, subst, ℕ, zero, suc, List, [], ◌∷◌, ◌++◌, map, length, replicate, Option, Some, None, IsSomeAnd, slice_get, append-nil, length-append, eq-or-lt_of_le, arith}
 use Rattle.std.specs.Global.{Vec}
 use Rattle.std.specs.List.{All, AllZip, Any, flat_map}
 use mathlib.Core.List.{IsPrefix}
@@ -9,7 +9,7 @@ use Rattle.history.specs.declared.refusals.Refusal.{Refusal}
 use Rattle.history.specs.Seats.{Permit}
 use Rattle.carriers.specs.declared.items.ItemOf.{ItemOf}
 use Rattle.carriers.specs.declared.rests.RestOf.{RestOf}
-use Rattle.carriers.specs.Deeds.{Deed, did_push, did_pop, did_shut, own_deeds}
+use Rattle.carriers.specs.Deeds.{Deed, did_push, did_pop, did_shut}
 use Rattle.carriers.specs.Knowledge.{KnownOf}
 use Rattle.carriers.specs.Rests.{left_in, was_shut_in}
 use Rattle.carriers.specs.Closing.{IsOfOneOf, AreAllOf, ClosesOf}
@@ -28,7 +28,7 @@ use Rattle.tasks.proofs.Gathering.{some_same, fills-append, length-fills}
 use Rattle.tasks.proofs.Histories.{Pushes, Pops}
 use Rattle.tasks.proofs.Telling as telling
 use Rattle.tasks.proofs.Telling.{OfItem}
-use Rattle.task_pool.specs.Parts.{seat_in, done_in, end_in, AreWithin, tells_of, told_of, CanTell}
+use Rattle.task_pool.specs.Parts.{seat_in, done_in, end_in, tells_of, told_of, CanTell}
 use Rattle.task_pool.specs.Pools.{IsCrewOf, IsFinished, IsAnswered}
 use Rattle.task_pool.proofs.Finishing.{left_none, Holds, fills-holds, holds-all}
 

@@ -1,13 +1,12 @@
 -- No task is left where a worker found the queue shut and empty.
-use Rattle.std.proofs.Common.{◌≡◌, ◌∙◌, ◌<◌, ◌⊎◌, inl, inr, sym, refl, ap, subst, ℕ, zero, suc, Bool, true, false, true≢false, List, [], ◌∷◌, ◌++◌, map, length, replicate, set, get_or, Option, Some, None}
-use Rattle.std.specs.List.{All, AllZip, Any, flat_map}
+use Rattle.std.proofs.Common.{◌≡◌, ◌∙◌, inl, inr, sym, refl, ap, subst, ℕ, Bool, true, false, true≢false, List, [], ◌∷◌, ◌++◌, map, set, Option, Some, None}
+use Rattle.std.specs.List.{All}
 use mathlib.Core.List.{IsPrefix}
-use Rattle.std.proofs.lemmas.List.Elements.{All-nil, All-cons, All-head, All-tail, All-set, All-replicate}
+use Rattle.std.proofs.lemmas.List.Elements.{All-nil, All-cons, All-head, All-tail, All-set}
 use Rattle.carriers.specs.declared.items.ItemOf.{ItemOf}
 use Rattle.carriers.specs.Deeds.{Deed, did_push, did_pop, did_shut, item, Runs, RunsTo}
 use Rattle.carriers.proofs.Running.{runs_split}
 use Rattle.tasks.specs.declared.answers.Outcome.{Outcome}
-use Rattle.tasks.specs.declared.answers.Outcome.TheVariants.{Answered, Left}
 use Rattle.tasks.specs.Gathers.{fills}
 use Rattle.tasks.proofs.Lying.{Lies}
 

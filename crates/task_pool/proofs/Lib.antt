@@ -1,3 +1,4 @@
 mod Seats
 mod Finishing
 mod Ending
+mod Moving

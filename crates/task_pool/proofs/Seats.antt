@@ -1,5 +1,5 @@
 -- The seats of a new queue, as those of its takers and its giver.
-use Rattle.std.proofs.Common.{◌≡◌, ◌∙◌, ◌+◌, ◌<◌, inl, inr, sym, refl, ap, subst, ℕ, List, [], ◌∷◌, ◌++◌, length, Some, slice_get, length-append, arith}
+use Rattle.std.proofs.Common.{◌≡◌, ◌+◌, inl, sym, refl, ap, subst, ℕ, List, [], ◌∷◌, ◌++◌, length, Some, slice_get, length-append, arith}
 use Rattle.std.specs.List.{All}
 use Rattle.history.specs.Seats.{Permit, MayPush, MayPop}
 use Rattle.carriers.specs.Knowledge.{KnownOf}

@@ -2,9 +2,11 @@
 ghost use Rattle.std.specs.Prelude.{◌≡◌, []};
 ghost use denote.Param.Send.{IsSend, IsSync};
 ghost use Rattle.history.specs.Seats.{MayPop};
+ghost use Rattle.blocking_carrier.specs.Queues.{queue_of};
 ghost use Rattle.tasks.specs.Turns.{IsBack};
 ghost use Rattle.task_pool.specs.Crews.{IsBatch, IsTaker, AreTakers, HasRoomFor, HasCrew};
 
+use blocking_carrier::BlockingCarrier;
 use carriers::Carrier;
 use std::alloc::Global;
 use std::sync::Wait;
@@ -30,12 +32,12 @@ pub(crate) struct Crew<S, T, A> {
 // Offers the tasks, once each worker is started.
 fn lead_batch<R: Wait, T: Task, C: Carrier<Item = Numbered<T>>>(
     rt: &R,
-    queue: &C,
+    queue: &BlockingCarrier<C>,
     batch: Batch<C::Seat, T, Result<T::Output, T::Error>>,
     stop: &Stop,
 ) -> Crew<C::Seat, T, Result<T::Output, T::Error>>
-    requires { IsBatch C.is_seat C.permits C.known queue.now batch }
-    ensures { HasCrew C.is_seat C.known T.answers queue.now [] batch result }
+    requires { IsBatch C.is_seat C.permits C.known (queue_of queue.now) batch }
+    ensures { HasCrew C.is_seat C.known T.answers (queue_of queue.now) [] batch result }
 {
     let Batch {
         giver,
@@ -53,32 +55,33 @@ fn lead_batch<R: Wait, T: Task, C: Carrier<Item = Numbered<T>>>(
 pub(crate) fn run_crew<R: Threads + Wait + Sync, T: Task, C: Carrier<Item = Numbered<T>> + Sync>(
     rt: &R,
     alloc: Global,
-    queue: &C,
+    queue: &BlockingCarrier<C>,
     mut takers: Vec<C::Seat>,
     batch: Batch<C::Seat, T, Result<T::Output, T::Error>>,
     stop: &Stop,
 ) -> Crew<C::Seat, T, Result<T::Output, T::Error>>
     requires bounds { IsSync R.row × IsSync C.row × IsSend T.row × IsSend T.Output.row ×
         IsSend T.Error.row × IsSend C.Seat.row }
-    requires takers { AreTakers C.is_seat C.permits C.known queue.now takers.items }
-    requires batch { IsBatch C.is_seat C.permits C.known queue.now batch }
+    requires takers { AreTakers C.is_seat C.permits C.known (queue_of queue.now) takers.items }
+    requires batch { IsBatch C.is_seat C.permits C.known (queue_of queue.now) batch }
     requires room { HasRoomFor takers.items batch }
-    ensures { HasCrew C.is_seat C.known T.answers queue.now takers.items batch result }
+    ensures { HasCrew C.is_seat C.known T.answers (queue_of queue.now) takers.items batch result }
 {
     let Some(seat) = takers.pop() else {
         return lead_batch(rt, queue, batch, stop);
     };
     let one = move || -> Worked<C::Seat, Result<T::Output, T::Error>>
-        requires { IsTaker C.is_seat C.permits C.known queue.now seat }
-        ensures { IsBack C.is_seat C.known T.answers queue.entry.now seat result }
+        requires { IsTaker C.is_seat C.permits C.known (queue_of queue.now) seat }
+        ensures { IsBack C.is_seat C.known T.answers (queue_of queue.entry.now) seat result }
     { work(rt, alloc, queue, seat, stop) };
     let others = move || -> Crew<C::Seat, T, Result<T::Output, T::Error>>
         requires bounds { IsSync R.row × IsSync C.row × IsSend T.row × IsSend T.Output.row ×
             IsSend T.Error.row × IsSend C.Seat.row }
-        requires takers { AreTakers C.is_seat C.permits C.known queue.now takers.items }
-        requires batch { IsBatch C.is_seat C.permits C.known queue.now batch }
+        requires takers { AreTakers C.is_seat C.permits C.known (queue_of queue.now) takers.items }
+        requires batch { IsBatch C.is_seat C.permits C.known (queue_of queue.now) batch }
         requires room { HasRoomFor takers.items batch }
-        ensures { HasCrew C.is_seat C.known T.answers queue.entry.now takers.items batch result }
+        ensures { HasCrew C.is_seat C.known T.answers (queue_of queue.entry.now)
+            takers.items batch result }
     { run_crew(rt, alloc, queue, takers, batch, stop) };
     let (worked, mut crew) = join(rt, one, others);
     crew.workers.push_reserved(worked);

@@ -8,6 +8,7 @@ ghost use Rattle.task_pool.specs.Parts.{seat_in, done_in, end_in, HasRoom, IsNew
 ghost use Rattle.task_pool.specs.Pools.{IsCrewOf, IsFinished, IsAnswered};
 
 use crate::crews::{Batch, Crew, run_crew};
+use blocking_carrier::BlockingCarrier;
 use carriers::{CloseCarrier, RestOf};
 use history::Refusal;
 use std::alloc::Global;
@@ -155,6 +156,7 @@ fn run_in<R: Threads + Wait + Sync, T: Task, C: CloseCarrier<Item = Numbered<T>>
         gather,
         workers,
     };
+    let queue = BlockingCarrier::new(queue);
     let Crew { led, workers } = run_crew(rt, alloc, &queue, seats, batch, &Stop::new());
     let Led {
         seat,
@@ -165,7 +167,7 @@ fn run_in<R: Threads + Wait + Sync, T: Task, C: CloseCarrier<Item = Numbered<T>>
     parts.seats.push_reserved(seat);
     part(workers, &mut parts);
     let Parts { seats, dones, ends } = parts;
-    let (rest, _end) = queue.close_with(room, seats);
+    let (rest, _end) = queue.into_inner().close_with(room, seats);
     let outcomes = told(gather, dones, rest);
     Ran {
         outcomes,

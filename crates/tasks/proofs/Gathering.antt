@@ -1,6 +1,6 @@
 -- Slots that are filled tell of each task what became of it.
-use Rattle.std.proofs.Common.{◌≡◌, ◌∙◌, ◌+◌, ◌<◌, ◌⊎◌, inl, inr, sym, refl, ap, subst, ℕ, zero, suc, List, [], ◌∷◌, ◌++◌, map, length, replicate, set, get_or, Option, Some, None, slice_get, slice_set, arith}
-use Rattle.std.specs.List.{All, AllZip}
+use Rattle.std.proofs.Common.{◌≡◌, ◌∙◌, ◌<◌, inl, inr, sym, refl, ap, subst, ℕ, zero, suc, List, [], ◌∷◌, ◌++◌, map, length, replicate, set, get_or, Option, Some, None, slice_get, arith}
+use Rattle.std.specs.List.{All}
 use Rattle.std.proofs.lemmas.List.{length-set}
 use Rattle.tasks.specs.declared.answers.Outcome.{Outcome}
 use Rattle.tasks.specs.Tasks.{Tells, AreTold}

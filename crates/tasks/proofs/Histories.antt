@@ -1,7 +1,6 @@
 -- What becomes of what one seat pushed and others popped, on a queue that was closed by all of them.
-use Rattle.std.proofs.Common.{◌≡◌, ◌∙◌, ◌⊎◌, inl, inr, refl, ap, subst, sym, ℕ, zero, suc, Bool, true, false, cond, nat_eq, eq-eqb, List, [], ◌∷◌, ◌++◌, map}
+use Rattle.std.proofs.Common.{◌≡◌, ◌⊎◌, inl, inr, refl, ap, subst, sym, ℕ, Bool, nat_eq, eq-eqb, List, ◌∷◌, ◌++◌, map}
 use Rattle.std.specs.List.{All, AllZip}
-use Rattle.std.proofs.lemmas.List.Elements.{All-head}
 use Rattle.carriers.specs.declared.items.ItemOf.{ItemOf}
 use Rattle.carriers.specs.Deeds.{Deed, did_push, did_pop, did_shut, item, doer_of, own_deeds, RunsTo}
 use Rattle.carriers.specs.Values.{value_pushed, value_popped, values_pushed, values_popped}

@@ -1,5 +1,5 @@
 -- Of each task it is told once what became of it, where one seat offered them all and the others brought back what they ran.
-use Rattle.std.proofs.Common.{◌≡◌, ◌∙◌, ◌<◌, ◌⊎◌, inl, inr, sym, refl, ap, subst, ℕ, Bool, List, [], ◌∷◌, ◌++◌, map, length, replicate, Option, Some, None, slice_get}
+use Rattle.std.proofs.Common.{◌≡◌, ◌∙◌, ◌<◌, ◌⊎◌, inl, inr, sym, refl, ap, subst, ℕ, Bool, List, ◌∷◌, ◌++◌, map, length, replicate, Option, Some, None, slice_get}
 use Rattle.std.specs.List.{All, AllZip, Any, flat_map}
 use Rattle.std.proofs.lemmas.List.{length-replicate}
 use Rattle.carriers.specs.declared.items.ItemOf.{ItemOf}

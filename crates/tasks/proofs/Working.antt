@@ -1,6 +1,6 @@
 -- What a worker has run, and what the submitter has offered, after one more.
-use Rattle.std.proofs.Common.{◌≡◌, ◌∙◌, ◌+◌, ◌<◌, ◌⊎◌, inl, inr, sym, refl, ap, subst, ℕ, zero, suc, List, [], ◌∷◌, ◌++◌, map, length, drop, set, get_or, Option, Some, None, slice_get, append-nil, append_assoc, below_more, arith}
-use Rattle.std.specs.List.{All, AllZip, Any}
+use Rattle.std.proofs.Common.{◌≡◌, ◌∙◌, ◌+◌, ◌⊎◌, inl, inr, sym, refl, ap, subst, ℕ, zero, suc, List, [], ◌∷◌, ◌++◌, map, length, drop, set, Option, Some, None, slice_get, append-nil, append_assoc, below_more, arith}
+use Rattle.std.specs.List.{Any}
 use Rattle.std.proofs.lemmas.List.{map-append, length-append, length-set, get_or_append_left}
 use Rattle.std.proofs.lemmas.List.Elements.{All-nil, All-push}
 use Rattle.std.proofs.lemmas.List.Quantifiers.{Any-push}
@@ -66,8 +66,8 @@ module _ {T A : Type 0} (answers : T → A → Type 0) where
   run_more k k1 k2 out out' h same r =
       record {
         items = h.items ++ r.front ∷ [];
-        mine = r.popped.mine
-            ∙ (λ i. h.mine i ++ did_pop (same i) r.front ∷ [])
+        mine = r.popped.popped.mine
+            ∙ (λ i. (r.popped.waited.mine ∙ h.mine) i ++ did_pop ((r.popped.waited.number ∙ same) i) r.front ∷ [])
             ∙ append_assoc k.mine (map (did_pop k.number) h.items) (did_pop k.number r.front ∷ [])
             ∙ ap (λ (ds : List (Deed (Numbered T))). k.mine ++ ds) (sym (map-append (did_pop k.number) h.items (r.front ∷ [])));
         done = subst (AreDone answers (h.items ++ r.front ∷ [])) (sym r.added) (zip-push (λ (x : ItemOf (Numbered T)) d. IsDoneOf answers x.value d) h.items out r.front r.result h.done r.of);

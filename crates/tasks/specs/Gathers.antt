@@ -1,5 +1,5 @@
 -- What became of tasks, by their numbers.
-use Rattle.std.specs.Prelude.{◌≡◌, ℕ, List, [], ◌∷◌, Option, Some, None, slice_set}
+use Rattle.std.specs.Prelude.{ℕ, List, [], ◌∷◌, Option, Some, None, slice_set}
 use Rattle.carriers.specs.declared.items.ItemOf.{ItemOf}
 use Rattle.tasks.specs.declared.answers.Done.{Done}
 use Rattle.tasks.specs.declared.answers.Outcome.{Outcome}

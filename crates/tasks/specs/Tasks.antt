@@ -1,5 +1,5 @@
 -- What is told of tasks: their answers, or the tasks themselves.
-use Rattle.std.specs.Prelude.{◌≡◌, ℕ, List, Some, slice_get}
+use Rattle.std.specs.Prelude.{◌≡◌, List, Some, slice_get}
 use Rattle.std.specs.List.{AllZip}
 use Rattle.tasks.specs.declared.answers.Done.{Done}
 use Rattle.tasks.specs.declared.answers.Outcome.{Outcome}

@@ -3,6 +3,7 @@ ghost use Rattle.std.specs.Prelude.{◌≡◌, ◌<◌, length, IfOk, IfErr, OnO
 ghost use Rattle.history.specs.Seats.{MayPush};
 ghost use Rattle.history.specs.Answers.{EndsPush};
 ghost use Rattle.carriers.specs.Answers.{PushedOf, EndsByTryOf};
+ghost use Rattle.blocking_carrier.specs.Queues.{queue_of};
 ghost use Rattle.tasks.specs.Gathers.{slots_in};
 ghost use Rattle.tasks.specs.Offers.{RanHere, OffersNext, HasOffered, EndsShutBy, HasLed};
 
@@ -10,6 +11,7 @@ use crate::answers::Outcome;
 use crate::gathers::Gather;
 use crate::runs::{Numbered, Task};
 use crate::turns::Stop;
+use blocking_carrier::BlockingCarrier;
 use carriers::{Carrier, Unpushed};
 use history::Refusal;
 use std::sync::Wait;
@@ -119,16 +121,16 @@ pub fn offer_all<R: Wait, T: Task, C: Carrier<Item = Numbered<T>>>(
     refused
 }
 
-// Shuts the queue; where it can't be shut, tells the workers to stop, and tells why.
+// Shuts the queue, which wakes the workers that sleep; where it can't be shut, tells them to stop, and tells why.
 fn shut_or_stop<R: Wait, C: Carrier>(
     rt: &R,
-    queue: &C,
+    queue: &BlockingCarrier<C>,
     seat: &mut C::Seat,
     stop: &Stop,
 ) -> Option<Refusal>
-    requires seat { C.is_seat queue.now seat.old }
-    requires role { MayPush (C.permits queue.now) (C.known seat.old).number }
-    ensures seat { C.is_seat queue.now seat.new }
+    requires seat { C.is_seat (queue_of queue.now) seat.old }
+    requires role { MayPush (C.permits (queue_of queue.now)) (C.known seat.old).number }
+    ensures seat { C.is_seat (queue_of queue.now) seat.new }
     ensures number { (C.known seat.new).number ≡ (C.known seat.old).number }
     ensures shut { EndsShutBy (C.known seat.old) (C.known seat.new) result }
 {
@@ -136,6 +138,7 @@ fn shut_or_stop<R: Wait, C: Carrier>(
         Ok(()) | Err(Refusal::Closed) => None,
         Err(refusal) => {
             stop.tell();
+            queue.wake_all();
             Some(refusal)
         }
     }
@@ -147,17 +150,18 @@ fn shut_or_stop<R: Wait, C: Carrier>(
 /// Takes what memory the tasks take that are run here, and waits.
 pub fn lead<R: Wait, T: Task, C: Carrier<Item = Numbered<T>>>(
     rt: &R,
-    queue: &C,
+    queue: &BlockingCarrier<C>,
     mut seat: C::Seat,
     tasks: Vec<T>,
     mut gather: Gather<T, Result<T::Output, T::Error>>,
     stop: &Stop,
 ) -> Led<C::Seat, T, Result<T::Output, T::Error>>
-    requires seat { C.is_seat queue.now seat }
-    requires role { MayPush (C.permits queue.now) (C.known seat).number }
+    requires seat { C.is_seat (queue_of queue.now) seat }
+    requires role { MayPush (C.permits (queue_of queue.now)) (C.known seat).number }
     requires slots { length (slots_in gather) ≡ length tasks.items }
     //= tasks/led: The submitter offers each task, and then shuts the queue, or finds it shut; or it tells why it couldn't.
-    ensures { HasLed C.is_seat C.known T.answers queue.now tasks.items seat (slots_in gather) result }
+    ensures { HasLed C.is_seat C.known T.answers (queue_of queue.now) tasks.items seat
+        (slots_in gather) result }
 {
     let refused = offer_all(rt, queue, &mut seat, tasks, &mut gather);
     let unshut = shut_or_stop(rt, queue, &mut seat, stop);

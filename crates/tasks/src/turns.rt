@@ -1,18 +1,21 @@
 //! A worker's turns: it takes tasks from a queue of values, and runs them.
-ghost use Rattle.std.specs.Prelude.{◌≡◌, ◌≤◌, IfOk, IfErr, OnErr};
+ghost use Rattle.std.specs.Prelude.{◌≡◌, true, IfOk, IfErr, OnErr};
 ghost use Rattle.history.specs.Seats.{MayPop};
+ghost use Rattle.blocking_carrier.specs.Queues.{queue_of};
 ghost use Rattle.tasks.specs.Turns.{RunsNext, RunsNot, StopsTurn, HasCause, IsBack};
 
 use crate::answers::Done;
 use crate::runs::{Numbered, Task};
+use blocking_carrier::{BlockingCarrier, InTime};
+use blocking_queue::Deadline;
 use carriers::Carrier;
-use crossbeam_utils::Backoff;
 use history::Refusal;
 use std::alloc::Global;
 use std::sync::Wait;
 use std::sync::atomic::{AtomicBool, Ordering};
+use std::time::Duration;
 
-/// That no task comes any more, though the queue isn't shut.
+/// That no task comes any more, though the queue isn't shut. Who tells it then calls `wake_all` of the queue.
 #[derive(Drop)]
 pub struct Stop {
     told: AtomicBool,
@@ -37,6 +40,19 @@ impl Stop {
     }
 }
 
+/// A worker waits for a task until then.
+impl Deadline for Stop {
+    ghost comes = { λ stop. true };
+
+    fn is_past(&self) -> bool {
+        self.is_told()
+    }
+
+    fn left(&self) -> Option<Duration> {
+        None
+    }
+}
+
 /// How a worker ended.
 #[derive(Debug, PartialEq, Eq, Drop)]
 pub enum End {
@@ -56,23 +72,24 @@ pub struct Worked<S, A> {
     pub end: End,
 }
 
-/// Takes the task at the front and runs it: its answer is put at the end of `done`. False where the queue was empty. The
-/// seat may pop.
+/// Takes the task at the front and runs it: its answer is put at the end of `done`. It sleeps while there is none. False where
+/// the queue was empty once more, after it was told that no task comes. The seat may pop.
 ///
 /// Refusals: `Memory` where `done` can't grow, before anything is taken; `WornOut`, and `Closed` where the queue is shut and
 /// empty. `done` is then as before. Takes memory for an answer and what the task takes, and waits.
 pub fn run_next<R: Wait, T: Task, C: Carrier<Item = Numbered<T>>>(
     rt: &R,
-    queue: &C,
+    queue: &BlockingCarrier<C>,
     seat: &mut C::Seat,
+    stop: &Stop,
     done: &mut Vec<Done<Result<T::Output, T::Error>>>,
 ) -> Result<bool, Refusal>
-    requires seat { C.is_seat queue.now seat.old }
-    requires role { MayPop (C.permits queue.now) (C.known seat.old).number }
-    ensures seat { C.is_seat queue.now seat.new }
+    requires seat { C.is_seat (queue_of queue.now) seat.old }
+    requires role { MayPop (C.permits (queue_of queue.now)) (C.known seat.old).number }
+    ensures seat { C.is_seat (queue_of queue.now) seat.new }
     ensures number { (C.known seat.new).number ≡ (C.known seat.old).number }
-    //= tasks/turn: A worker's turn popped one task, and put exactly its result at the end; or it found the queue empty, and
-    //=   the results stay.
+    //= tasks/turn: A worker's turn popped one task, and put exactly its result at the end; or the queue was empty, and the
+    //=   results stay. Before that its seat did nothing to the queue.
     ensures ran { IfOk result
         (RunsNext T.answers (C.known seat.old) (C.known seat.new) done.old.items done.new.items) }
     //= tasks/refused_turn (refused, refusal, same): A refused turn popped nothing, and leaves the results. It is refused as
@@ -81,50 +98,46 @@ pub fn run_next<R: Wait, T: Task, C: Carrier<Item = Numbered<T>>>(
     ensures refusal { IfErr result StopsTurn }
     ensures same { OnErr result (done.new.items ≡ done.old.items) }
     ensures caused { IfErr result
-        (HasCause C.is_seat C.known C.pop_cause queue.now seat.old seat.new) }
+        (HasCause C.is_seat C.known C.pop_cause (queue_of queue.now) seat.old seat.new) }
 {
     if done.reserve(1).is_err() {
         return Err(Refusal::Memory);
     }
-    match queue.pop(rt, seat) {
-        Ok(Some(front)) => {
+    match queue.recv_until(rt, seat, stop) {
+        Ok(InTime::Done(front)) => {
             done.push_reserved(front.value.run());
             Ok(true)
         }
-        Ok(None) => Ok(false),
+        Ok(InTime::Late(_)) => Ok(false),
         Err(refusal) => Err(refusal),
     }
 }
 
-/// Runs tasks until the queue is found shut and empty, a turn is refused, or no task comes any more: what was done. The
-/// seat may pop.
+/// Runs tasks until the queue is found shut and empty, a turn is refused, or no task comes any more: what was done. It sleeps
+/// while there is no task. The seat may pop.
 ///
 /// Takes memory for each answer, and waits.
 pub fn work<R: Wait, T: Task, C: Carrier<Item = Numbered<T>>>(
     rt: &R,
     alloc: Global,
-    queue: &C,
+    queue: &BlockingCarrier<C>,
     mut seat: C::Seat,
     stop: &Stop,
 ) -> Worked<C::Seat, Result<T::Output, T::Error>>
-    requires seat { C.is_seat queue.now seat }
-    requires role { MayPop (C.permits queue.now) (C.known seat).number }
+    requires seat { C.is_seat (queue_of queue.now) seat }
+    requires role { MayPop (C.permits (queue_of queue.now)) (C.known seat).number }
     //= tasks/worked: A worker brings its seat back, and the result of each task that it popped, in this order and under its
-    //=   own number. `Finished` is told where it found the queue shut and empty.
-    ensures { IsBack C.is_seat C.known T.answers queue.now seat result }
+    //=   own number. `Finished` is told where it found the queue shut and empty, `Stopped` where it found it empty.
+    ensures { IsBack C.is_seat C.known T.answers (queue_of queue.now) seat result }
 {
     let mut done = Vec::new(alloc);
-    let backoff = Backoff::new();
     for _ in rt.forever() {
-        // Read before the pop: what was pushed before the word is found by it.
-        let told = stop.is_told();
-        match run_next(rt, queue, &mut seat, &mut done) {
-            Ok(true) => backoff.reset(),
-            Ok(false) if told => {
+        match run_next(rt, queue, &mut seat, stop, &mut done) {
+            Ok(true) => {}
+            Ok(false) => {
                 let end = End::Stopped;
                 return Worked { seat, done, end };
             }
-            Ok(false) => backoff.snooze(),
             Err(Refusal::Closed) => {
                 let end = End::Finished;
                 return Worked { seat, done, end };

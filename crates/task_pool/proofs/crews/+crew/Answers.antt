@@ -1,8 +1,9 @@
-use Rattle.std.proofs.Common.{◌≡◌, ◌∙◌, ◌++◌, ◌∷◌, [], ap, sym, subst, length, IfSome, arith, rules}
+use Rattle.std.proofs.Common.{◌∙◌, ◌++◌, ◌∷◌, [], ap, sym, subst, length, IfSome, arith, rules}
 use denote.Param.Send.{sendable, given_sync}
 use Rattle.std.specs.List.{AllZip}
 use Rattle.std.proofs.lemmas.List.{length-append}
 use Rattle.std.proofs.lemmas.List.Elements.{All-pop}
+use Rattle.blocking_carrier.specs.Queues.{queue_of}
 use Rattle.tasks.specs.Turns.{IsBack}
 use Rattle.tasks.proofs.Lying.{zip-push}
 use Rattle.task_pool.specs.Crews.{IsTaker, HasRoomFor}
@@ -18,7 +19,7 @@ fn::run_crew::others+FnOnce::call_once-others-requires g t c κs within =
 
 pub join-worked-requires-after_bounds : goal.join-worked-requires-after_bounds
 join-worked-requires-after_bounds g t c κs within =
-    let P = IsTaker g.C.Carrier.is_seat g.C.Carrier.permits g.C.Carrier.known c.args.queue.now in
+    let P = IsTaker g.C.Carrier.is_seat g.C.Carrier.permits g.C.Carrier.known (queue_of c.args.queue.now) in
     let both = All-pop P _ _ _ c.pop.ensures.items c.requires.takers in
     let seat : P c.in-Some.seat = subst (λ r. IfSome r P) c.in-Some.is both.1 in
     let split = ap length c.in-Some.ensures.items in
@@ -31,7 +32,7 @@ join-worked-requires-after_bounds g t c κs within =
 pub push_reserved-requires : goal.push_reserved-requires
 push_reserved-requires g t c =
     let crew = c.join-worked.ensures.second in
-    let many = as_many g.C.Carrier.is_seat g.C.Carrier.permits g.C.Carrier.known g.T.Task.answers c.args.queue.now _ _ crew.back in
+    let many = as_many g.C.Carrier.is_seat g.C.Carrier.permits g.C.Carrier.known g.T.Task.answers (queue_of c.args.queue.now) _ _ crew.back in
     let split = ap length c.in-Some.ensures.items in
     let parts = length-append c.pop.new.self.items (c.in-Some.seat ∷ []) in
     let room = c.requires.room in
@@ -41,7 +42,7 @@ push_reserved-requires g t c =
 pub returns : goal.returns
 returns g t c =
     let crew = c.join-worked.ensures.second in
-    let Back = IsBack g.C.Carrier.is_seat g.C.Carrier.known g.T.Task.answers c.args.queue.now in
+    let Back = IsBack g.C.Carrier.is_seat g.C.Carrier.known g.T.Task.answers (queue_of c.args.queue.now) in
     let ws = c.join-worked.result.1.workers.items in
     let both = zip-push Back c.pop.new.self.items ws c.in-Some.seat c.join-worked.result.0 crew.back c.join-worked.ensures.first in
     record {

@@ -1,4 +1,4 @@
-use Rattle.std.proofs.Common.{◌≡◌, ◌∙◌, ◌++◌, ◌∷◌, [], ap, sym, length, map, append_assoc, arith}
+use Rattle.std.proofs.Common.{◌∙◌, ◌++◌, ◌∷◌, [], ap, sym, length, map, append_assoc, arith}
 use Rattle.task_pool.specs.Parts.{seat_in, done_in, end_in}
 use Rattle.task_pool.proofs.pools.part.Goals as goal
 

@@ -1,4 +1,4 @@
-use Rattle.std.proofs.Common.{◌≡◌, ◌<◌, ◌∙◌, ap, sym, subst, length, map}
+use Rattle.std.proofs.Common.{◌<◌, ◌∙◌, ap, sym, subst, length, map}
 use Rattle.std.specs.List.{All}
 use Rattle.std.proofs.lemmas.List.Elements.{All-head, All-rest}
 use Rattle.tasks.specs.Gathers.{slots_in, fills, told_done}

@@ -1,4 +1,4 @@
-use Rattle.std.proofs.Common.{◌<◌, ◌∙◌, ap, sym, subst, length, map}
+use Rattle.std.proofs.Common.{◌<◌, ◌∙◌, ap, sym, subst, length}
 use Rattle.std.specs.List.{All}
 use Rattle.carriers.specs.Rests.{left_in}
 use Rattle.tasks.specs.Gathers.{slots_in}

@@ -1,4 +1,4 @@
-use Rattle.std.proofs.Common.{◌≡◌, ◌∙◌, ◌+◌, ◌<◌, ap, sym, refl, length, arith}
+use Rattle.std.proofs.Common.{◌∙◌, ap, sym, refl, length, arith}
 use Rattle.tasks.proofs.Working.{get_first, drop_first, offered_none, offered_next, next_long}
 use Rattle.tasks.proofs.offers.offer_all.Goals as goal
 

@@ -1,11 +1,11 @@
 use Rattle.std.proofs.Common.{◌∙◌, ◌++◌, ◌∷◌, [], ap, subst}
-use Rattle.carriers.specs.Answers.{PopAnswersOf}
+use Rattle.blocking_carrier.specs.Answers.{RecvAnswersOf}
 use Rattle.tasks.proofs.turns.run_next.Goals as goal
 
-pub returns-in-Ok-Some-clause-ran : goal.returns-in-Ok-Some-clause-ran
-returns-in-Ok-Some-clause-ran g c = record {
-  front = c.in-Ok-Some.front;
-  popped = subst (λ o. PopAnswersOf (g.C.Carrier.known c.args.seat.now) o (g.C.Carrier.known c.pop.new.seat)) c.in-Ok-Some.field-0-is c.in-Ok-Some.ensures.answer;
+pub returns-in-Ok-Done-clause-ran : goal.returns-in-Ok-Done-clause-ran
+returns-in-Ok-Done-clause-ran g c = record {
+  front = c.in-Ok-Done.front;
+  popped = subst (λ a. RecvAnswersOf g.C.Carrier.known c.args.seat.now a c.recv_until.new.seat) c.in-Ok-Done.field-0-is c.in-Ok-Done.ensures.answer;
   result = c.run.result;
   of = c.run.ensures;
   added = c.push_reserved.ensures.items ∙ ap (λ l. l ++ c.run.result ∷ []) c.reserve.ensures.items;

@@ -3,8 +3,8 @@ use Rattle.tasks.specs.Turns.{RunsNext}
 use Rattle.tasks.proofs.Working.{run_more}
 use Rattle.tasks.proofs.turns.work.Goals as goal
 
-pub loop-preserved-in-Ok-true : goal.loop-preserved-in-Ok-true
-loop-preserved-in-Ok-true g c =
+pub loop-preserved : goal.loop-preserved
+loop-preserved g c =
     let known = g.C.Carrier.known in
     let test = c.in-Ok-true.field-0-test in
     let is = c.in-Ok-true.field-0-is in
