@@ -14,8 +14,8 @@ use history::Refusal;
 use std::sync::Wait;
 use std::time::{Clock, Duration, Instant};
 
-/// How often a call looks before it sleeps: until a `Backoff` is completed.
-const LOOKS: u32 = 11;
+/// How often a call looks before it sleeps.
+const LOOKS: u32 = 16;
 
 impl<C: Carrier> BlockingCarrier<C> {
     /// Takes the value at the front, and sleeps while there is none, until a push or a shut wakes it. The seat may pop.

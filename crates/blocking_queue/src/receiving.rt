@@ -12,8 +12,8 @@ use history::{Fifo, Refusal, Taken};
 use std::sync::Wait;
 use std::time::{Clock, Duration, Instant};
 
-/// How often a call looks before it sleeps: until a `Backoff` is completed.
-const LOOKS: u32 = 11;
+/// How often a call looks before it sleeps.
+const LOOKS: u32 = 16;
 
 impl<Q: Fifo> BlockingQueue<Q> {
     /// Takes the value at the front, and sleeps while there is none, until a push or a shut wakes it. The seat may pop.

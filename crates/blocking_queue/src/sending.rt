@@ -12,8 +12,8 @@ use history::{Body, Fifo, Refusal};
 use std::sync::Wait;
 use std::time::{Clock, Duration, Instant};
 
-/// How often a call tries before it sleeps: until a `Backoff` is completed.
-const TRIES: u32 = 11;
+/// How often a call tries before it sleeps.
+const TRIES: u32 = 16;
 
 impl<Q: Fifo> BlockingQueue<Q> {
     /// Pushes a body at the back, and sleeps while there is no node for it, until a pop or a shut wakes it. The seat may
