@@ -2,10 +2,11 @@
 use history::Refusal;
 
 /// A value of a queue, and the number of the seat that pushed it.
+// The value stands first: where padding stood before it, LLVM moved both in parts that overlap.
 #[derive(Debug, PartialEq, Eq, Drop)]
 pub struct ItemOf<T> {
-    pub from: u16,
     pub value: T,
+    pub from: u16,
 }
 
 /// A value that wasn't pushed, and why.

@@ -1,12 +1,24 @@
 //! The queue's calls.
+ghost use Rattle.std.specs.Prelude.{◌≡◌, Err};
+
 use crate::queue::QueueOf;
 use arena_queue::Algorithm;
 use carriers::{Carrier, ItemOf, Unpushed};
 use history::Refusal;
 use node_arena::Seat;
 
+// A refusal as the answer of a pop. It is a function of its own, since a refusal that is written where a value may stand would
+// have LLVM move each value in parts.
+#[cold]
+#[inline(never)]
+fn refused<T>(refusal: Refusal) -> Result<Option<ItemOf<T>>, Refusal>
+    ensures { result ≡ Err refusal }
+{
+    Err(refusal)
+}
+
 impl<T: Send, A: Algorithm<B>, const B: u32> Carrier for QueueOf<T, A, B> {
-    ghost use Rattle.std.specs.Prelude.{◌≡◌, ◌≤◌, true, false, None, IfOk, IfErr, OnOk};
+    ghost use Rattle.std.specs.Prelude.{◌≤◌, true, false, None, IfOk, IfErr, OnOk};
     ghost use Rattle.history.specs.Seats.{MayPush, MayPop};
     ghost use Rattle.history.specs.Answers.{StopsPush, StopsPop, StopsShut};
     ghost use Rattle.carriers.specs.Answers.{PushedOf, PopAnswersOf, DidShutOf, PushRefusedOf, PopRefusedOf};
@@ -100,9 +112,10 @@ impl<T: Send, A: Algorithm<B>, const B: u32> Carrier for QueueOf<T, A, B> {
         ensures caused { IfErr result
             (PopRefused A.pop_worn (arena_of self.now) seat.old seat.new turns) }
     {
-        match self.draw(seat, turns)? {
-            Some(taken) => Ok(Some(self.take_out(seat, taken))),
-            None => Ok(None),
+        match self.draw(seat, turns) {
+            Ok(Some(taken)) => Ok(Some(self.take_out(seat, taken))),
+            Ok(None) => Ok(None),
+            Err(refusal) => refused(refusal),
         }
     }
 

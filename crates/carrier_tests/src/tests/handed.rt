@@ -9,6 +9,7 @@ use node_arena::{Role, Seat};
 use nonblocking::NonBlockingAlgorithm;
 use std::alloc::{AllocError, Global};
 use std::fmt::Debug;
+use std::io::{PipeWriter, Read, Write, pipe};
 use std::process::Abort;
 use std::sync::Wait;
 use std::test::Fail;
@@ -105,6 +106,46 @@ fn units_go<A: Algorithm<24>>(rt: &impl Abort, alloc: Global) -> Result<(), Fail
 fn values_of_no_size_go_through(rt: HostRuntime) -> Result<(), Fail> {
     units_go::<NonBlockingAlgorithm>(&rt, rt.alloc())?;
     units_go::<TwoLockAlgorithm>(&rt, rt.alloc())
+}
+
+fn rows_go<A: Algorithm<24>>(rt: &impl Abort, alloc: Global) -> Result<(), Fail> {
+    let roles = [Role::Both];
+    let (queue, mut seats) = QueueOf::<[u64; 64], A, 24>::new(alloc, NODES, AMPLE_COUNT, &roles)?;
+    let mut seat = last(&queue, &mut seats)?;
+    let rows = [[1; 64], [2; 64], [3; 64], [4; 64], [5; 64]];
+    goes(rt, &queue, &mut seat, rows, rows);
+    Ok(())
+}
+
+#[test]
+fn large_values_go_through(rt: HostRuntime) -> Result<(), Fail> {
+    rows_go::<NonBlockingAlgorithm>(&rt, rt.alloc())?;
+    rows_go::<TwoLockAlgorithm>(&rt, rt.alloc())
+}
+
+/// A file that went through is written to. One that is left is closed by the queue that is dropped; else the second read would
+/// wait for ever.
+#[test]
+fn files_go_through(rt: HostRuntime) -> Result<(), Fail> {
+    let (mut reader, writer) = pipe(&rt)?;
+    let (queue, mut seats) = MsValueQueue::<PipeWriter>::new(
+        rt.alloc(),
+        NODES,
+        AMPLE_COUNT,
+        &[Role::Both],
+    )?;
+    let mut seat = last(&queue, &mut seats)?;
+    assert!(rt; push(&queue, &mut seat, writer).is_ok());
+    let Ok(Some(mut item)) = pop(&queue, &mut seat) else {
+        return Err(Fail::from("no file"));
+    };
+    item.value.write_all(b"text")?;
+    assert!(rt; push(&queue, &mut seat, item.value).is_ok());
+    let mut read = [0u8; 8];
+    assert_eq!(rt; reader.read(&mut read)?, 4);
+    drop(queue);
+    assert_eq!(rt; reader.read(&mut read)?, 0);
+    Ok(())
 }
 
 /// A queue that is dropped drops the values left.
