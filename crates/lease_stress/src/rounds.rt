@@ -1,4 +1,7 @@
 //! Rounds in which many threads come and go.
+ghost use Rattle.history.specs.Closing.{AsksAny};
+ghost use Rattle.seat_pool.specs.Pools.{store_of, queue_in};
+
 use crate::visits::{Found, VALUES, give, take};
 use any_queue::PickedQueue;
 use history::{Close, Fifo};
@@ -90,7 +93,9 @@ fn rounds<R: Threads + Wait + Sync, Q: Close + Send + Sync + Drop>(
     alloc: Global,
     pool: SeatPool<Q>,
     times: u32,
-) -> Option<bool> {
+) -> Option<bool>
+    requires { AsksAny Q.asks (queue_in (store_of pool)) }
+{
     let marks = marks(alloc)?;
     let wrong = AtomicU64::new(0);
     let found = Found {

@@ -38,6 +38,53 @@ fn without_shares<Q: Fifo + Drop>(
     seats
 }
 
+impl<Q: Fifo + Drop> OwnedSeat<Q> {
+    ghost use Rattle.owned_seats.specs.Unended.{GivesBack};
+
+    /// The queue of the seat, as its share shows it. Takes no memory and doesn't wait.
+    pub fn queue(&self) -> &Q
+        ensures { result.now ≡ queue_of self.now }
+    {
+        &self.queue
+    }
+
+    /// The queue itself, and its seats without their shares, this one last: who has all of them may end it by what its type
+    /// has for that. The list is an empty one with room for the seats.
+    ///
+    /// Refused `InUse` and `Raced` as `close_with` is. Takes no memory and doesn't wait.
+    ///
+    /// ```rust
+    /// let room = Vec::with_capacity(alloc, others.len() + 1)?;
+    /// let (queue, seats) = last.into_queue(room, others)?;
+    /// ```
+    pub fn into_queue(
+        self,
+        room: Vec<Q::Seat>,
+        others: Vec<OwnedSeat<Q>>,
+    ) -> Result<(Q, Vec<Q::Seat>), Unended<Q>>
+        requires empty { room.items ≡ [] }
+        requires room { length others.items + 1 ≤ vec_capacity room }
+        requires others { All (λ s. queue_of s ≡ queue_of self) others.items }
+        //= library/into_queue (queue, seats, sit, back): A queue that comes out of its shares is theirs, with their seats, each of
+        //=   which is the queue's. One that doesn't comes back as at `close_with`.
+        ensures queue { IfOk result (λ r. r.0 ≡ queue_of self) }
+        ensures seats { IfOk result
+            (λ r. r.1.items ≡ map seat_of others.items ++ seat_of self ∷ []) }
+        ensures sit { IfOk result (λ r. All (Q.is_seat r.0) r.1.items) }
+        ensures back { IfErr result (GivesBack self others.items) }
+    {
+        if self.shares() - 1 != others.len() {
+            return Err(Unended::InUse(self, others));
+        }
+        let OwnedSeat { queue, seat } = self;
+        let seats = without_shares(others, seat, room);
+        match Arc::try_unwrap(queue) {
+            Ok(queue) => Ok((queue, seats)),
+            Err(queue) => Err(Unended::Raced(queue, seats)),
+        }
+    }
+}
+
 /// Memory for the end of a queue by its seats: for the values left, and for the seats without their shares.
 #[derive(Drop)]
 pub struct EndRoom<Q: Fifo> {
@@ -81,6 +128,8 @@ impl<Q: Close + Drop> OwnedSeat<Q> {
     ) -> Result<(Rest, Q::End), Unended<Q>>
         requires room { HasEndRoom Q.has_room (queue_of self) (length others.items) room }
         requires others { All (λ s. queue_of s ≡ queue_of self) others.items }
+        requires asked { Q.asks (queue_of self)
+            (map (λ s. Q.known (seat_of s)) (others.items ++ self ∷ [])) }
         //= library/close (rest, ends, back): What is left of a queue ended by seats of it is what its own `close` says of
         //=   these. A queue that isn't ended comes back, with its seats: at `InUse` and `Memory` as they were, at `Raced`
         //=   without their shares. When which of them is answered, no clause says.
@@ -89,16 +138,9 @@ impl<Q: Close + Drop> OwnedSeat<Q> {
         ensures ends { IfOk result (λ r. Q.ends (queue_of self) r.1 r.0) }
         ensures back { IfErr result (GivesBack self others.items) }
     {
-        if self.shares() - 1 != others.len() {
-            return Err(Unended::InUse(self, others));
-        }
         let EndRoom { values, seats } = room;
-        let OwnedSeat { queue, seat } = self;
-        let seats = without_shares(others, seat, seats);
-        match Arc::try_unwrap(queue) {
-            Ok(queue) => Ok(queue.close_with(values, seats)),
-            Err(queue) => Err(Unended::Raced(queue, seats)),
-        }
+        let (queue, seats) = self.into_queue(seats, others)?;
+        Ok(queue.close_with(values, seats))
     }
 
     /// Ends the queue as `close_with` does, with room that it takes first.
@@ -110,7 +152,9 @@ impl<Q: Close + Drop> OwnedSeat<Q> {
         alloc: Global,
         others: Vec<OwnedSeat<Q>>,
     ) -> Result<(Rest, Q::End), Unended<Q>>
-        requires { All (λ s. queue_of s ≡ queue_of self) others.items }
+        requires others { All (λ s. queue_of s ≡ queue_of self) others.items }
+        requires asked { Q.asks (queue_of self)
+            (map (λ s. Q.known (seat_of s)) (others.items ++ self ∷ [])) }
         //= library/close (rest, ends, back)
         ensures rest { IfOk result (λ r. Closes (Q.permits (queue_of self))
             (map (λ s. Q.known (seat_of s)) (others.items ++ self ∷ [])) r.0) }

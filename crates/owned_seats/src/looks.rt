@@ -17,6 +17,7 @@ pub trait Look<Q: Fifo> {
     fn look(queue: &Q, seat: &mut Q::Seat) -> Self::Told
         requires { Q.is_seat queue.now seat.old }
         ensures seat { Q.is_seat queue.now seat.new }
+        ensures number { (Q.known seat.new).number ≡ (Q.known seat.old).number }
         ensures told { tells queue.now (Q.known seat.old) result (Q.known seat.new) };
 }
 
@@ -31,9 +32,10 @@ impl<Q: Fifo + Drop> OwnedSeat<Q> {
     /// }
     /// ```
     pub fn look<L: Look<Q>>(&mut self) -> L::Told
-        //= library/owned_looks (queue, told): A look by a seat with its share tells what that look at the queue tells the
-        //=   seat itself, and keeps its queue.
+        //= library/owned_looks (queue, number, told): A look by a seat with its share tells what that look at the queue tells
+        //=   the seat itself, and keeps its queue.
         ensures queue { queue_of self.new ≡ queue_of self.old }
+        ensures number { (Q.known (seat_of self.new)).number ≡ (Q.known (seat_of self.old)).number }
         ensures told { L.tells (queue_of self.old)
             (Q.known (seat_of self.old)) result (Q.known (seat_of self.new)) }
     {

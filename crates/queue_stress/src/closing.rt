@@ -1,4 +1,5 @@
 //! What is left when the threads have ended, and whether it all adds up.
+ghost use Rattle.history.specs.Closing.{AsksAny};
 ghost use Rattle.std.specs.Thread.{IsSync};
 ghost use Rattle.queue_stress.specs.Seated.{MayCall, AreFour};
 
@@ -119,7 +120,8 @@ pub fn judged<R: Threads + Wait + Sync, Q: Close + Sync + Drop>(
     pairs: u32,
     nodes: u32,
 ) -> Option<Verdict>
-    requires { AreFour Q.is_seat Q.permits Q.known queue seats }
+    requires seats { AreFour Q.is_seat Q.permits Q.known queue seats }
+    requires asked { AsksAny Q.asks queue }
 {
     let (seats, threads, mut last, found) = ran(rt, &queue, seats, pairs, nodes);
     let taken = threads.taken.with(&last.taken).total();
@@ -189,6 +191,7 @@ pub fn judged_shut<R: Threads + Wait + Sync, Q: Close + Sync + Drop>(
 ) -> Option<bool>
     requires seats { AreFour Q.is_seat Q.permits Q.known queue seats }
     requires fifth { MayCall Q.is_seat Q.permits Q.known queue fifth }
+    requires asked { AsksAny Q.asks queue }
 {
     let ((seats, tally), (fifth, shut)) = shut_among(rt, &queue, seats, fifth, first);
     let mut list = list_of(&queue, alloc, seats)?;

@@ -1,4 +1,5 @@
 //! The queues that run.
+ghost use Rattle.history.specs.Closing.{AsksAny};
 ghost use Rattle.std.specs.List.{All};
 
 use crate::closing::{Verdict, judged, judged_emptied, judged_shut, judged_shut_emptied};
@@ -102,7 +103,8 @@ fn judged_with<R: Threads + Wait + Sync, Q: Keeping + Sync + Drop>(
     seats: Vec<Q::Seat>,
     sizes: Sizes,
 ) -> Option<Verdict>
-    requires { All (Q.is_seat queue) seats.items }
+    requires seats { All (Q.is_seat queue) seats.items }
+    requires asked { AsksAny Q.asks queue }
 {
     let seats = last_four_keeping(&queue, seats, sizes.keeps)?;
     judged(rt, alloc, queue, seats, sizes.pairs, sizes.nodes)
@@ -197,7 +199,8 @@ fn judged_shut_with<R: Threads + Wait + Sync, Q: Close + Sync + Drop>(
     mut seats: Vec<Q::Seat>,
     first: u64,
 ) -> Option<bool>
-    requires { All (Q.is_seat queue) seats.items }
+    requires seats { All (Q.is_seat queue) seats.items }
+    requires asked { AsksAny Q.asks queue }
 {
     let fifth = last(&queue, &mut seats)?;
     let seats = last_four(&queue, seats)?;

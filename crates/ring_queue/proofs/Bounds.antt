@@ -5,10 +5,11 @@ use mathlib.Core.List.{IsPrefix}
 use Rattle.std.proofs.lemmas.List.Sums.{sum_by-append}
 use Rattle.history.specs.declared.operations.Entry.{Entry}
 use Rattle.history.specs.declared.operations.Taken.{Taken}
-use Rattle.history.specs.Entries.{is_pop, Leads, LeadsToShut}
+use Rattle.history.specs.Entries.{is_push, is_pop, Leads, LeadsToShut}
 use Rattle.history.specs.Seats.{Known}
 use Rattle.history.specs.Answers.{SeesMore}
 use Rattle.history.proofs.Learning.{sees_itself, sees_then}
+use Rattle.history.proofs.Sums.{pushes-Leads}
 use Rattle.ring_queue.specs.declared.lengths.Emptiness.{Emptiness}
 use Rattle.ring_queue.specs.declared.lengths.Emptiness.TheVariants.{Empty, ShutEmpty, Holds, Moved, Unfilled}
 use Rattle.ring_queue.specs.declared.lengths.Len.{Len}
@@ -17,7 +18,7 @@ use Rattle.ring_queue.specs.Words.{tail_word}
 use Rattle.ring_queue.specs.Plans.{Layout, reserve}
 use Rattle.ring_queue.specs.Steps.{LeadsToSome, HoldsSoMany, WasLate}
 use Rattle.ring_queue.specs.Seats.{known_of, view}
-use Rattle.ring_queue.specs.Lengths.{WasMeanwhile, FoundSo, slack, WasSoLong, FrontSays, ShutSays}
+use Rattle.ring_queue.specs.Lengths.{WasMeanwhile, FoundSo, slack, WasSoLong, LeavesPushes, FrontSays, ShutSays}
 
 pops_grow : (k k' : Known) → SeesMore k k' → count_by is_pop k.seen ≤ count_by is_pop k'.seen
 pops_grow k k' f = let e : count_by is_pop k'.seen ≡ count_by is_pop k.seen + count_by is_pop f.between = ap (count_by is_pop) f.seen ∙ sum_by-append _ k.seen f.between in omega (arith, e)
@@ -193,3 +194,41 @@ front_after z s t u ShutEmpty more same says = (sees_then (known_of s) (known_of
 front_after z s t u Holds more same says = (sees_then (known_of s) (known_of t) (known_of u) more says.0, says.1)
 front_after z s t u Moved more same says = (sees_then (known_of s) (known_of t) (known_of u) more says.0, (let lt = says.1 in omega (arith, lt, same)), says.2)
 front_after z s t u Unfilled more same says = absurd says
+
+-- Tail, where it was read once, tells how many pushes are left
+pub left_by_tail : (z : Layout) (k c : Known) (n left : ℕ) → SeesMore k c → HoldsSoMany z n c.seen → left ≡ z.limit - n % 2 ^ 62 - reserve z → LeavesPushes z k left c
+left_by_tail z k c n left sees h is = go h.shut refl
+  where
+    counted : count_by is_push c.seen ≡ count_by is_pop c.seen + length h.values
+    counted = pushes-Leads c.seen h.shut h.values h.leads
+
+    places : ℕ
+    places = ((z.slots + count_by is_pop c.seen) + length h.values) + h.voids
+
+    go : (s : Bool) → h.shut ≡ s → LeavesPushes z k left c
+    go true f =
+        let at : n ≡ places + 2 ^ 62 = h.counted ∙ ap (tail_word places) f in
+        let below = h.below in
+        record {
+          now = c.seen;
+          meanwhile = was_meanwhile k c c sees (sees_itself c);
+          shut = h.shut;
+          values = h.values;
+          leads = h.leads;
+          least = omega (arith, is, at, below, counted);
+          exact = λ unshut. absurd (let e : true ≡ false = sym f ∙ unshut in cc);
+        }
+    go false f =
+        let at : n ≡ places = h.counted ∙ ap (tail_word places) f in
+        let below = h.below in
+        let none = h.unshut f in
+        let all : left ≡ z.limit - ((z.slots + count_by is_push c.seen) + reserve z) = omega (arith, is, at, below, counted, none) in
+        record {
+          now = c.seen;
+          meanwhile = was_meanwhile k c c sees (sees_itself c);
+          shut = h.shut;
+          values = h.values;
+          leads = h.leads;
+          least = omega (arith, all);
+          exact = λ unshut. all;
+        }

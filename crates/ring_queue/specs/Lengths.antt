@@ -1,10 +1,10 @@
 -- What a seat is told of how many values its ring holds.
-use Rattle.std.specs.Prelude.{◌≡◌, ℕ, ◌+◌, ◌^◌, ◌<◌, ◌≤◌, Bool, true, if◌then◌else◌, List, [], length}
+use Rattle.std.specs.Prelude.{◌≡◌, ℕ, ◌+◌, ◌-◌, ◌^◌, ◌<◌, ◌≤◌, Bool, true, false, if◌then◌else◌, List, [], length}
 use Rattle.std.specs.List.{count_by}
 use mathlib.Core.List.{IsPrefix}
 use Rattle.history.specs.declared.operations.Entry.{Entry}
 use Rattle.history.specs.declared.operations.Taken.{Taken}
-use Rattle.history.specs.Entries.{is_pop, Leads, LeadsTo, LeadsToShut}
+use Rattle.history.specs.Entries.{is_push, is_pop, Leads, LeadsTo, LeadsToShut}
 use Rattle.history.specs.Seats.{Known}
 use Rattle.history.specs.Answers.{SeesMore}
 use Rattle.ring_queue.specs.declared.lengths.Emptiness.{Emptiness}
@@ -65,6 +65,21 @@ pub record WasSoLong (z : Layout) (k : Known) (len : Len) (k' : Known) : Type 0 
   pub least : len.least ≤ length values
   pub most : length values ≤ len.most
   pub near : len.most + count_by is_pop k.seen ≤ (len.least + slack z shut) + count_by is_pop k'.seen
+
+-- after how many pushes more the places are used up that come before the limit, but for those that all seats may have in reserve
+abbrev pub pushes_left : Layout → (es : List Entry) → ℕ
+pushes_left z es = z.limit - ((z.slots + count_by is_push es) + reserve z)
+
+-- no fewer pushes than so many were left after a history no older than what the seat had seen, and just so many where the ring
+-- wasn't shut
+pub record LeavesPushes (z : Layout) (k : Known) (left : ℕ) (k' : Known) : Type 0 where
+  pub now : List Entry
+  pub meanwhile : WasMeanwhile k now k'
+  pub shut : Bool
+  pub values : List Taken
+  pub leads : Leads now shut values
+  pub least : left ≤ pushes_left z now
+  pub exact : shut ≡ false → left ≡ pushes_left z now
 
 -- the places up to a seat's head are those of the first lap and of all pops that it has seen
 abbrev pub HeadCounts : Layout → Seat → Type 0

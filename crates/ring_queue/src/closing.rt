@@ -10,7 +10,7 @@ use crate::queue::RingQueue;
 use crate::remains::rest_of;
 use crate::seats::Seat;
 use crate::views::{Gather, Open, SeatToken, WordTable};
-use history::{Refusal, Rest, Taken, Unclosed};
+use history::{Close, Refusal, Rest, Taken};
 use std::alloc::Global;
 
 // The token takes in those of the seats.
@@ -42,11 +42,8 @@ impl RingQueue {
         self.sizes().roles.len()
     }
 
-    /// Memory for the values left in the ring, of which there are no more than slots.
-    ///
-    /// Refused by `Memory` alone. Takes that memory, and doesn't wait.
-    pub fn room(&self, alloc: Global) -> Result<Vec<Taken>, Refusal>
-        //= ring/room (room, only_memory): Room for what is left of a ring is room for a value of each slot. Or Memory.
+    // Memory for the values left, of which there are no more than slots. Or Memory.
+    fn end_room(&self, alloc: Global) -> Result<Vec<Taken>, Refusal>
         ensures room { IfOk result (HasRoomFor self.now) }
         ensures only_memory { IfErr result (λ refusal. refusal ≡ Refusal.Memory) }
     {
@@ -56,23 +53,11 @@ impl RingQueue {
         }
     }
 
-    /// Ends the ring with all its seats, as many as `seat_count` tells, each of which is in no call, so that each place that was
-    /// claimed is filled: which values are left, how many were taken, and whether the ring was shut. What shuts a ring and
-    /// leaves it there is `try_shut`.
-    ///
-    /// Takes no memory and doesn't wait.
-    ///
-    /// ```rust
-    /// let room = queue.room(alloc)?;
-    /// let mut rest = queue.close_with(room, seats);
-    /// let front = rest.next();
-    /// ```
-    pub fn close_with(self, room: Vec<Taken>, seats: Vec<Seat>) -> Rest
+    // Ends the ring with all its seats, each of which is in no call, so that each place that was claimed is filled.
+    fn end_with(self, room: Vec<Taken>, seats: Vec<Seat>) -> Rest
         requires room { HasRoomFor self room }
         requires seats { All (IsQueueSeat self) seats.items }
         requires all { length seats.items ≡ length (permits_in self) }
-        //= ring/rest: A ring is closed by as many of its seats as it has, which are all of them, and what is left of it is
-        //=   then what [`Close`](#queues) says of a rest, which is whole: the values in their order, each with who pushed it.
         ensures rest { Closes (permits_in self) (map known_of seats.items) result }
     {
         let RingQueue { table, plan } = self;
@@ -84,29 +69,34 @@ impl RingQueue {
         closed.free();
         rest
     }
+}
 
-    /// Ends the ring with all its seats, as `close_with` does, with room that it takes first.
-    ///
-    /// Refused for want of memory alone; then the ring and the seats come back, as they were. Takes memory for the values left,
-    /// and doesn't wait.
-    ///
-    /// ```rust
-    /// let mut rest = queue.close(alloc, seats)?;
-    /// let front = rest.next();
-    /// ```
-    pub fn close(self, alloc: Global, seats: Vec<Seat>) -> Result<Rest, Unclosed<RingQueue, Seat>>
+impl Close for RingQueue {
+    ghost use Rattle.std.specs.Prelude.{◌≡◌, length};
+    ghost use Rattle.ring_queue.specs.Closing.{HasRoomFor};
+    ghost use Rattle.ring_queue.specs.Queues.{permits_in};
+
+    type End = ();
+
+    ghost ends = { λ _ _ _. Unit {0} };
+
+    //= ring/rest: An end of a ring asks for as many seats as it has, which are all, so that each place that was claimed is
+    //=   filled: what is left is then whole.
+    ghost asks = { λ q seats. length seats ≡ length (permits_in q) };
+
+    //= ring/room: Room for what is left of a ring is room for a value of each slot.
+    ghost has_room = { HasRoomFor };
+
+    fn room(&self, alloc: Global) -> Result<Vec<Taken>, Refusal> {
+        self.end_room(alloc)
+    }
+
+    fn close_with(self, room: Vec<Taken>, seats: Vec<Seat>) -> (Rest, ())
+        requires room { HasRoomFor self room }
         requires seats { All (IsQueueSeat self) seats.items }
-        requires all { length seats.items ≡ length (permits_in self) }
-        //= ring/rest
-        ensures rest { IfOk result (Closes (permits_in self) (map known_of seats.items)) }
-        //= ring/unclosed (queue, same): A ring that isn't closed, for want of memory, comes back as it was, with the seats handed
-        //=   in.
-        ensures queue { IfErr result (λ unclosed. unclosed.queue ≡ self) }
-        ensures same { IfErr result (λ unclosed. unclosed.seats.items ≡ seats.items) }
+        requires asked { length (map known_of seats.items) ≡ length (permits_in self) }
+        ensures rest { Closes (permits_in self) (map known_of seats.items) result.0 }
     {
-        match self.room(alloc) {
-            Ok(room) => Ok(self.close_with(room, seats)),
-            Err(_) => Err(Unclosed { queue: self, seats }),
-        }
+        (self.end_with(room, seats), ())
     }
 }

@@ -4,7 +4,7 @@ ghost use Rattle.ring_queue.specs.Steps.{HoldsSoMany};
 ghost use Rattle.ring_queue.specs.Seeing.{found};
 ghost use Rattle.ring_queue.specs.Seats.{IsReady, KeepsName, KeepsStored, known_of, view};
 ghost use Rattle.ring_queue.specs.Queues.{IsQueueSeat};
-ghost use Rattle.ring_queue.specs.Lengths.{FoundSo, WasSoLong, FrontSays, ShutSays};
+ghost use Rattle.ring_queue.specs.Lengths.{FoundSo, WasSoLong, LeavesPushes, FrontSays, ShutSays};
 
 use crate::acts::PARITY;
 use crate::places::{HEAD, SHUT};
@@ -155,5 +155,27 @@ impl RingQueue {
                 .saturating_sub(spare(tail, reserve)),
             most: places - first,
         }
+    }
+    /// How many values may still be pushed at least before a push is refused `WornOut`: while fewer take effect, none is. By one
+    /// load, of Tail. Takes no memory and doesn't wait.
+    ///
+    /// ```rust
+    /// if queue.left(&mut seat) < 1_000_000 {
+    ///     make_another_queue();
+    /// }
+    /// ```
+    pub fn left(&self, seat: &mut Seat) -> u64
+        requires { IsQueueSeat self.now seat.old }
+        ensures seat { IsQueueSeat self.now seat.new }
+        ensures stored { KeepsStored seat.old seat.new }
+        //= ring/left (seat, left): A seat that looks how many pushes its ring has left is told no more than are left after some
+        //=   history that begins with what the seat had seen and that it has now seen, and just as many where the ring wasn't
+        //=   shut there. It is in no call, as before.
+        ensures left { LeavesPushes self.now.plan (known_of seat.old) result (known_of seat.new) }
+    {
+        let plan = self.sizes();
+        let reserve = self.all_reserves();
+        let places = self.see_tail(seat) % SHUT;
+        plan.limit.saturating_sub(places).saturating_sub(reserve)
     }
 }

@@ -99,6 +99,7 @@ impl<Q: Fifo + Drop> Store<Q> {
 
 impl<Q: Close + Drop> SeatPool<Q> {
     ghost use Rattle.seat_pool.specs.Pools.{store_of, queue_in, numbers_of, IsFrom};
+    ghost use Rattle.history.specs.Closing.{IsAskedOf};
     ghost use Rattle.seat_pool.specs.Ends.{ClosesPool, GivesPoolBack};
 
     /// Ends the pool and its queue by all its seats: what is left, as `Close::close_with` says, with the queue's end.
@@ -106,6 +107,8 @@ impl<Q: Close + Drop> SeatPool<Q> {
     /// Refused `Leased`, with their number, where seats are leased, `InUse` where there are further handles of the pool, and
     /// `Memory`; the pool comes back as it was. Takes memory for the values left and the seats, and doesn't wait.
     pub fn close(self, alloc: Global) -> Result<(Rest, Q::End), Unclosed<Q>>
+        requires { IsAskedOf Q.asks (queue_in (store_of self))
+            (numbers_of Q.known (store_of self)) }
         //= leases/close (rest, ends, back): What is left of a pool that is closed is what its queue's own `close` says of all
         //=   the seats that the pool was made with. One that isn't comes back as it was; where that is for seats that are
         //=   leased, with a number above 0. That it is just theirs, no clause says.
@@ -134,6 +137,8 @@ impl<Q: Close + Drop> SeatPool<Q> {
         seats: Vec<Q::Seat>,
         all: Vec<Held<Q>>,
     ) -> Result<(Rest, Q::End), Unclosed<Q>>
+        requires asked { IsAskedOf Q.asks (queue_in (store_of self))
+            (numbers_of Q.known (store_of self)) }
         requires values { Q.has_room (queue_in (store_of self)) values }
         requires empty { seats.items ≡ [] }
         requires room { length (numbers_of Q.known (store_of self)) ≤ vec_capacity seats }

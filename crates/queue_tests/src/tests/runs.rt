@@ -1,6 +1,7 @@
 //! Runs of any queue: what its calls answer, and what it leaves.
 ghost use Rattle.std.specs.Prelude.{IfOk};
 ghost use Rattle.std.specs.List.{All};
+ghost use Rattle.history.specs.Closing.{AsksAny};
 
 use super::calls::{parts, pop, push, shut};
 use super::comparing::same;
@@ -118,7 +119,8 @@ pub fn goes<Q: Fifo>(rt: &impl Abort, queue: &Q, seat: &mut Q::Seat, calls: &[To
 
 // Ends a queue with this seat alone handed in.
 fn closed<Q: Close + Drop>(alloc: Global, queue: Q, seat: Q::Seat) -> Result<Left, Refusal>
-    requires { Q.is_seat queue seat }
+    requires seat { Q.is_seat queue seat }
+    requires asked { AsksAny Q.asks queue }
 {
     let mut seats = Vec::new(alloc);
     let Ok(()) = seats.push(seat) else {
@@ -142,7 +144,8 @@ pub fn leaves<Q: Close + Drop>(
     seat: Q::Seat,
     wanted: Left,
 ) -> Result<(), Fail>
-    requires { Q.is_seat queue seat }
+    requires seat { Q.is_seat queue seat }
+    requires asked { AsksAny Q.asks queue }
 {
     let found = closed(alloc, queue, seat)?;
     same(rt, found, wanted, "");
@@ -157,7 +160,8 @@ pub fn values_come_in_their_order<Q: Close + Drop>(
     queue: Q,
     mut seats: Vec<Q::Seat>,
 ) -> Result<(), Fail>
-    requires { All (Q.is_seat queue) seats.items }
+    requires seats { All (Q.is_seat queue) seats.items }
+    requires asked { AsksAny Q.asks queue }
 {
     let mut seat = last(&queue, &mut seats)?;
     goes(rt, &queue, &mut seat, &TWO_PUSHED_ONE_POPPED);
@@ -180,7 +184,8 @@ pub fn a_rest_is_whole_by_its_pusher<Q: Close + Drop>(
     mut seats: Vec<Q::Seat>,
     by_pusher: bool,
 ) -> Result<(), Fail>
-    requires { All (Q.is_seat queue) seats.items }
+    requires seats { All (Q.is_seat queue) seats.items }
+    requires asked { AsksAny Q.asks queue }
 {
     let second = last(&queue, &mut seats)?;
     let mut first = last(&queue, &mut seats)?;
@@ -204,7 +209,8 @@ pub fn a_shut_queue_is_emptied<Q: Close + Drop>(
     queue: Q,
     mut seats: Vec<Q::Seat>,
 ) -> Result<(), Fail>
-    requires { All (Q.is_seat queue) seats.items }
+    requires seats { All (Q.is_seat queue) seats.items }
+    requires asked { AsksAny Q.asks queue }
 {
     let mut seat = last(&queue, &mut seats)?;
     goes(rt, &queue, &mut seat, &SHUT_BEHIND_TWO);
@@ -241,7 +247,8 @@ pub fn a_rest_is_whole_by_who_shut<Q: Close + Drop>(
     mut seats: Vec<Q::Seat>,
     by_who_shut: bool,
 ) -> Result<(), Fail>
-    requires { All (Q.is_seat queue) seats.items }
+    requires seats { All (Q.is_seat queue) seats.items }
+    requires asked { AsksAny Q.asks queue }
 {
     let second = last(&queue, &mut seats)?;
     let mut first = last(&queue, &mut seats)?;
@@ -273,7 +280,8 @@ pub fn one_seat_pops_what_it_pushed<Q: Close + Drop>(
     queue: Q,
     mut seats: Vec<Q::Seat>,
 ) -> Result<(), Fail>
-    requires { All (Q.is_seat queue) seats.items }
+    requires seats { All (Q.is_seat queue) seats.items }
+    requires asked { AsksAny Q.asks queue }
 {
     let mut seat = last(&queue, &mut seats)?;
     for number in 1..=ROUNDS {
@@ -299,7 +307,8 @@ pub fn two_threads_pop_each_value_once<R: Threads + Wait + Sync + Abort, Q: Clos
     seats: Vec<Q::Seat>,
     with_both: bool,
 ) -> Result<(), Fail>
-    requires { All (Q.is_seat queue) seats.items }
+    requires seats { All (Q.is_seat queue) seats.items }
+    requires asked { AsksAny Q.asks queue }
 {
     let run = met(rt, alloc, queue, seats, with_both)?;
     let wanted = Run {
@@ -319,7 +328,8 @@ pub fn closed_with_one<Q: Close + Drop>(
     queue: Q,
     mut seats: Vec<Q::Seat>,
 ) -> Result<Left, Refusal>
-    requires { All (Q.is_seat queue) seats.items }
+    requires seats { All (Q.is_seat queue) seats.items }
+    requires asked { AsksAny Q.asks queue }
 {
     let mut seat = last(&queue, &mut seats)?;
     push(&queue, &mut seat, 7)?;

@@ -1,6 +1,7 @@
 //! Two threads that push and pop on one queue.
 ghost use Rattle.std.specs.Prelude.{IfOk, IfSome};
 ghost use Rattle.std.specs.List.{All};
+ghost use Rattle.history.specs.Closing.{AsksAny};
 ghost use Rattle.history.specs.Seats.{MayPush, MayPop};
 ghost use Rattle.queue_tests.specs.Rounds.{MayBegin};
 
@@ -144,7 +145,8 @@ pub fn met<R: Threads + Wait + Sync, Q: Close + Sync + Drop>(
     mut seats: Vec<Q::Seat>,
     with_both: bool,
 ) -> Result<Run, Refusal>
-    requires { All (Q.is_seat queue) seats.items }
+    requires seats { All (Q.is_seat queue) seats.items }
+    requires asked { AsksAny Q.asks queue }
 {
     let Some(other) = able(&queue, &mut seats) else {
         return Err(Refusal::BadSize);

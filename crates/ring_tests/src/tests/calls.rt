@@ -3,7 +3,7 @@ ghost use Rattle.std.specs.Prelude.{IfOk};
 ghost use Rattle.std.specs.List.{All};
 ghost use Rattle.ring_queue.specs.Queues.{IsQueueSeat};
 
-use history::{Body, Fifo, Refusal, Rest, Taken};
+use history::{Body, Close, Fifo, Refusal, Rest, Taken};
 use ring_queue::{RingQueue, Role, Seat};
 use std::alloc::Global;
 use std::fmt::Debug;
@@ -102,7 +102,8 @@ pub fn close(queue: RingQueue, alloc: Global, seats: Vec<Seat>) -> Result<Rest, 
     if seats.len() != queue.seat_count() {
         return Err(Refusal::BadSize);
     }
-    queue.close(alloc, seats).map_err(Refusal::from)
+    let (rest, ()) = queue.close(alloc, seats).map_err(Refusal::from)?;
+    Ok(rest)
 }
 
 /// The last of the seats.

@@ -1,8 +1,15 @@
 //! Leased seats: that a dropped lease gives its seat back, and that a pool with a lease isn't closed.
+ghost use Rattle.std.specs.Prelude.{◌≡◌, length, IfOk};
+ghost use Rattle.history.specs.Closing.{IsAskedOf};
+ghost use Rattle.ring_queue.specs.Queues.{permits_in};
+ghost use Rattle.ring_queue.specs.Seats.{known_of};
+ghost use Rattle.seat_pool.specs.Pools.{store_of, queue_in, numbers_of};
+
 use any_queue::PickedQueue;
-use history::{Body, Refusal, Taken};
+use history::{Body, Close, Refusal, Taken};
 use line_table::Kind;
 use node_arena::Role;
+use ring_queue::{RingQueue, Role as RingRole};
 use seat_pool::{Part, SeatPool, Unclosed};
 use std::alloc::Global;
 use std::sync::Wait;
@@ -12,6 +19,16 @@ use std::test::Fail;
 fn pool_of(alloc: Global, kind: Kind) -> Result<SeatPool<PickedQueue>, Refusal> {
     let roles = [Role::Giver, Role::Taker];
     let (queue, seats) = PickedQueue::new(alloc, kind, 8, &roles)?;
+    SeatPool::new(alloc, queue, seats)
+}
+
+// The same over a ring.
+fn ring_pool_of(alloc: Global) -> Result<SeatPool<RingQueue>, Refusal>
+    ensures { IfOk result (λ pool. length (numbers_of known_of (store_of pool))
+        ≡ length (permits_in (queue_in (store_of pool)))) }
+{
+    let roles = [RingRole::Giver, RingRole::Taker];
+    let (queue, seats) = RingQueue::new(alloc, 8, 2, 1 << 40, &roles)?;
     SeatPool::new(alloc, queue, seats)
 }
 
@@ -37,8 +54,9 @@ fn body_of(number: u64) -> Result<Body, Refusal> {
 // refused behind its shut; what is left in the pool once both are given back.
 type Told = (usize, Option<Taken>, Option<Refusal>, Option<Taken>);
 
-fn told<R: Wait>(rt: &R, alloc: Global, kind: Kind) -> Result<Told, Refusal> {
-    let pool = pool_of(alloc, kind)?;
+fn told<R: Wait, Q: Close + Drop>(rt: &R, alloc: Global, pool: SeatPool<Q>) -> Result<Told, Refusal>
+    requires { IsAskedOf Q.asks (queue_in (store_of pool)) (numbers_of Q.known (store_of pool)) }
+{
     let (Some(mut giver), Some(mut taker)) = (pool.lease(Part::Giver), pool.lease(Part::Taker))
     else {
         return Err(Refusal::Lost);
@@ -60,11 +78,17 @@ fn told<R: Wait>(rt: &R, alloc: Global, kind: Kind) -> Result<Told, Refusal> {
     }
 }
 
-/// A pool isn't closed while seats are leased, and says how many; then it gives what they left.
+/// A pool isn't closed while seats are leased, and says how many; then it gives what they left. So it is over a ring too, whose
+/// end asks for all its seats.
 #[test]
 fn a_pool_closes_once_its_seats_are_back(rt: HostRuntime) -> Result<(), Fail> {
-    for kind in [Kind::NonBlocking, Kind::TwoLock] {
-        let (out, taken, refused, left) = told(&rt, rt.alloc(), kind)?;
+    let alloc = rt.alloc();
+    let found = [
+        told(&rt, alloc, pool_of(alloc, Kind::NonBlocking)?)?,
+        told(&rt, alloc, pool_of(alloc, Kind::TwoLock)?)?,
+        told(&rt, alloc, ring_pool_of(alloc)?)?,
+    ];
+    for (out, taken, refused, left) in found {
         let numbers = (
             taken.map(|it| it.body.number()),
             left.map(|it| it.body.number()),

@@ -1,24 +1,17 @@
-use Rattle.std.proofs.Common.{subst, map, ap, sym}
+use Rattle.std.proofs.Common.{subst, map, sym}
 use Rattle.history.specs.Closing.{Closes}
-use Rattle.owned_seats.specs.Owned.{queue_of, seat_of}
-use Rattle.owned_seats.proofs.Shares.{all_sit, all_known}
+use Rattle.owned_seats.specs.Owned.{queue_of}
+use Rattle.owned_seats.proofs.Shares.{all_known}
 use Rattle.owned_seats.proofs.seats.OwnedSeat.close_with.Goals as goal
 
-pub close_with-requires-clause-seats : goal.close_with-requires-clause-seats
-close_with-requires-clause-seats g c = all_sit c.args.others.items c.args.self c.without_shares-seats.result.items c.without_shares-seats.ensures
-    g.met.Q.Fifo.seat_prop c.in-Ok.queue (sym c.in-Ok.ensures.ok) c.requires.others
+pub close_with-requires-clause-asked : goal.close_with-requires-clause-asked
+close_with-requires-clause-asked g c =
+    subst (λ q. g.Q.Close.asks q (map g.Q.Fifo.known c.in_ok-queue.seats.items)) (sym c.in_ok-queue.ensures.queue)
+    (subst (g.Q.Close.asks (queue_of c.args.self))
+    (sym (all_known c.args.others.items c.args.self c.in_ok-queue.seats.items c.in_ok-queue.ensures.seats g.Q.Fifo.known)) c.requires.asked)
 
-pub returns-in-Ok-clause-rest : goal.returns-in-Ok-clause-rest
-returns-in-Ok-clause-rest g c =
+pub returns-clause-rest : goal.returns-clause-rest
+returns-clause-rest g c =
     subst (λ ks. Closes (g.Q.Fifo.permits (queue_of c.args.self)) ks c.close_with.result.0)
-    (all_known c.args.others.items c.args.self c.without_shares-seats.result.items c.without_shares-seats.ensures g.Q.Fifo.known)
-    (subst (λ q. Closes (g.Q.Fifo.permits q) (map g.Q.Fifo.known c.without_shares-seats.result.items) c.close_with.result.0) c.in-Ok.ensures.ok c.close_with.ensures.rest)
-
-pub returns-in-Err-clause-back : goal.returns-in-Err-clause-back
-returns-in-Err-clause-back g c =
-    let same = ap (λ s. s.value) c.in-Err.ensures.err in (
-      same,
-      c.without_shares-seats.ensures,
-      all_sit c.args.others.items c.args.self c.without_shares-seats.result.items c.without_shares-seats.ensures
-          g.met.Q.Fifo.seat_prop c.in-Err.queue.value (sym same) c.requires.others,
-    )
+    (all_known c.args.others.items c.args.self c.in_ok-queue.seats.items c.in_ok-queue.ensures.seats g.Q.Fifo.known)
+    (subst (λ q. Closes (g.Q.Fifo.permits q) (map g.Q.Fifo.known c.in_ok-queue.seats.items) c.close_with.result.0) c.in_ok-queue.ensures.queue c.close_with.ensures.rest)

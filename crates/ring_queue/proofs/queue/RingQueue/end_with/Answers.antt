@@ -6,7 +6,7 @@ use Rattle.ring_queue.specs.Remains.{values_from, HasWords}
 use Rattle.ring_queue.proofs.Gathers.{enters}
 use Rattle.ring_queue.proofs.Alls.{are_all}
 use Rattle.ring_queue.proofs.Ends.{ends, closes_all, has_words, head_is_low, few_left}
-use Rattle.ring_queue.proofs.queue.RingQueue.close_with.Goals as goal
+use Rattle.ring_queue.proofs.queue.RingQueue.end_with.Goals as goal
 
 pub load_new_seat-requires : goal.load_new_seat-requires
 load_new_seat-requires c = let words = c.args.self.laid.words in (omega (arith, words), enters _ _ _)
