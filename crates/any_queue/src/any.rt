@@ -237,6 +237,8 @@ impl<const B: u32> Close for AnyQueueOf<B> {
 
     ghost ends = { λ q. Leaves (any_arena_of q) };
 
+    ghost asks = { λ _ _. Unit {0} };
+
     ghost has_room = { λ q. HasRoomFor (any_arena_of q) };
 
     fn room(&self, alloc: Global) -> Result<Vec<Taken>, Refusal> {

@@ -253,6 +253,8 @@ impl Close for PickedQueue {
 
     ghost ends = { λ q. Leaves (picked_arena_of q) };
 
+    ghost asks = { λ _ _. Unit {0} };
+
     ghost has_room = { λ q. HasRoomFor (picked_arena_of q) };
 
     fn room(&self, alloc: Global) -> Result<Vec<Taken>, Refusal> {

@@ -244,6 +244,8 @@ impl<A: Algorithm<B>, const B: u32> Close for ArenaQueueOf<A, B> {
 
     ghost ends = { λ q. Leaves (arena_of q) };
 
+    ghost asks = { λ _ _. Unit {0} };
+
     ghost has_room = { λ q. HasRoomFor (arena_of q) };
 
     fn room(&self, alloc: Global) -> Result<Vec<Taken>, Refusal> {

@@ -1,5 +1,5 @@
 -- What is known of a queue that was closed.
-use Rattle.std.specs.Prelude.{◌≡◌, ◌↔◌, ℕ, ◌+◌, ◌≤◌, IsTrue, List, length, IsSomeAnd, slice_get}
+use Rattle.std.specs.Prelude.{◌≡◌, ◌↔◌, ℕ, ◌+◌, ◌≤◌, IsTrue, List, length, map, IsSomeAnd, slice_get}
 use Rattle.std.specs.List.{All, count_by, sum_by}
 use mathlib.Core.List.{IsPrefix}
 use Rattle.history.specs.declared.operations.Entry.{Entry}
@@ -42,3 +42,11 @@ pub record Closes (permits : List Permit) (seats : List Known) (rest : Rest) : T
   pub whole : IsTrue (whole_of rest) ↔ ((pops_of seats ≡ taken_of rest) × (pushes_of seats ≡ taken_of rest + length (left_of rest)) × (IsTrue (was_shut_of rest) → 1 ≤ shuts_of seats))
   pub theirs : IsTrue (whole_of rest) → All (IsOfOne seats) history
   pub all : AreAll permits seats → IsTrue (whole_of rest)
+
+-- any seats with just these numbers are enough for an end of a queue
+abbrev pub IsAskedOf : {Q : Type 0} → (asks : Q → List Known → Type 0) → Q → (numbers : List ℕ) → Type 0
+IsAskedOf asks queue numbers = (seats : List Known) → map (λ k. k.number) seats ≡ numbers → asks queue seats
+
+-- any seats are enough for it, and none too
+abbrev pub AsksAny : {Q : Type 0} → (asks : Q → List Known → Type 0) → Q → Type 0
+AsksAny asks queue = (seats : List Known) → asks queue seats

@@ -1,5 +1,5 @@
 //! The end of a queue.
-ghost use Rattle.std.specs.Prelude.{◌≡◌, map, IfErr, IfOk};
+ghost use Rattle.std.specs.Prelude.{◌≡◌, List, map, IfErr, IfOk};
 ghost use Rattle.std.specs.List.{All};
 ghost use Rattle.history.specs.Closing.{Closes};
 
@@ -33,12 +33,16 @@ pub trait Close: Fifo + Sized {
     ghost use Rattle.std.specs.Global.{Vec};
     ghost use Rattle.history.specs.declared.operations.Taken.{Taken};
     ghost use Rattle.history.specs.declared.rests.Rest.{Rest};
+    ghost use Rattle.history.specs.Seats.{Known};
 
     /// What the end of a queue gives beside the rest, and nothing else does: it shows that the rest is the queue's own.
     type End: Drop;
 
     // This is the end of this queue, and it leaves this rest.
     ghost ends: { Self → Self.End → Rest → Type 0 };
+
+    // The seats that are handed in are enough for an end of this queue: any, or all.
+    ghost asks: { Self → List Known → Type 0 };
 
     // There is room for all that this queue may hold.
     ghost has_room: { Self → Vec Taken → Type 0 };
@@ -66,10 +70,12 @@ pub trait Close: Fifo + Sized {
     fn close_with(self, room: Vec<Taken>, seats: Vec<Self::Seat>) -> (Rest, Self::End)
         requires room { has_room self room }
         requires seats { All (Self.is_seat self) seats.items }
+        requires asked { asks self (map Self.known seats.items) }
         //= queues/rest: What is left of a closed queue is what a legal history of permitted entries leaves, which begins
         //=   with what each seat handed in had seen and has just their own entries as theirs; its pops are counted, and
         //=   whether it has a shut is told. The rest is whole exactly where these seats made as many pops and pushes, and
-        //=   a shut if it has one; each entry is then theirs. With every seat it is whole.
+        //=   a shut if it has one; each entry is then theirs. With every seat it is whole. Which seats an end asks for the queue
+        //=   names: `ArenaQueue` and `AnyQueue` any, `RingQueue` all.
         ensures rest { Closes (Self.permits self) (map Self.known seats.items) result.0 }
         //= queues/ends: With the rest comes an end, whichever seats are handed in, of which the queue's `ends` holds. What
         //=   that says the queue names: `ArenaQueue` and `AnyQueue` say what a closed arena does.
@@ -89,16 +95,17 @@ pub trait Close: Fifo + Sized {
         alloc: Global,
         seats: Vec<Self::Seat>,
     ) -> Result<(Rest, Self::End), Unclosed<Self, Self::Seat>>
-        requires { All (Self.is_seat self) seats.items }
+        requires seats { All (Self.is_seat self) seats.items }
+        requires asked { asks self (map Self.known seats.items) }
         //= queues/rest
         ensures rest { IfOk result
             (λ r. Closes (Self.permits self) (map Self.known seats.items) r.0) }
         //= queues/ends
         ensures ends { IfOk result (λ r. ends self r.1 r.0) }
-        //= queues/unclosed (queue, seats): A queue that isn't closed, for want of memory, comes back as it was, with the
+        //= queues/unclosed (queue, same): A queue that isn't closed, for want of memory, comes back as it was, with the
         //=   seats handed in.
         ensures queue { IfErr result (λ unclosed. unclosed.queue ≡ self) }
-        ensures seats { IfErr result (λ unclosed. unclosed.seats.items ≡ seats.items) }
+        ensures same { IfErr result (λ unclosed. unclosed.seats.items ≡ seats.items) }
     {
         match self.room(alloc) {
             Ok(room) => Ok(self.close_with(room, seats)),

@@ -88,6 +88,8 @@ impl Close for FullQueue {
 
     ghost ends = { λ _ _ rest. LeavesNone rest };
 
+    ghost asks = { λ _ _. Unit {0} };
+
     ghost has_room = { λ _ room. room.items ≡ [] };
 
     fn room(&self, alloc: Global) -> Result<Vec<Taken>, Refusal> {

@@ -129,6 +129,8 @@ impl<Q: Close + Drop, P: Plan + Drop> Close for Planned<Q, P> {
 
     ghost ends = { λ q. Q.ends (queue_of q) };
 
+    ghost asks = { λ q. Q.asks (queue_of q) };
+
     ghost has_room = { λ q. Q.has_room (queue_of q) };
 
     fn room(&self, alloc: Global) -> Result<Vec<Taken>, Refusal> {
@@ -138,6 +140,7 @@ impl<Q: Close + Drop, P: Plan + Drop> Close for Planned<Q, P> {
     fn close_with(self, room: Vec<Taken>, seats: Vec<Q::Seat>) -> (Rest, Q::End)
         requires room { Q.has_room self.queue room }
         requires seats { All (Q.is_seat self.queue) seats.items }
+        requires asked { Q.asks self.queue (map Q.known seats.items) }
         ensures rest { Closes (Q.permits self.queue) (map Q.known seats.items) result.0 }
         ensures ends { Q.ends self.queue result.1 result.0 }
     {

@@ -100,6 +100,8 @@ impl Close for ShutQueue {
 
     ghost ends = { λ _ _ rest. LeavesNone rest };
 
+    ghost asks = { λ _ _. Unit {0} };
+
     ghost has_room = { λ _ room. room.items ≡ [] };
 
     fn room(&self, alloc: Global) -> Result<Vec<Taken>, Refusal> {
