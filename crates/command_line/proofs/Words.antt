@@ -9,7 +9,7 @@ use Rattle.queue_kinds.specs.declared.kinds.QueueKind.TheVariants.{Linked}
 use Rattle.clap.specs.Words.{App, Row, Text, fault_of, first_of, is_simple, is_simple_and_free, subcommand_of}
 use Rattle.clap.proofs.OnLiterals.{clap_on_literals}
 use Rattle.command_line.specs.declared.commands.Colours.TheVariants.{Auto}
-use Rattle.command_line.specs.Commands.{colours_by, colours_named, command_line_app, faults_in, file_met, kind_by, kind_named, met_in, SaysFlag, SaysNumberIn, TextRow}
+use Rattle.command_line.specs.Commands.{colours_by, colours_named, command_line_app, faults_in, file_met, held_met, kind_by, kind_named, met_in, SaysFlag, SaysNumberIn, TextRow}
 
 module _ (queues whens : TextRow) where
   -- no words meet no command
@@ -55,6 +55,11 @@ plain_local false b true d e = absurd cc
 pub file_met-rows : (met : Option (Text × List Row)) (rows : List Row) → option_map (λ p. p.1) met ≡ Some rows → file_met met ≡ first_of (codes "FILE") rows
 file_met-rows None rows e = absurd cc
 file_met-rows (Some p) rows e = let same : p.1 ≡ rows = cc in ap (first_of (codes "FILE")) same
+
+-- and its list of what the queue holds
+pub held_met-rows : (met : Option (Text × List Row)) (rows : List Row) → option_map (λ p. p.1) met ≡ Some rows → held_met met ≡ first_of (codes "HOLDS") rows
+held_met-rows None rows e = absurd cc
+held_met-rows (Some p) rows e = let same : p.1 ≡ rows = cc in ap (first_of (codes "HOLDS")) same
 
 -- a reference in an option, or another one
 pub unwrap_or-now : (o : Option (Bor (List ℕ))) (d : Bor (List ℕ)) → (unwrap_or o d).now ≡ unwrap_or (option_map (λ file. file.now) o) d.now

@@ -1,5 +1,5 @@
 -- What the words after the program's name ask for.
-use Rattle.std.specs.Prelude.{◌≡◌, ◌⊎◌, ℕ, ◌<◌, ◌-◌, ◌^◌, Bool, true, false, nat_eq, if◌then◌else◌, List, [], ◌∷◌, codes, map, Option, Some, None, string_bytes, unwrap_or}
+use Rattle.std.specs.Prelude.{◌≡◌, ◌⊎◌, ℕ, ◌<◌, ◌-◌, ◌^◌, Bool, true, false, nat_eq, if◌then◌else◌, List, [], ◌∷◌, codes, map, Option, Some, None, option_map, string_bytes, unwrap_or}
 use Rattle.std.specs.Borrow.{Bor}
 use Rattle.std.specs.Cmp.Lexicographic.{pointwise}
 use Rattle.std.specs.Str.Parse.{IsNumeral, digits_value, without_leading_plus}
@@ -76,6 +76,10 @@ file_rule = record (new_rule (codes "FILE")) { required = true }
 abbrev pub flag_rule : (id long : Text) → Rule
 flag_rule id long = record (new_rule id) { long = Some long; action = Some SetTrue }
 
+-- the option with a list of what the queue holds at the start
+abbrev pub held_rule : Rule
+held_rule = record (new_rule (codes "HOLDS")) { long = Some (codes "holds") }
+
 -- a command of this name, with a FILE, and with or without what explains a fault
 abbrev pub file_app : Text → App
 file_app name = with_rule (with_rule (new_app name) file_rule) (flag_rule (codes "EXPLAIN") (codes "explain"))
@@ -115,11 +119,11 @@ show_app whens =
     (number_rule (codes "ACTOR") (codes "actor") 0 65535 (codes "0"))) (flag_rule (codes "HISTORY") (codes "history")))
     (flag_rule (codes "HTML") (codes "html"))) (flag_rule (codes "LINES") (codes "lines"))) (color_rule whens)
 
--- the command `place`, with a FILE, so many steps, and whether the lines of a reason are told
+-- the command `place`, with a FILE, so many steps, whether the lines of a reason are told, and what the queue holds at the start
 abbrev pub place_app : App
 place_app =
-    with_rule (with_rule (file_app (codes "place")) (number_rule (codes "STEPS") (codes "steps") 0 1000000000 (codes "1000000")))
-    (flag_rule (codes "WHY") (codes "why"))
+    with_rule (with_rule (with_rule (file_app (codes "place")) (number_rule (codes "STEPS") (codes "steps") 0 1000000000 (codes "1000000")))
+    (flag_rule (codes "WHY") (codes "why"))) held_rule
 
 -- the command `work`, with a FILE, so many workers, a queue, and so many nodes
 abbrev pub work_app : TextRow → App
@@ -150,6 +154,11 @@ command_line_app queues whens =
 abbrev pub file_met : Option (Text × List Row) → Option Text
 file_met None = None
 file_met (Some command) = first_of (codes "FILE") command.1
+
+-- the list of what the queue holds at the start, among the matches of a command
+abbrev pub held_met : Option (Text × List Row) → Option Text
+held_met None = None
+held_met (Some command) = first_of (codes "HOLDS") command.1
 
 -- whether the command that was met has this name
 abbrev pub is_met : Text → Option (Text × List Row) → Bool
@@ -258,11 +267,12 @@ faults_in queues whens [] = []
 faults_in queues whens (word ∷ words) = fault_of (command_line_app queues whens) (word ∷ words)
 
 -- a command is what the words ask for: the FILE that they name, and `-` where they name none; the task with its options;
--- whether a fault is explained. Clap finds no fault in them
+-- whether a fault is explained; the list of what the queue holds, where they give one. Clap finds no fault in them
 pub record IsAsked (queues whens : TextRow) (words : List Text) (command : Command) : Type 0 where
   pub file : string_bytes command.file ≡ unwrap_or (file_met (met_in queues whens words)) (codes "-")
   pub task : IsTask (met_in queues whens words) command.task
   pub explains : AsksForCauses (met_in queues whens words) command.explains
+  pub held : option_map string_bytes command.held ≡ held_met (met_in queues whens words)
   pub taken : faults_in queues whens words ≡ []
 
 -- the same, of names of queues and of times that lie somewhere

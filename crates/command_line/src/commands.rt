@@ -1,11 +1,12 @@
 //! The words after the program's name.
 ghost use Rattle.std.specs.Prelude.{◌≡◌, [], IfErr, IfOk, map, option_map, string_bytes, codes, true, false};
 ghost use Rattle.clap.specs.Words.{HasKind, app_of, first_of, found_of, kind_of, one_of, rows_of, rule_of, subcommand_rows_of, takes, with_subcommand};
-ghost use Rattle.command_line.specs.Commands.{command_line_app, explain_app, faults_in, file_app, file_met, flag_rule, kind_named, number_rule, place_app, post_app, queue_rule, run_app, show_app, work_app, AreQueues, AreTaken, IsAsked, IsAskedSomewhere, IsCrewOf, IsStatusOf, IsTask, IsViewOf, SaysFlag, SaysNumber};
+ghost use Rattle.command_line.specs.Commands.{command_line_app, explain_app, faults_in, file_app, file_met, held_met, flag_rule, kind_named, number_rule, place_app, post_app, queue_rule, run_app, show_app, work_app, AreQueues, AreTaken, IsAsked, IsAskedSomewhere, IsCrewOf, IsStatusOf, IsTask, IsViewOf, SaysFlag, SaysNumber};
 
 use crate::helps;
 use crate::messages::told;
 use crate::options::{Placing, crew_in, explains_in, flag_in, kind_in, placing_in, view_in};
+use crate::places::{held_in, place_command};
 use crate::showing::show_command;
 use clap::builder::ValueParser;
 use clap::error::ErrorKind;
@@ -95,6 +96,8 @@ pub struct Command {
     pub file: String,
     /// Whether a fault is explained, wherever its line goes.
     pub explains: bool,
+    /// The list of what the queue holds at the start, where one is given.
+    pub held: Option<String>,
 }
 
 /// The command that the words after the program's name ask for; no words ask for `run -`.
@@ -222,25 +225,6 @@ fn run_command<'a>(alloc: Global) -> Result<clap::Command<'a>, AllocError>
     command.arg(expand.help("Writes the schedule that a recipe, of version 3, stands for"))
 }
 
-/// The command `place`.
-fn place_command<'a>(alloc: Global) -> Result<clap::Command<'a>, AllocError>
-    ensures { IfOk result (λ command. app_of command ≡ place_app) }
-{
-    let command = command_on(
-        alloc,
-        "place",
-        "Finds linearization points for a recorded history, or a reason why there are none",
-        "The history, whose points are not read; - is standard input",
-        helps::PLACE,
-    )?;
-    let steps = number_option(alloc, "STEPS", "steps", (0, 1_000_000_000), "1000000");
-    let command = command.arg(steps.help(
-        "How many steps a search may take, where values are repeated, 0 to 10^9",
-    ))?;
-    let why = flag_option(alloc, "WHY", "why");
-    command.arg(why.help("Writes the lines of a reason's operations, with their numbers"))
-}
-
 /// The command `work`, with the names of the queues.
 fn work_command<'a>(alloc: Global, queues: &'a [&'a str]) -> Result<clap::Command<'a>, AllocError>
     ensures { IfOk result (λ command. app_of command ≡ work_app queues.entry) }
@@ -332,11 +316,12 @@ fn asked(
     ensures none { words.now ≡ [] → IfErr result (λ e. kind_of e ≡ ErrorKind.OutOfMemory) }
 {
     if words.is_empty() {
-        return Ok(command_of(alloc, Task::Run, "-", false)?);
+        return Ok(command_of(alloc, Task::Run, "-", false, None)?);
     }
     let matches = command_line(alloc, queues, whens)?.try_get_matches_from(words)?;
     let file = file_in(&matches).unwrap_or("-");
-    Ok(command_of(alloc, task_in(&matches), file, explains_in(&matches))?)
+    let (task, explains) = (task_in(&matches), explains_in(&matches));
+    Ok(command_of(alloc, task, file, explains, held_in(&matches))?)
 }
 
 /// The FILE of the command that clap met.
@@ -375,15 +360,28 @@ fn task_in(matches: &ArgMatches<'_>) -> Task
     }
 }
 
-fn command_of(alloc: Global, task: Task, file: &str, explains: bool) -> Result<Command, AllocError>
+fn command_of(
+    alloc: Global,
+    task: Task,
+    file: &str,
+    explains: bool,
+    held: Option<&str>,
+) -> Result<Command, AllocError>
     ensures file { IfOk result (λ command. string_bytes command.file ≡ file.now) }
     ensures task { IfOk result (λ command. command.task ≡ task) }
     ensures explains { IfOk result (λ command. command.explains ≡ explains) }
+    ensures held { IfOk result (λ command.
+        option_map string_bytes command.held ≡ option_map (λ list. list.now) held.entry) }
 {
     let file = String::from_str(alloc, file)?;
+    let held = match held {
+        Some(list) => Some(String::from_str(alloc, list)?),
+        None => None,
+    };
     Ok(Command {
         task,
         file,
         explains,
+        held,
     })
 }

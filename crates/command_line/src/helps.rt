@@ -31,8 +31,9 @@ pub(crate) const SHOW: &str = "Examples:
   msq show --width 100 --lines examples/first_run.schedule
   msq show --html examples/reused_node.schedule
   msq show --history examples/first_run.history
+  msq show --html --history examples/overtaken.recording
 
-The texts: docs/FORMATS.md, Schedule and History; what is drawn: docs/PICTURES.md";
+The texts: docs/FORMATS.md, Schedule, History and Recording; what is drawn: docs/PICTURES.md";
 
 /// That of `check`.
 pub(crate) const CHECK: &str = "Example:
@@ -44,6 +45,7 @@ The texts: docs/FORMATS.md, History and Verdict";
 pub(crate) const PLACE: &str = "Examples:
   msq place examples/pending_pop.recording
   msq place --why examples/overtaken.recording
+  msq place --holds milk,tea examples/held/overtaken.recording
 
 The texts: docs/FORMATS.md, History, Recording and Placed history";
 

@@ -5,6 +5,7 @@ mod commands;
 mod helps;
 mod messages;
 mod options;
+mod places;
 mod showing;
 
 pub use commands::{Colours, Command, Crew, Task, View, read_words};

@@ -35,7 +35,9 @@ pub(crate) fn show_command<'a>(
     let history = flag_option(alloc, "HISTORY", "history");
     let command = command.arg(history.help("Draws the timeline of a history: an operation a row"))?;
     let page = flag_option(alloc, "HTML", "html");
-    let command = command.arg(page.help("Writes a page for a browser that steps through the run"))?;
+    let command = command.arg(page.help(
+        "Writes a page for a browser that goes through the run or the history",
+    ))?;
     let lines = flag_option(alloc, "LINES", "lines");
     let command = command.arg(lines.help(
         "Tells behind a picture what each line in its rows does",

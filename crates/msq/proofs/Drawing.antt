@@ -1,14 +1,16 @@
 -- What is drawn to a sink that colours, and to the sink behind it.
-use Rattle.std.proofs.Common.{◌≡◌, ℕ, List, [], Option, None, Some, refl, sym, ap, ap₂, ◌∙◌, append-nil, subst}
+use Rattle.std.proofs.Common.{◌≡◌, ℕ, Bool, true, false, List, [], Option, None, Some, refl, sym, ap, ap₂, ◌∙◌, append-nil, subst}
+use Rattle.std.proofs.lemmas.Bool.{false≢true}
+use Rattle.std.proofs.lemmas.Result.{on_ok_weaker}
 use Rattle.std.specs.Prelude.{option_map, OnOk, Result, Ok, Err}
 use Rattle.std.specs.Io.KnownBytes.{Appends, Keeps}
 use Rattle.colours.specs.declared.coloured.Coloured.{Coloured}
 use Rattle.colours.specs.Plain.{plain}
 use Rattle.colours.specs.Colouring.{IsUnused, plain_of, state_of}
 use Rattle.command_line.specs.declared.commands.View.{View as Asked}
-use Rattle.page_engine.specs.declared.engine.Frame.{Frame}
 use Rattle.show_engine.specs.declared.framing.Meaning.{Meaning}
 use Rattle.text_io.specs.Devices.{SinkState}
+use Rattle.msq.specs.declared.options.Frames.{Frames}
 use Rattle.msq.specs.Options.{Draws}
 
 -- nothing that is held back adds nothing
@@ -27,6 +29,11 @@ pub OnOk-carried : {A E : Type 0} (result earlier : Result A E) (P K Q : Type 0)
 OnOk-carried (Ok x) earlier P K Q same holds kept f = f (subst (λ r. OnOk r P) (sym same) holds) kept
 OnOk-carried (Err e) earlier P K Q same holds kept f = tt
 
+-- what follows where a call is Ok, of which one fact or another is known by a flag
+pub OnOk-either : {A E : Type 0} (flag : Bool) (result : Result A E) (P Q R : Type 0) → (flag ≡ false → OnOk result P) → (flag ≡ true → OnOk result Q) → ((flag ≡ false → P) → (flag ≡ true → Q) → R) → OnOk result R
+OnOk-either false result P Q R off on f = on_ok_weaker result (λ p. f (λ _. p) (λ e. absurd (false≢true e))) (off refl)
+OnOk-either true result P Q R off on f = on_ok_weaker result (λ q. f (λ e. absurd (false≢true (sym e))) (λ _. q)) (on refl)
+
 -- bytes that grew, and were kept then, grew
 Appends-carried : (before a b after : Option (List ℕ)) (bytes : List ℕ) → before ≡ a → Keeps b after → Appends a b bytes → Appends before after bytes
 Appends-carried before None b after bytes same kept grown = subst (λ o. Appends o after bytes) (sym same) tt
@@ -35,15 +42,18 @@ Appends-carried before (Some x) (Some y) None bytes same kept grown = absurd kep
 Appends-carried before (Some x) (Some y) (Some z) bytes same kept grown = subst (λ o. Appends o (Some z) bytes) (sym same) (kept ∙ grown)
 
 -- what was drawn to one sink, as another one has it that kept as much
-pub Draws-carried : (options : Asked) (frame : Frame) (meanings : List Meaning) (given : Option (List ℕ)) (before a b after : SinkState)
-    → before.contents ≡ a.contents → Keeps b.contents after.contents → Draws options frame meanings given a b → Draws options frame meanings given before after
-Draws-carried options frame meanings given before a b after same kept d =
+pub Draws-carried : (options : Asked) (frames : Frames) (meanings : List Meaning) (given : Option (List ℕ)) (before a b after : SinkState)
+    → before.contents ≡ a.contents → Keeps b.contents after.contents → Draws options frames meanings given a b → Draws options frames meanings given before after
+Draws-carried options frames meanings given before a b after same kept d =
     let carried : (bytes : List ℕ) → Appends a.contents b.contents bytes → Appends before.contents after.contents bytes =
     λ bytes grown. Appends-carried before.contents a.contents b.contents after.contents bytes same kept grown in
     record {
       view = d.view;
       asked = d.asked;
-      timeline = λ on. let t = d.timeline on in record { operations = t.operations; read = t.read; written = carried _ t.written };
+      timeline = λ on off. let t = d.timeline on off in record { operations = t.operations; read = t.read; written = carried _ t.written };
+      history_page = λ on page.
+          let p = d.history_page on page in
+          record { text = p.text; operations = p.operations; bytes = p.bytes; history = p.history; found = p.found; written = carried _ p.written };
       page = λ off on.
           let p = d.page off on in
           record { schedule = p.schedule; in_range = p.in_range; read = p.read; holds = (p.holds.0, p.holds.1, carried _ p.holds.2) };

@@ -1,15 +1,21 @@
 -- What commands do by their options.
-use Rattle.std.specs.Prelude.{◌≡◌, ℕ, List, [], Option, Bool, ◌&&◌, not, true, false, if◌then◌else◌}
+use Rattle.std.specs.Prelude.{◌≡◌, ℕ, Bool, List, [], Option, None, Some, option_map, true, false, if◌then◌else◌, map}
 use Rattle.command_line.specs.declared.commands.Colours.{Colours}
 use Rattle.command_line.specs.declared.commands.Colours.TheVariants.{Auto, Always, Never}
+use Rattle.std.specs.Borrow.{Bor}
 use Rattle.command_line.specs.declared.commands.View.{View as Asked}
 use Rattle.text_io.specs.Devices.{SinkState}
 use Rattle.page_engine.specs.Pages.{WritesPage}
-use Rattle.page_engine.specs.declared.engine.Frame.{Frame}
+use Rattle.page_engine.specs.Histories.{WritesHistoryPage}
+use Rattle.msq.specs.declared.options.Frames.{Frames}
 use Rattle.show_engine.specs.declared.framing.Meaning.{Meaning}
 use Rattle.show_engine.specs.declared.framing.View.{View}
 use Rattle.show_engine.specs.Showing.{WritesPicture}
 use Rattle.show_engine.specs.Telling.{WritesTimeline}
+use Rattle.placing.specs.declared.answers.Placed.{Placed}
+use Rattle.recording_text.specs.RecordingReading.{bytes_of}
+use Rattle.place_engine.specs.Places.{TellsPlaces}
+use Rattle.place_engine.specs.Holding.{TellsHolding}
 
 -- a view is the one of a run or of a history that options ask for, with these meanings where they ask for a legend
 pub record IsViewOf (options : Asked) (meanings : List Meaning) (view : View) : Type 0 where
@@ -27,13 +33,24 @@ colours_at Never is_usual = false
 
 -- whether what options ask for has colours, where they are usual or aren't: a page has none
 abbrev pub has_colours : Asked → (is_usual : Bool) → Bool
-has_colours options is_usual = if options.is_page && not options.is_history then false else colours_at options.colours is_usual
+has_colours options is_usual = if options.is_page then false else colours_at options.colours is_usual
 
--- known bytes were the text of a history, if the options say so, or else of a schedule; its timeline, its page in this frame, or
--- its picture was written, of the view that they ask for
-pub record Draws (options : Asked) (frame : Frame) (meanings : List Meaning) (given : Option (List ℕ)) (old new : SinkState) : Type 0 where
+-- known bytes were the text of a history, if the options say so, or else of a schedule; its page in its frame was written, or its
+-- timeline or its picture of the view that they ask for. A page tells what a search of at most a million steps finds of a history
+pub record Draws (options : Asked) (frames : Frames) (meanings : List Meaning) (given : Option (List ℕ)) (old new : SinkState) : Type 0 where
   pub view : View
   pub asked : IsViewOf options meanings view
-  pub timeline : options.is_history ≡ true → WritesTimeline view given old new
-  pub page : options.is_history ≡ false → options.is_page ≡ true → WritesPage frame given old new
+  pub timeline : options.is_history ≡ true → options.is_page ≡ false → WritesTimeline view given old new
+  pub history_page : options.is_history ≡ true → options.is_page ≡ true → WritesHistoryPage frames.history given 1000000 old new
+  pub page : options.is_history ≡ false → options.is_page ≡ true → WritesPage frames.run given old new
   pub picture : options.is_history ≡ false → options.is_page ≡ false → WritesPicture view given old new
+
+-- the texts that are held, where some are
+abbrev pub held_texts : Option (Bor (List (Bor (List ℕ)))) → Option (List (List ℕ))
+held_texts held = option_map (λ held. map bytes_of held.now) held
+
+-- what is told of known bytes by a search of at most so many steps: of a history or a recording, or, where the queue holds texts at
+-- the start, of a recording of such a queue
+abbrev pub PlacesBy : Option (List (List ℕ)) → (given : Option (List ℕ)) → (steps : ℕ) → (why : Bool) → (old new : SinkState) → Placed → Type 0
+PlacesBy None given steps why old new answer = TellsPlaces given steps why old new answer
+PlacesBy (Some held) given steps why old new answer = TellsHolding held given steps why old new answer

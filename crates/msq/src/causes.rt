@@ -25,7 +25,7 @@ pub(crate) fn tell_cause<R: Runtime>(
             tell_line(rt, command, notes, line)?;
             eprint!(rt; "  found: {}\n", found(cause))?;
             if cause != TextCause::Extra {
-                let due = due_at(command.task, notes.text.as_slice(), line);
+                let due = due_at(command, notes.text.as_slice(), line);
                 eprint!(rt; "  due: {due}\n")?;
             }
         }

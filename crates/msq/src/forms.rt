@@ -1,5 +1,5 @@
 //! What a text has at a line by its grammar, in words.
-use command_line::Task;
+use command_line::{Command, Task};
 
 /// The lines that a schedule of version 1 begins with.
 const FIRST: [&str; 6] = [
@@ -47,14 +47,15 @@ const ACT: &str =
     "an event of a schedule of version 2, 'until A L', 'finish A', 'repeat N', N from 1 to 1000000, or 'end', A from 1 to \
     65535, L a line of docs/LINES.md; no repeat in a repeat, and at most 1000000 acts";
 
-/// What is due at a line, counted from 1, of the text that a task reads. The version of a schedule, and whether a text is a
+/// What is due at a line, counted from 1, of the text that a command reads. The version of a schedule, and whether a text is a
 /// recording, is that of the text's first line.
-pub(crate) fn due_at(task: Task, text: &[u8], line: u64) -> &'static str {
-    match task {
+pub(crate) fn due_at(command: &Command, text: &[u8], line: u64) -> &'static str {
+    match command.task {
+        Task::Show(view) if view.is_history && view.is_page => recorded(text, line),
         Task::Show(view) if view.is_history => history(line),
         Task::Check => history(line),
-        Task::Place(_) if text.starts_with(b"history ") => history(line),
-        Task::Place(_) => recording(line),
+        Task::Place(_) if command.held.is_some() => recording(line),
+        Task::Place(_) => recorded(text, line),
         Task::Work(_) => jobs(line),
         Task::Post(_) => mail(line),
         Task::Expand => recipe(text, line),
@@ -98,10 +99,21 @@ fn history(line: u64) -> &'static str {
     }
 }
 
-/// That of a recording, whose first line may also be that of a history.
-fn recording(line: u64) -> &'static str {
+/// That of a history or a recording.
+fn recorded(text: &[u8], line: u64) -> &'static str {
+    if text.starts_with(b"history ") {
+        return history(line);
+    }
     match line {
         1 => "'msq record 1', or 'history K', K from 0 to 1000000",
+        _ => recording(line),
+    }
+}
+
+/// That of a recording.
+fn recording(line: u64) -> &'static str {
+    match line {
+        1 => "'msq record 1'",
         2 => "'operations K', K from 0 to 1000000",
         _ => {
             "an operation: 'NAME CALL from F to L reply R', CALL 'enq TEXT', 'deq' or 'shut', F a number from 1, L one from F, or \

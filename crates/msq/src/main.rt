@@ -3,6 +3,7 @@
 
 mod causes;
 mod forms;
+mod held;
 mod notes;
 mod options;
 mod program;

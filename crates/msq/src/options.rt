@@ -1,27 +1,42 @@
 //! Commands with options, which are handed on to the engines.
-ghost use Rattle.std.specs.Prelude.{◌≡◌, ◌↔◌, [], Err, IfOk, OnOk, if◌then◌else◌, option_map};
+ghost use Rattle.std.specs.Prelude.{◌≡◌, ◌↔◌, [], Err, IfOk, IfSome, OnOk, false, true, if◌then◌else◌, map, option_map};
 ghost use Rattle.std.specs.Io.KnownBytes.{Keeps};
 ghost use Rattle.colours.specs.Colouring.{plain_state, state_of};
 ghost use Rattle.colours.specs.Plain.{plain};
 ghost use Rattle.job_engine.specs.Crews.{IsCrewQueue};
 ghost use Rattle.job_engine.specs.Queues.{queue_in};
 ghost use Rattle.job_engine.specs.Works.{IsBadSize};
+ghost use Rattle.page_engine.specs.Histories.{WritesHistoryPage};
+ghost use Rattle.page_engine.specs.Pages.{WritesPage};
+ghost use Rattle.recording_text.specs.RecordingReading.{bytes_of};
+ghost use Rattle.recording_text.specs.Holding.{AreHeld};
 ghost use Rattle.place_engine.specs.Places.{TellsPlaces};
-ghost use Rattle.msq.specs.Options.{Draws, has_colours};
+ghost use Rattle.msq.specs.Options.{Draws, PlacesBy, has_colours, held_texts};
 
 use colours::{Coloured, Drawing};
 use command_line::{Colours, Crew, Placing, View as Asked};
 use engine_faults::Fault;
 use history::Refusal;
 use job_engine::{JobQueue, work_text};
-use page_engine::{Frame, page_text};
-use place_engine::place_text;
-use placing::Placed;
+use page_engine::{Frame, history_page, page_text};
+use place_engine::{Told, place_holding, place_text};
 use show_engine::{Meaning, View, show_history, show_text};
 use std::alloc::Global;
 use std::sync::Wait;
 use std::thread::Threads;
 use text_io::{Sink, Source};
+
+/// How many steps a search for an order takes at most, of which a page tells: as many as where the words of `place` don't say it.
+const PAGE_STEPS: u64 = 1_000_000;
+
+/// What pages have around what they show.
+#[derive(Clone, Copy, Debug)]
+pub(crate) struct Frames<'a> {
+    /// Around the trace of a run.
+    pub(crate) run: Frame<'a>,
+    /// Around a history and what is found of it.
+    pub(crate) history: Frame<'a>,
+}
 
 /// The meanings that are told behind a picture.
 fn legend_by<'a>(options: Asked, meanings: &'a [Meaning<'a>]) -> &'a [Meaning<'a>]
@@ -31,19 +46,19 @@ fn legend_by<'a>(options: Asked, meanings: &'a [Meaning<'a>]) -> &'a [Meaning<'a
 }
 
 /// Draws the schedule, or the history, that a source gives, by the options of `show`, with these meanings of lines where they ask
-/// for a legend; or writes the page of the schedule, in a frame.
+/// for a legend; or writes the page of either, in its frame.
 pub(crate) fn show_by<'a, S: Source, W: Sink>(
     alloc: Global,
     options: Asked,
-    frame: &Frame<'_>,
+    frames: &Frames<'_>,
     meanings: &'a [Meaning<'a>],
     reader: &mut S,
     writer: &mut W,
 ) -> Result<(), Fault>
     //= program/show_options: At Ok `show_by`, which `msq show` calls, has drawn what its options ask for: the picture of a
     //=   schedule, or the timeline of a history, of just that width, those steps and that actor, with a legend or without
-    //=   one; or the page around the schedule's trace.
-    ensures drawn { OnOk result (Draws options frame.now meanings.now (S.state reader.old).left
+    //=   one; or the page around the schedule's trace, or around the history and what is found of it.
+    ensures drawn { OnOk result (Draws options frames.now meanings.now (S.state reader.old).left
         (W.state writer.old) (W.state writer.new)) }
 {
     let view = View {
@@ -53,30 +68,57 @@ pub(crate) fn show_by<'a, S: Source, W: Sink>(
         actor: options.actor,
         legend: legend_by(options, meanings),
     };
+    if options.is_page {
+        return page_by(alloc, options, frames, reader, writer);
+    }
     if options.is_history {
         show_history(alloc, reader, writer, view)?;
         return Ok(());
     }
-    if options.is_page {
-        return page_text(alloc, reader, writer, frame);
-    }
     show_text(alloc, reader, writer, view)
 }
 
-/// Finds points for the history that a source gives, or a reason why there are none, by the options of `place`.
+/// Writes the page of the schedule, or of the history, that a source gives, in its frame.
+fn page_by<S: Source, W: Sink>(
+    alloc: Global,
+    options: Asked,
+    frames: &Frames<'_>,
+    reader: &mut S,
+    writer: &mut W,
+) -> Result<(), Fault>
+    ensures run { options.is_history ≡ false → OnOk result (WritesPage frames.now.run
+        (S.state reader.old).left (W.state writer.old) (W.state writer.new)) }
+    ensures history { options.is_history ≡ true → OnOk result (WritesHistoryPage frames.now.history
+        (S.state reader.old).left PAGE_STEPS (W.state writer.old) (W.state writer.new)) }
+{
+    if !options.is_history {
+        return page_text(alloc, reader, writer, &frames.run);
+    }
+    history_page(alloc, reader, writer, &frames.history, PAGE_STEPS)?;
+    Ok(())
+}
+
+/// Finds points for the history that a source gives, or a reason why there are none, by the options of `place`; where the queue
+/// holds texts at the start, for the recording.
 pub(crate) fn place_by<S: Source, W: Sink>(
     alloc: Global,
     options: Placing,
+    held: Option<&[&[u8]]>,
     reader: &mut S,
     writer: &mut W,
-) -> Result<Placed, Refusal>
+) -> Result<Told, Refusal>
+    requires { IfSome held (λ held. AreHeld (map bytes_of held.now)) }
     //= program/place_options: At Ok `place_by`, which `msq place` calls, has searched by as many steps at most as its
-    //=   options ask for, and has written the lines of a reason's operations exactly where they do.
-    ensures { IfOk result (TellsPlaces (S.state reader.old).left options.steps options.tells_why
-        (W.state writer.old) (W.state writer.new)) }
+    //=   options ask for, and has written the lines of a reason's operations exactly where they do. What the queue holds at the start
+    //=   is what it is given.
+    ensures { IfOk result (λ told. PlacesBy (held_texts held.entry) (S.state reader.old).left
+        options.steps options.tells_why (W.state writer.old) (W.state writer.new) told.found) }
 {
     let steps = u64::from(options.steps);
-    place_text(alloc, reader, writer, steps, options.tells_why)
+    match held {
+        Some(held) => place_holding(alloc, reader, writer, steps, options.tells_why, held),
+        None => place_text(alloc, reader, writer, steps, options.tells_why),
+    }
 }
 
 /// Whether what is drawn has colours; usual is where it may have some. A page has none.
@@ -85,10 +127,8 @@ pub(crate) fn wants_colours(options: Asked, is_usual: bool) -> bool
     //=   does, where they are usual, as on a terminal. A page has none.
     ensures { result ≡ has_colours options is_usual }
 {
-    if options.is_page && !options.is_history {
-        return false;
-    }
     match options.colours {
+        _ if options.is_page => false,
         Colours::Auto => is_usual,
         Colours::Always => true,
         Colours::Never => false,
@@ -115,13 +155,13 @@ fn finished<W: Sink>(drawn: Result<(), Fault>, sink: &mut Coloured<W>) -> Result
 pub(crate) fn show_coloured<'a, S: Source, W: Sink>(
     alloc: Global,
     options: Asked,
-    frame: &Frame<'_>,
+    frames: &Frames<'_>,
     meanings: &'a [Meaning<'a>],
     reader: &mut S,
     writer: W,
 ) -> (Result<(), Fault>, W)
     //= program/plain: What `msq show` writes with colours is, without their codes, what it writes without them.
-    ensures drawn { OnOk result.0 (Draws options frame.now meanings.now (S.state reader.old).left
+    ensures drawn { OnOk result.0 (Draws options frames.now meanings.now (S.state reader.old).left
         (plain_state (W.state writer)) (plain_state (W.state result.1))) }
 {
     let drawing = if options.is_history {
@@ -130,7 +170,7 @@ pub(crate) fn show_coloured<'a, S: Source, W: Sink>(
         Drawing::Picture
     };
     let mut coloured = Coloured::new(writer, drawing);
-    let drawn = show_by(alloc, options, frame, meanings, reader, &mut coloured);
+    let drawn = show_by(alloc, options, frames, meanings, reader, &mut coloured);
     let outcome = finished(drawn, &mut coloured);
     (outcome, coloured.into_inner())
 }

@@ -1,7 +1,8 @@
 //! The program: its words, its files and its exit status.
 use crate::causes::tell_cause;
+use crate::held::{Done, faulty_list, placed, warn};
 use crate::notes::{Kept, NotedSink, NotedSource, Notes};
-use crate::options::{place_by, show_by, show_coloured, wants_colours, work_by};
+use crate::options::{Frames, show_by, show_coloured, wants_colours, work_by};
 use crate::progress::Progress;
 use check_engine::check_text;
 use command_line::{Command, Task, read_words};
@@ -10,8 +11,7 @@ use expand_engine::expand_text;
 use explanations::{ENTRIES, explain};
 use history::Refusal;
 use mail_engine::post_text;
-use page_engine::{AFTER, BEFORE, Frame};
-use placing::Placed;
+use page_engine::{AFTER, AFTER_HISTORY, BEFORE, BEFORE_HISTORY, Frame};
 use run_engine::run_text;
 use show_engine::ACCESSES;
 use std::fs::File;
@@ -53,7 +53,11 @@ pub fn run_program<R: Runtime + AllocGlobal + Threads + Wait + Sync>(
     match read_words(rt.alloc(), &words) {
         Ok(command) => match command.task {
             Task::Explain => explained(rt, command.file.as_str()),
-            _ => obeyed(rt, &command, terminals),
+            _ => match faulty_list(rt.alloc(), &command) {
+                Ok(None) => obeyed(rt, &command, terminals),
+                Ok(Some(list)) => refused_list(rt, list),
+                Err(_) => ended(rt, Err(Fault::from(Refusal::Memory))),
+            },
         },
         Err((0, text)) => shown(rt, text.as_str()),
         Err((1, _)) => ended(rt, Err(Fault::from(Refusal::Memory))),
@@ -98,7 +102,12 @@ fn obeyed<R: Runtime + AllocGlobal + Threads + Wait + Sync>(
     };
     let (outcome, notes) = outcome_of(rt, command, manner, &progress);
     progress.wipe();
-    let status = ended(rt, outcome);
+    if let Ok(done) = outcome
+        && let Some(lines) = done.overlap
+    {
+        warn(rt, lines);
+    }
+    let status = ended(rt, outcome.map(|done| done.ending));
     if explains && let Err(fault) = outcome {
         // Where standard error fails too, the status alone tells of the fault.
         let _ = tell_cause(rt, command, &fault, &notes);
@@ -124,7 +133,7 @@ fn outcome_of<R: Runtime + AllocGlobal + Threads + Wait + Sync>(
     command: &Command,
     manner: Manner,
     progress: &Progress<'_, R>,
-) -> (Result<Ending, Fault>, Notes) {
+) -> (Result<Done, Fault>, Notes) {
     let file = command.file.as_str();
     if file == "-" {
         return noted(
@@ -152,7 +161,7 @@ fn noted<R: Runtime + AllocGlobal + Threads + Wait + Sync, S: Source + Drop>(
     source: S,
     manner: Manner,
     progress: &Progress<'_, R>,
-) -> (Result<Ending, Fault>, Notes) {
+) -> (Result<Done, Fault>, Notes) {
     let mut reader = NotedSource {
         inner: source,
         alloc: rt.alloc(),
@@ -198,18 +207,18 @@ fn outcome_in<R: Runtime + AllocGlobal + Threads + Wait + Sync, S: Source, W: Si
     has_colours: bool,
     reader: &mut S,
     mut writer: W,
-) -> (Result<Ending, Fault>, W) {
+) -> (Result<Done, Fault>, W) {
     match command.task {
         Task::Show(options) if has_colours => {
             let (drawn, writer) = show_coloured(
                 rt.alloc(),
                 options,
-                &page_frame(),
+                &page_frames(),
                 &ACCESSES,
                 reader,
                 writer,
             );
-            (drawn.map(|()| Ending::Well), writer)
+            (drawn.map(|()| Done::quietly(Ending::Well)), writer)
         }
         _ => {
             let outcome = outcome_on(rt, command, reader, &mut writer);
@@ -218,11 +227,17 @@ fn outcome_in<R: Runtime + AllocGlobal + Threads + Wait + Sync, S: Source, W: Si
     }
 }
 
-/// What stands around the trace in a page.
-fn page_frame() -> Frame<'static> {
-    Frame {
-        before: BEFORE,
-        after: AFTER,
+/// What pages have around what they show.
+fn page_frames() -> Frames<'static> {
+    Frames {
+        run: Frame {
+            before: BEFORE,
+            after: AFTER,
+        },
+        history: Frame {
+            before: BEFORE_HISTORY,
+            after: AFTER_HISTORY,
+        },
     }
 }
 
@@ -232,7 +247,7 @@ fn outcome_on<R: Runtime + AllocGlobal + Threads + Wait + Sync, S: Source, W: Si
     command: &Command,
     reader: &mut S,
     writer: &mut W,
-) -> Result<Ending, Fault> {
+) -> Result<Done, Fault> {
     match command.task {
         Task::Run => run_text(rt.alloc(), reader, writer)?,
         Task::Expand => expand_text(rt.alloc(), reader, writer)?,
@@ -241,21 +256,18 @@ fn outcome_on<R: Runtime + AllocGlobal + Threads + Wait + Sync, S: Source, W: Si
             show_by(
                 rt.alloc(),
                 options,
-                &page_frame(),
+                &page_frames(),
                 &ACCESSES,
                 reader,
                 writer,
             )?;
         }
         Task::Check => {
-            return Ok(Ending::from(check_text(rt.alloc(), reader, writer)?));
+            let verdict = check_text(rt.alloc(), reader, writer)?;
+            return Ok(Done::quietly(Ending::from(verdict)));
         }
         Task::Place(options) => {
-            return Ok(match place_by(rt.alloc(), options, reader, writer)? {
-                Placed::History(_) => Ending::Well,
-                Placed::Impossible(_) => Ending::No,
-                Placed::Open(_) => Ending::Open,
-            });
+            return placed(rt.alloc(), command, options, reader, writer);
         }
         Task::Work(options) => {
             let _ = work_by(rt, rt.alloc(), options, reader, writer)?;
@@ -266,7 +278,7 @@ fn outcome_on<R: Runtime + AllocGlobal + Threads + Wait + Sync, S: Source, W: Si
         // `run_program` explains refusals, which no file has.
         Task::Explain => {}
     }
-    Ok(Ending::Well)
+    Ok(Done::quietly(Ending::Well))
 }
 
 /// Standard error as a writer.
@@ -307,6 +319,15 @@ fn explained<R: Runtime>(rt: &R, word: &str) -> u8 {
         }
         Err(refusal) => ended(rt, Err(Fault::from(refusal))),
     }
+}
+
+/// The status of a list that isn't one of texts.
+fn refused_list<R: Runtime>(rt: &R, list: &str) -> u8 {
+    let _ = eprint!(rt;
+        "error: '{}' is no list of values: each has 1 to 64 letters, digits, '-', '.', '_', with a comma between two\n",
+        list.escape_debug()
+    );
+    2
 }
 
 /// The status of help that is shown on standard output.

@@ -1,5 +1,5 @@
 -- What is written of a page.
-use Rattle.std.specs.Prelude.{◌≡◌, ℕ, List, ◌++◌, Option}
+use Rattle.std.specs.Prelude.{ℕ, List, ◌++◌, Option}
 use Rattle.std.specs.Io.KnownBytes.{Appends}
 use Rattle.page_engine.specs.declared.engine.Frame.{Frame}
 use Rattle.schedule_text.specs.Schedules.{Schedule}

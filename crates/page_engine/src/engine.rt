@@ -12,7 +12,7 @@ use std::alloc::Global;
 use text_io::{Sink, Source, send};
 use trace_engine::trace_text;
 
-/// What a page has before its trace and behind it.
+/// What a page has before the text that it shows and behind it.
 #[derive(Clone, Copy, Debug)]
 pub struct Frame<'a> {
     pub before: &'a str,
@@ -39,7 +39,11 @@ fn trace_of<R: Source>(alloc: Global, reader: &mut R) -> Result<KeptText, Fault>
 }
 
 /// Writes a page: its frame around a trace.
-fn write_page<W: Sink>(frame: &Frame<'_>, trace: &[u8], writer: &mut W) -> Result<(), Refusal>
+pub(crate) fn write_page<W: Sink>(
+    frame: &Frame<'_>,
+    trace: &[u8],
+    writer: &mut W,
+) -> Result<(), Refusal>
     ensures { Writes (W.state writer.old) (W.state writer.new) (page_around frame.now trace.now) result }
 {
     send(frame.before.as_bytes(), writer)?;

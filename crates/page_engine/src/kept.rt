@@ -1,6 +1,7 @@
 //! A sink that keeps what it is handed in memory.
-ghost use Rattle.std.specs.Prelude.{◌≡◌, ◌++◌, ◌≤◌, [], length, take};
+ghost use Rattle.std.specs.Prelude.{◌≡◌, ◌++◌, ◌≤◌, [], IfErr, OnOk, length, take};
 
+use history::Refusal;
 use std::alloc::Global;
 use std::io;
 use text_io::Sink;
@@ -23,6 +24,17 @@ impl KeptText {
         KeptText {
             bytes: Vec::new(alloc),
             is_full: false,
+        }
+    }
+
+    /// Keeps these too.
+    pub(crate) fn put(&mut self, bytes: &[u8]) -> Result<(), Refusal>
+        ensures kept { OnOk result (self.new.bytes.items ≡ self.old.bytes.items ++ bytes.now) }
+        ensures only_memory { IfErr result (λ refusal. refusal ≡ Refusal.Memory) }
+    {
+        match self.bytes.extend_from_slice(bytes) {
+            Ok(()) => Ok(()),
+            Err(_) => Err(Refusal::Memory),
         }
     }
 

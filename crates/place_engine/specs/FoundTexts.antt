@@ -1,5 +1,5 @@
 -- The text that tells what is found of a recorded history.
-use Rattle.std.specs.Prelude.{ℕ, List, [], ◌++◌, codes, decimal}
+use Rattle.std.specs.Prelude.{ℕ, ◌-◌, nat_le, if◌then◌else◌, List, [], ◌++◌, codes, decimal}
 use Rattle.std.specs.List.{flat_map}
 use Rattle.placing.specs.declared.answers.Held.{Held}
 use Rattle.placing.specs.declared.answers.Held.TheVariants.{Value, Left}
@@ -7,13 +7,10 @@ use Rattle.placing.specs.declared.answers.Reason.{Reason}
 use Rattle.placing.specs.declared.answers.Reason.TheVariants.{Shape, Span as Spans, Reply, Sooner, Order, Full, Late, Twice, Unshut, Undrained}
 use Rattle.placing.specs.declared.answers.Unknown.{Unknown}
 use Rattle.placing.specs.declared.answers.Unknown.TheVariants.{Steps, Searched, Unplaced}
-use Rattle.placing.specs.declared.answers.Placed.{Placed}
-use Rattle.placing.specs.declared.answers.Placed.TheVariants.{History, Impossible, Open}
-use Rattle.history_text.specs.HistoryText.{history_text}
 
--- a place, with a space before it
-abbrev pub place_text : ℕ → List ℕ
-place_text place = codes " " ++ decimal place
+-- a place, with a space before it: of the first so many, that it is held, and of the others counted behind these
+abbrev pub place_text : (count place : ℕ) → List ℕ
+place_text count place = if nat_le place count then codes " held " ++ decimal place else codes " " ++ decimal (place - count)
 
 -- the place of the operation that a reason is of
 abbrev pub place_of : Reason → ℕ
@@ -41,31 +38,32 @@ cause_of (Twice place other) = codes "Twice"
 cause_of (Unshut place) = codes "Unshut"
 cause_of (Undrained place held) = codes "Undrained"
 
--- the places of the pushes of values of which one stays
-abbrev pub held_text : Held → List ℕ
-held_text (Value push take) = place_text push
-held_text (Left places) = flat_map place_text places.items
+-- the places of the pushes of values of which one stays, where the first so many are held
+abbrev pub held_text : (count : ℕ) → Held → List ℕ
+held_text count (Value push take) = place_text count push
+held_text count (Left places) = flat_map (place_text count) places.items
 
--- the places of the other operations that a reason names
-abbrev pub others_text : Reason → List ℕ
-others_text (Shape place) = []
-others_text (Spans place) = []
-others_text (Reply place) = []
-others_text (Sooner place others) = flat_map place_text others.items
-others_text (Order place push held) = place_text push ++ held_text held
-others_text (Full place spans) = flat_map (λ span. held_text span.held) spans.items
-others_text (Late place other) = place_text other
-others_text (Twice place other) = place_text other
-others_text (Unshut place) = []
-others_text (Undrained place held) = held_text held
+-- the places of the other operations that a reason names, where the first so many are held
+abbrev pub others_text : (count : ℕ) → Reason → List ℕ
+others_text count (Shape place) = []
+others_text count (Spans place) = []
+others_text count (Reply place) = []
+others_text count (Sooner place others) = flat_map (place_text count) others.items
+others_text count (Order place push held) = place_text count push ++ held_text count held
+others_text count (Full place spans) = flat_map (λ span. held_text count span.held) spans.items
+others_text count (Late place other) = place_text count other
+others_text count (Twice place other) = place_text count other
+others_text count (Unshut place) = []
+others_text count (Undrained place held) = held_text count held
 
 -- the beginning of the line that tells a reason
-unfoldable pub head_text : Reason → List ℕ
-head_text reason = codes "no " ++ decimal (place_of reason) ++ codes " " ++ cause_of reason
+unfoldable pub head_text : (count : ℕ) → Reason → List ℕ
+head_text count reason = codes "no" ++ place_text count (place_of reason) ++ codes " " ++ cause_of reason
 
--- the line that tells a reason: the operation's place in the list, the cause, and the places of the others
-abbrev pub no_text : Reason → List ℕ
-no_text reason = head_text reason ++ others_text reason ++ codes "\n"
+-- the line that tells a reason: the operation's place in the list, the cause, and the places of the others; the first so many
+-- push what is held at the start
+abbrev pub no_text : (count : ℕ) → Reason → List ℕ
+no_text count reason = head_text count reason ++ others_text count reason ++ codes "\n"
 
 -- the name of why nothing was found
 abbrev pub unknown_name : Unknown → List ℕ
@@ -76,9 +74,3 @@ unknown_name Unplaced = codes "Unplaced"
 -- the line that tells that nothing was found
 unfoldable pub open_text : Unknown → List ℕ
 open_text cause = codes "open " ++ unknown_name cause ++ codes "\n"
-
--- the text that tells what is found: a history with points, or one line
-abbrev pub found_text : Placed → List ℕ
-found_text (History new) = history_text new.items
-found_text (Impossible reason) = no_text reason
-found_text (Open cause) = open_text cause

@@ -1,4 +1,7 @@
 pub mod FoundTexts
+pub mod GivenParts
+pub mod Holding
 pub mod OfTexts
+pub mod Overlaps
 pub mod Places
 pub mod WhyTexts

@@ -1,5 +1,5 @@
 -- What placing the text of a recorded history reads, answers and writes.
-use Rattle.std.specs.Prelude.{ℕ, Bool, List, Option}
+use Rattle.std.specs.Prelude.{ℕ, Bool, List, [], Option}
 use Rattle.std.specs.Io.KnownBytes.{Appends}
 use Rattle.text_io.specs.Devices.{SinkState}
 use Rattle.text_io.specs.Blocks.{TakesPrefix}
@@ -27,7 +27,7 @@ pub record TellsPlaces (given : Option (List ℕ)) (steps : ℕ) (why : Bool) (o
   pub answers : IsAnswer operations answer
   pub cause : HasCause operations steps answer
   pub right : SaysOf operations answer
-  pub written : Appends old.contents new.contents (answer_text why text answer)
+  pub written : Appends old.contents new.contents (answer_text [] why text answer)
 
 -- known bytes were the text of a recorded history or of a recording, and a prefix of the text that tells an answer of
 -- it was written, by a search of at most so many steps
@@ -38,4 +38,4 @@ pub record BeginsPlaces (given : Option (List ℕ)) (steps : ℕ) (why : Bool) (
   pub history : IsRecordOf given text operations
   pub answers : IsAnswer operations answer
   pub cause : HasCause operations steps answer
-  pub begun : TakesPrefix old.contents new.contents (answer_text why text answer)
+  pub begun : TakesPrefix old.contents new.contents (answer_text [] why text answer)

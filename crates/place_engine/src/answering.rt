@@ -5,13 +5,24 @@ ghost use Rattle.text_io.specs.Readings.{EndsReadingFor};
 ghost use Rattle.engine_faults.specs.Faults.{IsRunRefusal};
 ghost use Rattle.recorded_source.specs.Given.{TellsFaultOfRecord};
 ghost use Rattle.place_engine.specs.Places.{TellsPlaces, BeginsPlaces};
+ghost use Rattle.place_engine.specs.Overlaps.{SaysOverlap, TellsOverlap};
 
+use crate::overlaps::overlap_in;
 use crate::telling::tell;
 use history::Refusal;
 use placing::{Placed, place};
 use recorded_source::record_in;
 use std::alloc::Global;
 use text_io::{Sink, Source};
+
+/// What is told of a text.
+#[derive(Debug, Drop)]
+pub struct Told {
+    pub found: Placed,
+    /// Two lines, the first before the second, that say operations of one thread which overlap: a name for several threads, or a
+    /// recorder's mistake. Every recording is placed as if each operation were of a thread of its own.
+    pub overlap: Option<(u64, u64)>,
+}
 
 /// Finds linearization points for the recorded history whose text the reader gives, or which the recording stands for
 /// whose text it gives, and writes that history with them; or writes one line, `no` with a reason why there are none, or
@@ -28,14 +39,17 @@ pub fn place_text<R: Source, W: Sink>(
     writer: &mut W,
     steps: u64,
     tells_why: bool,
-) -> Result<Placed, Refusal>
+) -> Result<Told, Refusal>
     //= program/place (ok, quiet): `place_text` answers points, a reason or that it is open, for the history read or the
     //=   recording's, and its text is written. With points the history is one of a queue, with a reason it isn't.
     //= program/judge_refusals (ok, text, prefix, write, unwritten, refusal, reader)
     //= program/why (ok, prefix): Where they are asked for, `place_text` writes behind the line of a reason, for each operation of it,
     //=   the number of its line in the text and that line itself, byte for byte (`why_text`).
-    ensures ok { IfOk result (TellsPlaces (R.state reader.old).left steps tells_why
-        (W.state writer.old) (W.state writer.new)) }
+    ensures ok { IfOk result (λ told. TellsPlaces (R.state reader.old).left steps tells_why
+        (W.state writer.old) (W.state writer.new) told.found) }
+    //= program/overlap: Where two lines are told that say operations of one thread which overlap, they do, the first before the
+    //=   second; where none are told, none do.
+    ensures overlap { IfOk result (λ told. SaysOverlap (R.state reader.old).left told.overlap) }
     ensures quiet { OnOk result ((W.state writer.new).failures ≡ (W.state writer.old).failures) }
     // A text is refused by its first faulty line.
     ensures text { IfErr result (TellsFaultOfRecord (R.state reader.old).left) }
@@ -53,6 +67,18 @@ pub fn place_text<R: Source, W: Sink>(
 {
     let given = record_in(alloc, reader)?;
     let found = place(alloc, &given.history, steps)?;
-    tell(alloc, &found, tells_why, &given.text, writer)?;
-    Ok(found)
+    let overlap = overlap_of(alloc, &given.text)?;
+    tell(alloc, &found, tells_why, &[], &given.text, writer)?;
+    Ok(Told { found, overlap })
+}
+
+// Two lines of a text that say operations of one thread which overlap; none where there are none.
+pub(crate) fn overlap_of(alloc: Global, text: &[u8]) -> Result<Option<(u64, u64)>, Refusal>
+    ensures ok { IfOk result (TellsOverlap text.now) }
+    ensures only_memory { IfErr result (λ refusal. refusal ≡ Refusal.Memory) }
+{
+    match overlap_in(alloc, text) {
+        Ok(found) => Ok(found),
+        Err(_) => Err(Refusal::Memory),
+    }
 }

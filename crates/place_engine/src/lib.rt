@@ -2,8 +2,13 @@
 #![tactic(auto)]
 
 mod answering;
+mod given;
+mod holding;
 pub mod laws;
+mod overlaps;
 mod telling;
 mod why;
 
-pub use answering::place_text;
+pub use answering::{Told, place_text};
+pub use holding::place_holding;
+pub use telling::tell;

@@ -3,7 +3,7 @@ ghost use Rattle.std.specs.Prelude.{◌≡◌, ◌++◌, ◌+◌, IfOk, OnOk, co
 ghost use Rattle.std.specs.List.{flat_map};
 ghost use Rattle.text_lines.specs.Lines.{line};
 ghost use Rattle.place_engine.specs.WhyTexts as texts;
-ghost use Rattle.place_engine.specs.WhyTexts.{lines_in, numbered_line, places_held, why_text};
+ghost use Rattle.place_engine.specs.WhyTexts.{held_line, lines_in, numbered_line, told_line, places_held, why_text};
 ghost use Rattle.recording_text.specs.RecordingReading.{bytes_of};
 
 use placing::{Held, Reason, Span};
@@ -12,38 +12,85 @@ use std::alloc::{AllocError, Global};
 use text_io::Line;
 use text_lines::line_at;
 
-/// Puts the lines of a text that say the operations of a reason behind other bytes.
+/// Puts the lines of a text that say the operations of a reason, and the texts held at the start that it names, behind other
+/// bytes.
 #[tactic(auto, unfolding(crate::specs::WhyTexts::why_text))]
 pub(crate) fn push_why(
     alloc: Global,
     into: &mut Vec<u8>,
+    held: &[&[u8]],
     text: &[u8],
     reason: &Reason,
 ) -> Result<(), AllocError>
-    ensures { OnOk result (into.new.items ≡ into.old.items ++ why_text text.now reason.now) }
+    ensures { OnOk result (into.new.items
+        ≡ into.old.items ++ why_text (map bytes_of held.now) text.now reason.now) }
 {
     let lines = lines_of(alloc, text)?;
     let places = places_of(alloc, reason)?;
-    push_lines(into, &lines, header_of(text), &places)
+    push_lines(into, held, &lines, header_of(text), &places)
 }
 
-// Puts the numbered lines of operations at these places, so many lines behind the first one, behind other bytes.
+// Puts the lines of operations at these places, of which the first tell what is held, and so many lines come before the others,
+// behind other bytes.
 fn push_lines(
     into: &mut Vec<u8>,
+    held: &[&[u8]],
     lines: &[&[u8]],
     header: u64,
     places: &[u64],
 ) -> Result<(), AllocError>
-    ensures { OnOk result (into.new.items ≡ into.old.items
-        ++ flat_map (λ place. numbered_line (map bytes_of lines.now) (place + header)) places.now) }
+    ensures { OnOk result (into.new.items ≡ into.old.items ++ flat_map
+        (λ place. told_line (map bytes_of held.now) (map bytes_of lines.now) header place) places.now) }
 {
     for place in places {
-        push_line(into, lines, header, *place)?;
+        push_line(into, held, lines, header, *place)?;
     }
     Ok(())
 }
 
-fn push_line(into: &mut Vec<u8>, lines: &[&[u8]], header: u64, place: u64) -> Result<(), AllocError>
+fn push_line(
+    into: &mut Vec<u8>,
+    held: &[&[u8]],
+    lines: &[&[u8]],
+    header: u64,
+    place: u64,
+) -> Result<(), AllocError>
+    ensures { OnOk result (into.new.items ≡ into.old.items
+        ++ told_line (map bytes_of held.now) (map bytes_of lines.now) header place) }
+{
+    let count = held.len() as u64;
+    if place <= count {
+        return push_held_line(into, held, place);
+    }
+    push_given(into, lines, header, place - count)
+}
+
+// Puts the line of what is held at this place behind other bytes.
+fn push_held_line(into: &mut Vec<u8>, held: &[&[u8]], place: u64) -> Result<(), AllocError>
+    ensures { OnOk result
+        (into.new.items ≡ into.old.items ++ held_line (map bytes_of held.now) place) }
+{
+    let Some(text) = held.get(place.saturating_sub(1) as usize) else {
+        return Ok(());
+    };
+    push_held_text(into, place, text)
+}
+
+fn push_held_text(into: &mut Vec<u8>, place: u64, text: &[u8]) -> Result<(), AllocError>
+    ensures { OnOk result (into.new.items
+        ≡ into.old.items ++ (codes "held " ++ (decimal place ++ codes " " ++ line text.now))) }
+{
+    into.extend_from_slice(b"held ")?;
+    push_numbered(into, place, text)
+}
+
+// Puts the line of the operation at this place, with its number, behind other bytes.
+fn push_given(
+    into: &mut Vec<u8>,
+    lines: &[&[u8]],
+    header: u64,
+    place: u64,
+) -> Result<(), AllocError>
     ensures { OnOk result (into.new.items
         ≡ into.old.items ++ numbered_line (map bytes_of lines.now) (place + header)) }
 {
@@ -71,7 +118,7 @@ fn push_numbered(into: &mut Vec<u8>, number: u64, says: &[u8]) -> Result<(), All
 }
 
 // The lines of a text: what stands between its line feeds.
-fn lines_of(alloc: Global, text: &[u8]) -> Result<Vec<&[u8]>, AllocError>
+pub(crate) fn lines_of(alloc: Global, text: &[u8]) -> Result<Vec<&[u8]>, AllocError>
     ensures { IfOk result (λ lines. map bytes_of lines.items ≡ lines_in text.now) }
 {
     let mut lines = Vec::new(alloc);

@@ -8,7 +8,7 @@ use Rattle.history.specs.declared.refusals.Refusal.TheVariants.{Text, Memory}
 use Rattle.history_text.specs.HistoryLines.{HistoryLine, Count as HistoryCount, Operation as HistoryOperation, First, IsFirstFaultOfHistory, history_grammar}
 use Rattle.recording_text.specs.RecordingLines.{RecordingLine, Version, Count, Operation, VersionDue, IsFirstFaultOfRecording, recording_grammar}
 use Rattle.recorded_source.specs.EitherGrammars.{Start}
-use Rattle.recorded_source.specs.Given.{begins_as_recording, recorded_grammar, TellsFaultOfRecord}
+use Rattle.recorded_source.specs.Given.{begins_as_recording, recorded_grammar, TellsFaultOfRecord, TellsFaultOfRecording}
 use Rattle.recorded_source.proofs.Eithers.{first_fault-one, first_fault-other}
 
 -- a text with another first byte has no first line of a recording
@@ -42,3 +42,15 @@ pub fault-read : (given : Option (List ℕ)) (refusal : Refusal) → IsRefusedRe
 fault-read None refusal refused = tt
 fault-read (Some text) (Text number cause) refused = refused
 fault-read (Some text) _ refused = tt
+
+-- what is told of a text as a recording
+pub refused-alone : (text : List ℕ) (refusal : Refusal) → IsFirstFaultOfRecording text refusal → IsRefusedBy recording_grammar VersionDue text refusal
+refused-alone text (Text number cause) fault = fault
+refused-alone text Memory fault = tt
+refused-alone text _ fault = absurd fault
+
+-- what known bytes are refused for as a recording
+pub fault-read_alone : (given : Option (List ℕ)) (refusal : Refusal) → IsRefusedReading recording_grammar VersionDue given refusal → TellsFaultOfRecording given refusal
+fault-read_alone None refusal refused = tt
+fault-read_alone (Some text) (Text number cause) refused = refused
+fault-read_alone (Some text) _ refused = tt

@@ -8,7 +8,8 @@ use Rattle.history.specs.declared.refusals.Refusal.{Refusal}
 use Rattle.history.specs.declared.refusals.Refusal.TheVariants.{Text}
 use Rattle.history_text.specs.HistoryLines.{HistoryDue, HistoryLine, First, IsHistoryInRange, history_grammar}
 use Rattle.history_text.specs.HistoryText.{history_text}
-use Rattle.recording_text.specs.RecordingLines.{RecordingDue, RecordingLine, VersionDue, recording_grammar}
+use Rattle.recording_text.specs.Recordings.{Recorded}
+use Rattle.recording_text.specs.RecordingLines.{RecordingDue, RecordingLine, VersionDue, recording_grammar, recording_text, IsRecordingInRange, HasFirstFault}
 use Rattle.recording_text.specs.RecordingReading.{StandsFor}
 use Rattle.recorded_source.specs.EitherGrammars.{EitherDue, EitherLine, Start, either_grammar}
 use Rattle.recorded_source.specs.declared.texts.Given.{Given}
@@ -52,3 +53,13 @@ abbrev pub TellsFaultOfRecord : (given : Option (List ℕ)) → Refusal → Type
 TellsFaultOfRecord None refusal = ⊤
 TellsFaultOfRecord (Some text) (Text number cause) = IsFirstFault recorded_grammar Start text number cause
 TellsFaultOfRecord (Some text) _ = ⊤
+
+-- a text is that of a recording in range
+abbrev pub IsTextOfRecording : List ℕ → Type 0
+IsTextOfRecording text = (rs : List Recorded) × IsRecordingInRange rs × (text ≡ recording_text rs)
+
+-- where known bytes are refused as a recording, that is their first faulty line, and what is wrong
+abbrev pub TellsFaultOfRecording : (given : Option (List ℕ)) → Refusal → Type 0
+TellsFaultOfRecording None refusal = ⊤
+TellsFaultOfRecording (Some text) (Text number cause) = HasFirstFault text number cause
+TellsFaultOfRecording (Some text) _ = ⊤

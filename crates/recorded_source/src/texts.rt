@@ -92,7 +92,7 @@ fn recording_of(alloc: Global, text: &[u8]) -> Result<Given, Refusal>
     Ok(Given { text, history })
 }
 
-fn copy_of(alloc: Global, text: &[u8]) -> Result<Vec<u8>, Refusal>
+pub(crate) fn copy_of(alloc: Global, text: &[u8]) -> Result<Vec<u8>, Refusal>
     ensures ok { IfOk result (λ copy. copy.items ≡ text.now) }
     ensures err { IfErr result (λ refusal. refusal ≡ Refusal.Memory) }
 {

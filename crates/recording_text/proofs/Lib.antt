@@ -1,3 +1,4 @@
+pub mod EachOf
 pub mod Known
 pub mod KnownSets
 pub mod Spelling
@@ -5,3 +6,5 @@ pub mod Steps
 pub mod Linear
 mod OneReading
 mod Shapes
+pub mod Longer
+mod HeldTexts

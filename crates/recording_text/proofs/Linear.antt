@@ -16,16 +16,8 @@ use Rattle.history.specs.Linearizability.{Answered, IsLinearizable}
 use Rattle.recording_text.specs.Recordings.{Call, Push, Pop, Shut, Told, Done, Value, Empty, Refused, Closed, Recorded, text_of_call, text_of_told, texts_in}
 use Rattle.recording_text.specs.Numbering.{known_in, number_in, value_by, op_by, reply_by, stamped_by, history_of}
 use Rattle.recording_text.specs.TextQueues.{TextQueue, no_texts, text_response, queue_after, Tells, AnsweredOperation, operations_of, IsPending, TellsRecordedReply, MayComeBefore, KeepsTime, IsRun, IsLinearizableRecording}
+use Rattle.recording_text.proofs.EachOf.{parts, together}
 use Rattle.recording_text.proofs.Known.{IsKnown, AreKnown, AllAreKnown, by_recursion, from_recursion, number-tells, all-known_in, known-left, known-right}
-
--- a list of two parts, each of which is known
-left_part : {X : Type 0} (P : X → Type 0) (xs ys : List X) → AllByRecursion P (xs ++ ys) → AllByRecursion P xs
-left_part P [] ys all = tt
-left_part P (x ∷ xs) ys all = (all.0, left_part P xs ys all.1)
-
-both_parts : {X : Type 0} (P : X → Type 0) (xs ys : List X) → AllByRecursion P xs → AllByRecursion P ys → AllByRecursion P (xs ++ ys)
-both_parts P [] ys all rest = rest
-both_parts P (x ∷ xs) ys all rest = (all.0, both_parts P xs ys all.1 rest)
 
 -- two elements that change places, changed one by one
 map-swap : {X Y : Type 0} (f : X → Y) (xs : List X) (i j : ℕ) → i < length xs → j < length xs → map f (swap xs i j) ≡ swap (map f xs) i j
@@ -239,7 +231,7 @@ module _ (known : List (List ℕ)) where
   response-known : (call : Call) (texts : List (List ℕ)) (shut : Bool) → AreKnown known texts → AreKnown known (text_of_call call)
       → AreKnown known (text_response call (record { texts = texts; shut = shut })).after.texts
   response-known (Push text) texts true all is = all
-  response-known (Push text) texts false all is = both_parts (IsKnown known) texts (text ∷ []) all is
+  response-known (Push text) texts false all is = together (IsKnown known) texts (text ∷ []) all is
   response-known Pop [] true all is = tt
   response-known Pop [] false all is = tt
   response-known Pop (front ∷ texts) shut all is = all.1
@@ -356,7 +348,7 @@ module _ (known : List (List ℕ)) where
       let parted = parted-back (stamped_by known) ordered.ordered (linear.operations_of is.order) is.left_out ordered.become in
       let Each : Recorded → Type 0 = λ r. AreKnown known (texts_in r) in
       let all : AllByRecursion Each ordered.ordered = by_recursion Each ordered.ordered (All-permutation Each rs ordered.ordered ordered.permuted (from_recursion Each rs each)) in
-      let front : AllByRecursion Each parted.front = left_part Each parted.front parted.back (subst (AllByRecursion Each) parted.parts all) in
+      let front : AllByRecursion Each parted.front = (parts Each parted.front parted.back (subst (AllByRecursion Each) parted.parts all)).0 in
       let run = run-back no_texts parted.front is.order tt front parted.front_is is.replies is.runs in
       record {
         order = run.order;

@@ -14,11 +14,11 @@ use Rattle.text_lines.proofs.Faults.{Begins-nothing, Begins-more, IsText-whole, 
 use Rattle.history.specs.declared.refusals.Refusal.{Refusal}
 use Rattle.history.specs.declared.refusals.Refusal.TheVariants.{Memory, Text}
 use Rattle.history.specs.declared.operations.Stamped.{Stamped}
-use Rattle.recording_text.specs.Recordings.{Recorded, texts_in}
-use Rattle.recording_text.specs.Numbering.{known_in, with_texts, stamped_by}
+use Rattle.recording_text.specs.Recordings.{Recorded, texts_in, texts_of}
+use Rattle.recording_text.specs.Numbering.{with_texts, stamped_by}
 use Rattle.recording_text.specs.RecordingLines.{RecordingLine, Version, Count, Operation, VersionDue, CountDue, Operations, is_line_due, version_line, IsReadable, IsFirstFaultOfRecording, HasFirstFault, recording_grammar, recording_text}
-use Rattle.recording_text.specs.RecordingReading.{AddsOperation, IsWrongOperation, IsAfterCount, SaysCount, IsCount, StandsFor}
-use Rattle.recording_text.proofs.Known.{AreKnown, AllAreKnown, every-stays, all-learnt, history-stays, length-with_texts, two-texts, known_in-push}
+use Rattle.recording_text.specs.RecordingReading.{AddsOperation, IsWrongOperation, IsAfterCount, SaysCount, IsCount, StandsFor, StandsBehind}
+use Rattle.recording_text.proofs.Known.{AreKnown, AllAreKnown, every-stays, all-learnt, history-stays, length-with_texts, two-texts, with_texts-append, texts_of-push}
 use Rattle.recording_text.proofs.Spelling.{wrong-operation, wrong-count, wrong-version}
 
 -- the operations as lines
@@ -48,16 +48,24 @@ readable-due (r ∷ rs) left due = All-cons IsReadable r rs (due.1, due.2) (read
 abbrev pub BeginsRecording : ℕ → List Recorded → List ℕ → List ℕ → Type 0
 BeginsRecording count rs text rest = Begins recording_grammar VersionDue (Version ∷ Count count ∷ said rs) text rest
 
--- So many lines of a text were read, and this follows: the texts that are known, and the operations with their numbers.
-pub record HasRead (count : ℕ) (text rest : List ℕ) (place : ℕ) (known : List (List ℕ)) (ops : List Stamped) : Type 0 where
+-- Operations were learnt with the numbers of their texts among those known from the start and their own.
+pub record HasLearnt (start : List (List ℕ)) (rs : List Recorded) (known : List (List ℕ)) (ops : List Stamped) : Type 0 where
+  pub learnt : known ≡ with_texts start (texts_of rs)
+  pub each : AllAreKnown known rs
+  pub numbered : ops ≡ map (stamped_by known) rs
+
+pub HasLearnt-none : (start : List (List ℕ)) → HasLearnt start [] start []
+HasLearnt-none start = record { learnt = refl; each = tt; numbered = refl }
+
+-- So many lines of a text were read, and this follows: the texts that are known, some of them from the start, and the operations
+-- with their numbers.
+pub record HasRead (start : List (List ℕ)) (count : ℕ) (text rest : List ℕ) (place : ℕ) (known : List (List ℕ)) (ops : List Stamped) : Type 0 where
   pub recorded : List Recorded
   pub begins : BeginsRecording count recorded text rest
   pub in_range : count ≤ 1000000
   pub counted : length recorded ≡ place
-  pub learnt : known ≡ known_in recorded
-  pub each : AllAreKnown known recorded
-  pub numbered : ops ≡ map (stamped_by known) recorded
-  pub few : length known ≤ place + place
+  pub numbers : HasLearnt start recorded known ops
+  pub few : length known ≤ length start + place + place
 
 -- the first two lines are read
 begins-count : (text : List ℕ) (count : ℕ) (rest : List ℕ) → IsAfterCount text count rest → BeginsRecording count [] text rest
@@ -70,15 +78,13 @@ begins-count text count rest after =
           ∙ sym (append_assoc (line version_line) (second ++ []) rest);
     }
 
-pub HasRead-none : (text : List ℕ) (count : ℕ) (rest : List ℕ) → IsAfterCount text count rest → HasRead count text rest 0 [] []
-HasRead-none text count rest after = record {
+pub HasRead-none : (start : List (List ℕ)) (text : List ℕ) (count : ℕ) (rest : List ℕ) → IsAfterCount text count rest → HasRead start count text rest 0 start []
+HasRead-none start text count rest after = record {
   recorded = [];
   begins = begins-count text count rest after;
   in_range = after.0;
   counted = refl;
-  learnt = refl;
-  each = tt;
-  numbered = refl;
+  numbers = HasLearnt-none start;
   few = omega arith;
 }
 
@@ -99,67 +105,77 @@ each-push : {X : Type 0} (P : X → Type 0) (xs : List X) (x : X) → AllByRecur
 each-push P [] x all is = (is, tt)
 each-push P (y ∷ xs) x all is = (all.0, each-push P xs x all.1 is)
 
-pub HasRead-more : (count : ℕ) (text rest says later : List ℕ) (place : ℕ) (known new_known : List (List ℕ)) (ops new : List Stamped) → HasRead count text rest place known ops
-    → place < count → rest ≡ line says ++ later → AddsOperation known new_known ops new says → HasRead count text later (place + 1) new_known new
-HasRead-more count text rest says later place known new_known ops new read more split adds =
+-- one more operation is learnt
+pub HasLearnt-more : (start : List (List ℕ)) (rs : List Recorded) (o : Recorded) (known new_known : List (List ℕ)) (ops : List Stamped) → HasLearnt start rs known ops
+    → new_known ≡ with_texts known (texts_in o) → HasLearnt start (rs ++ o ∷ []) new_known (ops ++ stamped_by new_known o ∷ [])
+HasLearnt-more start rs o known new_known ops read learnt =
+    let texts : List (List ℕ) = texts_in o in
+    let old : ops ≡ map (stamped_by new_known) rs =
+    read.numbered ∙ sym (history-stays known rs texts read.each) ∙ ap (λ (known : List (List ℕ)). map (stamped_by known) rs) (sym learnt) in
+    record {
+      learnt = learnt ∙ ap (λ (known : List (List ℕ)). with_texts known texts) read.learnt ∙ sym (with_texts-append start (texts_of rs) texts)
+          ∙ ap (with_texts start) (sym (texts_of-push rs o));
+      each =
+          subst (λ (known : List (List ℕ)). AllAreKnown known (rs ++ o ∷ [])) (sym learnt)
+          (each-push (λ r. AreKnown (with_texts known texts) (texts_in r)) rs o (every-stays known rs texts read.each) (all-learnt known texts));
+      numbered = ap (λ (ops : List Stamped). ops ++ stamped_by new_known o ∷ []) old ∙ sym (map-append (stamped_by new_known) rs (o ∷ []));
+    }
+
+pub HasRead-more : (start : List (List ℕ)) (count : ℕ) (text rest says later : List ℕ) (place : ℕ) (known new_known : List (List ℕ)) (ops new : List Stamped) → HasRead start count text rest place known ops
+    → place < count → rest ≡ line says ++ later → AddsOperation known new_known ops new says → HasRead start count text later (place + 1) new_known new
+HasRead-more start count text rest says later place known new_known ops new read more split adds =
     let rs = read.recorded in
     let o : Recorded = adds.operation in
     let texts : List (List ℕ) = texts_in o in
     let learnt : new_known ≡ with_texts known texts = adds.learnt in
-    let old : ops ≡ map (stamped_by new_known) rs =
-    read.numbered ∙ sym (history-stays known rs texts read.each) ∙ ap (λ (known : List (List ℕ)). map (stamped_by known) rs) (sym learnt) in
     record {
       recorded = rs ++ o ∷ [];
       begins = begins-next count rs o text rest says later known new_known ops new read.begins (omega (arith, read.counted, more)) split adds;
       in_range = read.in_range;
       counted = length-append rs (o ∷ []) ∙ ap (λ (n : ℕ). n + 1) read.counted;
-      learnt = learnt ∙ ap (λ (known : List (List ℕ)). with_texts known texts) read.learnt ∙ sym (known_in-push rs o);
-      each =
-          subst (λ (known : List (List ℕ)). AllAreKnown known (rs ++ o ∷ [])) (sym learnt)
-          (each-push (λ r. AreKnown (with_texts known texts) (texts_in r)) rs o (every-stays known rs texts read.each) (all-learnt known texts));
-      numbered =
-          adds.added ∙ ap (λ (ops : List Stamped). ops ++ stamped_by new_known o ∷ []) old
-          ∙ sym (map-append (stamped_by new_known) rs (o ∷ []));
+      numbers = subst (HasLearnt start (rs ++ o ∷ []) new_known) (sym adds.added) (HasLearnt-more start rs o known new_known ops read.numbers learnt);
       few =
           let long : length new_known ≡ length (with_texts known texts) = ap (λ (known : List (List ℕ)). length known) learnt in
           omega (arith, long, length-with_texts known texts, two-texts o, read.few);
     }
 
 -- the texts that are known leave room for those of one more operation
-pub HasRead-room : (count : ℕ) (text rest : List ℕ) (place : ℕ) (known : List (List ℕ)) (ops : List Stamped) → HasRead count text rest place known ops → place < count → length known ≤ 2000000
-HasRead-room count text rest place known ops read more = omega (arith, read.few, read.in_range, more)
+pub HasRead-room : (start : List (List ℕ)) (count : ℕ) (text rest : List ℕ) (place : ℕ) (known : List (List ℕ)) (ops : List Stamped) → HasRead start count text rest place known ops
+    → length start ≤ 1000000 → place < count → length known ≤ 3000000
+HasRead-room start count text rest place known ops read few more = omega (arith, read.few, read.in_range, few, more)
 
 -- an operation is due, and there is no further line feed
-pub fault-end : (count : ℕ) (text rest : List ℕ) (place : ℕ) (known : List (List ℕ)) (ops : List Stamped) → HasRead count text rest place known ops → place < count
+pub fault-end : (start : List (List ℕ)) (count : ℕ) (text rest : List ℕ) (place : ℕ) (known : List (List ℕ)) (ops : List Stamped) → HasRead start count text rest place known ops → place < count
     → HasNo 10 rest → HasFirstFault text (3 + place) End
-fault-end count text rest place known ops read more none =
+fault-end start count text rest place known ops read more none =
     let rs = read.recorded in
     first_fault-end recording_grammar VersionDue (Operations (count - length rs)) (Version ∷ Count count ∷ said rs) text rest (3 + place) read.begins (state-said rs count)
     (omega (arith, read.counted, length-map rs (λ r. Operation r))) (due-some (count - length rs) (omega (arith, read.counted, more))) none
 
 -- an operation is due, and its line is wrong, or there was no room
-pub fault-operation : (count : ℕ) (text rest says later : List ℕ) (place : ℕ) (known : List (List ℕ)) (ops : List Stamped) (refusal : Refusal) → HasRead count text rest place known ops
+pub fault-operation : (start : List (List ℕ)) (count : ℕ) (text rest says later : List ℕ) (place : ℕ) (known : List (List ℕ)) (ops : List Stamped) (refusal : Refusal) → HasRead start count text rest place known ops
     → place < count → rest ≡ line says ++ later → HasNo 10 says → IsWrongOperation (3 + place) says refusal → IsFirstFaultOfRecording text refusal
-fault-operation count text rest says later place known ops (Text at cause) read more split whole wrong =
+fault-operation start count text rest says later place known ops (Text at cause) read more split whole wrong =
     let rs = read.recorded in
     first_fault-line recording_grammar VersionDue (Operations (count - length rs)) (Version ∷ Count count ∷ said rs) text rest says later at cause read.begins (state-said rs count)
     (omega (arith, wrong.0, read.counted, length-map rs (λ r. Operation r))) (due-some (count - length rs) (omega (arith, read.counted, more))) split whole
     (wrong-operation (count - length rs) says cause wrong.1)
-fault-operation count text rest says later place known ops Memory read more split whole wrong = tt
-fault-operation count text rest says later place known ops _ read more split whole wrong = absurd wrong
+fault-operation start count text rest says later place known ops Memory read more split whole wrong = tt
+fault-operation start count text rest says later place known ops _ read more split whole wrong = absurd wrong
 
 -- no operation is due, and bytes follow
-pub fault-extra : (count : ℕ) (text rest : List ℕ) (known : List (List ℕ)) (ops : List Stamped) → HasRead count text rest count known ops → rest ≢ []
+pub fault-extra : (start : List (List ℕ)) (count : ℕ) (text rest : List ℕ) (known : List (List ℕ)) (ops : List Stamped) → HasRead start count text rest count known ops → rest ≢ []
     → HasFirstFault text (3 + count) Extra
-fault-extra count text rest known ops read some =
+fault-extra start count text rest known ops read some =
     let rs = read.recorded in
     first_fault-extra recording_grammar VersionDue (Operations (count - length rs)) (Version ∷ Count count ∷ said rs) text rest (3 + count) read.begins (state-said rs count)
     (omega (arith, read.counted, length-map rs (λ r. Operation r))) (due-none (count - length rs) (omega (arith, read.counted))) some
 
 -- no operation is due, and nothing follows
-pub whole-recording : (count : ℕ) (text rest : List ℕ) (known : List (List ℕ)) (ops : List Stamped) → HasRead count text rest count known ops → rest ≡ [] → StandsFor text ops
+pub whole-recording : (start : List (List ℕ)) (count : ℕ) (text rest : List ℕ) (known : List (List ℕ)) (ops : List Stamped) → HasRead start count text rest count known ops → rest ≡ []
+    → StandsBehind start known text ops
 unfolding recording_text
-whole-recording count text rest known ops read empty =
+whole-recording start count text rest known ops read empty =
     let rs = read.recorded in
     let is : IsText recording_grammar VersionDue (Version ∷ Count count ∷ said rs) text =
     IsText-whole recording_grammar VersionDue (Operations (count - length rs)) (Version ∷ Count count ∷ said rs) text rest read.begins (state-said rs count)
@@ -170,8 +186,18 @@ whole-recording count text rest known ops read empty =
       spelled =
           is.lines.spelled ∙ append-nil (lines_of recording_grammar (Version ∷ Count count ∷ said rs))
           ∙ ap (λ (count : ℕ). lines_of recording_grammar (Version ∷ Count count ∷ said rs)) (sym read.counted);
-      history = read.numbered ∙ ap (λ (known : List (List ℕ)). map (stamped_by known) rs) read.learnt;
+      learnt = read.numbers.learnt;
+      history = read.numbers.numbered;
     }
+
+-- where nothing is known at the start, it is the history that the recording stands for
+pub stands-alone : (new : List (List ℕ)) (text : List ℕ) (ops : List Stamped) → StandsBehind [] new text ops → StandsFor text ops
+stands-alone new text ops is = record {
+  recording = is.recording;
+  in_range = is.in_range;
+  spelled = is.spelled;
+  history = is.history ∙ ap (λ (known : List (List ℕ)). map (stamped_by known) is.recording) is.learnt;
+}
 
 -- the first line is wrong
 pub fault-version : (text says rest : List ℕ) → text ≡ line says ++ rest → HasNo 10 says → says ≢ version_line → HasFirstFault text 1 Form

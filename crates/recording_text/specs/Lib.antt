@@ -4,3 +4,4 @@ pub mod Numbering
 pub mod Shapes
 pub mod TextQueues
 pub mod RecordingReading
+pub mod Holding

@@ -16,7 +16,7 @@ use Rattle.recording_text.specs.declared.reading.ReadCall.TheVariants.{Push as R
 use Rattle.recording_text.specs.declared.replies.ReadReply.{ReadReply}
 use Rattle.recording_text.specs.declared.replies.ReadReply.TheVariants.{Done as ReadDone, Value as ReadValue, Empty as ReadEmpty, Refused as ReadRefused, Closed as ReadClosed}
 use Rattle.recording_text.specs.declared.reading.ReadOperation.{ReadOperation}
-use Rattle.recording_text.specs.Recordings.{Call, Push, Pop, Shut, Told, Done, Value, Empty, Refused, Closed, Recorded, texts_in}
+use Rattle.recording_text.specs.Recordings.{Call, Push, Pop, Shut, Told, Done, Value, Empty, Refused, Closed, Recorded, texts_in, texts_of}
 use Rattle.recording_text.specs.RecordingLines.{version_line, call_words, told_words, operation_words, IsText, IsTextCall, IsTextTold, IsSayable, IsShortText, IsCallInRange, IsToldInRange, IsOperationInRange, IsRecordingInRange, recording_text}
 use Rattle.recording_text.specs.Numbering.{stamped_by, with_texts, history_of}
 
@@ -155,6 +155,15 @@ pub record StandsFor (text : List ℕ) (ops : List Stamped) : Type 0 where
   pub in_range : IsRecordingInRange recording
   pub spelled : text ≡ recording_text recording
   pub history : ops ≡ history_of recording
+
+-- a text is that of a recording in range, and these are its operations with the numbers of its texts among those known before
+-- and its own, which are known then
+pub record StandsBehind (old new : List (List ℕ)) (text : List ℕ) (ops : List Stamped) : Type 0 where
+  pub recording : List Recorded
+  pub in_range : IsRecordingInRange recording
+  pub spelled : text ≡ recording_text recording
+  pub learnt : new ≡ with_texts old (texts_of recording)
+  pub history : ops ≡ map (stamped_by new) recording
 
 -- the line of this number says no operation, or one that is out of range; or there was no room
 abbrev pub IsWrongOperation : ℕ → List ℕ → Refusal → Type 0

@@ -6,6 +6,7 @@ ghost use Rattle.recording_text.specs.Recordings.{Recorded, texts_of};
 ghost use Rattle.recording_text.specs.Numbering.{known_in, number_in, history_of};
 ghost use Rattle.recording_text.specs.RecordingLines.{recording_text, IsRecordingInRange, HasFirstFault};
 ghost use Rattle.recording_text.specs.Shapes.{shape_of, numbers_of};
+ghost use Rattle.recording_text.specs.Holding.{holding, longer, IsLinearizableFrom};
 ghost use Rattle.recording_text.specs.TextQueues.{IsLinearizableRecording};
 
 /// A text is that of one recording in range at most.
@@ -54,4 +55,11 @@ pub fn a_history_tells_all_but_names()
 pub fn a_recording_is_linearizable_as_its_history_is()
     //= texts/numbers_of_texts
     ensures { (rs : List Recorded) → IsLinearizableRecording rs ↔ IsLinearizable (history_of rs) }
+{}
+
+/// A recording in range is linearizable from a queue that holds texts exactly where the longer one is that pushes them first.
+pub fn a_recording_is_linearizable_as_its_longer_one_is()
+    //= texts/holding
+    ensures { (held : List (List ℕ)) (rs : List Recorded) → IsRecordingInRange rs
+        → IsLinearizableFrom (holding held) rs ↔ IsLinearizableRecording (longer held rs) }
 {}

@@ -1,10 +1,16 @@
 //! The text of a recording of a queue, and the history that it stands for: names and values are texts there.
 #![tactic(auto)]
 
+mod held;
 pub mod laws;
+mod lists;
 mod numbering;
 mod parsing;
 mod reading;
 mod replies;
 
+pub use held::parse_holding;
+pub use lists::texts_in;
 pub use parsing::parse_recording;
+pub use reading::{ReadCall, ReadOperation, operation_of};
+pub use replies::ReadReply;

@@ -17,7 +17,7 @@ pub fn numbered<'a>(
     known: &mut IndexSet<&'a [u8]>,
     read: ReadOperation<'a>,
 ) -> Result<Stamped, Refusal>
-    requires { length (known_by known.old) ≤ 2000000 }
+    requires { length (known_by known.old) ≤ 3000000 }
     ensures ok { IfOk result (λ o. o ≡ stamped_by (known_by known.new) (said_of read.entry)) }
     ensures learnt { OnOk result (known_by known.new
         ≡ with_texts (known_by known.old) (texts_in (said_of read.entry))) }
@@ -36,7 +36,7 @@ pub fn numbered<'a>(
 }
 
 fn numbered_call<'a>(known: &mut IndexSet<&'a [u8]>, call: ReadCall<'a>) -> Result<Op, Refusal>
-    requires { length (known_by known.old) ≤ 2000001 }
+    requires { length (known_by known.old) ≤ 3000001 }
     ensures ok { IfOk result (λ op. op ≡ op_by (known_by known.new) (said_call call.entry)) }
     ensures learnt { OnOk result (known_by known.new
         ≡ with_texts (known_by known.old) (text_of_call (said_call call.entry))) }
@@ -53,7 +53,7 @@ fn numbered_reply<'a>(
     known: &mut IndexSet<&'a [u8]>,
     reply: Option<ReadReply<'a>>,
 ) -> Result<Option<Reply>, Refusal>
-    requires { length (known_by known.old) ≤ 2000001 }
+    requires { length (known_by known.old) ≤ 3000001 }
     ensures ok { IfOk result (λ told.
         told ≡ option_map (reply_by (known_by known.new)) (said_told reply.entry)) }
     ensures learnt { OnOk result (known_by known.new
@@ -77,7 +77,7 @@ fn numbered_reply<'a>(
 
 /// The number of a text, from 1.
 fn number_of<'a>(known: &mut IndexSet<&'a [u8]>, text: &'a [u8]) -> Result<Body, Refusal>
-    requires { length (known_by known.old) ≤ 2000001 }
+    requires { length (known_by known.old) ≤ 3000001 }
     ensures ok { IfOk result (λ body. body ≡ number_in (known_by known.new) text.now) }
     ensures learnt { OnOk result (known_by known.new ≡ with_text (known_by known.old) text.now) }
     ensures err { IfErr result (λ refusal. refusal ≡ Refusal.Memory) }

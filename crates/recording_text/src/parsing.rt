@@ -2,7 +2,7 @@
 ghost use Rattle.std.specs.Prelude.{◌≡◌, ◌++◌, ◌∷◌, ◌≤◌, [], IfOk, IfErr, MatchResult, OnOk, length};
 ghost use Rattle.text_lines.specs.Lines.{HasNo, line};
 ghost use Rattle.recording_text.specs.RecordingLines.{IsFirstFaultOfRecording};
-ghost use Rattle.recording_text.specs.RecordingReading.{StandsFor, IsAfterCount, AddsOperation};
+ghost use Rattle.recording_text.specs.RecordingReading.{StandsFor, StandsBehind, IsAfterCount, AddsOperation};
 ghost use Rattle.recording_text.specs.RecordingReading.{IsWrongOperation, known_by};
 
 use crate::numbering::numbered;
@@ -23,12 +23,27 @@ pub fn parse_recording(alloc: Global, text: &[u8]) -> Result<Vec<Stamped>, Refus
     ensures ok { IfOk result (λ ops. StandsFor text.now ops.items) }
     ensures err { IfErr result (IsFirstFaultOfRecording text.now) }
 {
-    let (count, mut rest) = first_lines(text)?;
     let mut known = IndexSet::new(alloc);
+    parse_behind(alloc, &mut known, text)
+}
+
+/// The operations of a recording, with the numbers of its texts among those that are known; new ones become known, behind the
+/// others.
+pub(crate) fn parse_behind<'a>(
+    alloc: Global,
+    known: &mut IndexSet<&'a [u8]>,
+    text: &'a [u8],
+) -> Result<Vec<Stamped>, Refusal>
+    requires { length (known_by known.old) ≤ 1000000 }
+    ensures ok { IfOk result
+        (λ ops. StandsBehind (known_by known.old) (known_by known.new) text.now ops.items) }
+    ensures err { IfErr result (IsFirstFaultOfRecording text.now) }
+{
+    let (count, mut rest) = first_lines(text)?;
     let mut operations = Vec::new(alloc);
     for place in 0..count {
         let (line, later) = due_line(3 + place, rest)?;
-        keep(&mut known, &mut operations, 3 + place, line)?;
+        keep(known, &mut operations, 3 + place, line)?;
         rest = later;
     }
     if rest.is_empty() {
@@ -71,7 +86,7 @@ fn keep<'a>(
     number: u64,
     line: &'a [u8],
 ) -> Result<(), Refusal>
-    requires { length (known_by known.old) ≤ 2000000 }
+    requires { length (known_by known.old) ≤ 3000000 }
     ensures ok { OnOk result (AddsOperation (known_by known.old) (known_by known.new)
         operations.old.items operations.new.items line.now) }
     ensures err { IfErr result (IsWrongOperation number line.now) }
@@ -84,7 +99,7 @@ fn keep<'a>(
     }
 }
 
-fn push_to(operations: &mut Vec<Stamped>, operation: Stamped) -> Result<(), Refusal>
+pub(crate) fn push_to(operations: &mut Vec<Stamped>, operation: Stamped) -> Result<(), Refusal>
     ensures { MatchResult result
         (λ done. operations.new.items ≡ operations.old.items ++ operation ∷ [])
         (λ refusal. refusal ≡ Refusal.Memory) }

@@ -16,7 +16,8 @@ use text_lines::{TextCause, Words, number_in};
 
 const MOST_OPERATIONS: u64 = 1_000_000;
 
-const LONGEST_TEXT: usize = 64;
+/// How many bytes a text has at most.
+pub(crate) const LONGEST_TEXT: usize = 64;
 
 /// A call as its line says it: a text still lies in the line.
 #[derive(Clone, Copy)]
@@ -128,7 +129,7 @@ fn is_text_byte(byte: u8) -> bool
     byte.is_ascii_alphanumeric() || byte == b'-' || byte == b'.' || byte == b'_'
 }
 
-fn are_text_bytes(word: &[u8]) -> bool
+pub(crate) fn are_text_bytes(word: &[u8]) -> bool
     ensures { MatchBool result (All IsTextByte word.now) (¬ All IsTextByte word.now) }
 {
     word.iter().all(|byte| is_text_byte(*byte))

@@ -1,7 +1,10 @@
+use crate::tests::comparing::same;
 use crate::tests::trials::{
     Engine, does, does_by_any_piece, tells_each_end, writes_a_prefix, writes_nothing,
 };
+use place_engine::place_text;
 use std::test::Fail;
+use text_io::Script;
 
 const RECORDED: &str = "msq record 1
 operations 4
@@ -97,6 +100,87 @@ const FOUND_WHY: [(&str, u8, &str); 3] = [
 fn tells_lines_of_reasons_whatever_the_pieces(rt: HostRuntime) -> Result<(), Fail> {
     for (text, status, want) in &FOUND_WHY {
         does_by_any_piece(&rt, rt.alloc(), Engine::Why, text, *status, want)?;
+    }
+    Ok(())
+}
+
+/// Recordings of a queue that holds `one` and `two`, the status, and what is written: points, also with spread numbers, and a reason.
+const FOUND_HOLDING: [(&str, u8, &str); 3] = [
+    (
+        "msq record 1\noperations 2\na deq from 7 to 9 reply value one\nb enq three from 8 to - reply -\n",
+        0,
+        "history 2\n1 deq first 7 last 9 at 7 reply value 1 1\n1 enq 3 first 8 last - at - reply -\n",
+    ),
+    (
+        "msq record 1\noperations 2\na deq from 7 to 7 reply value one\nb deq from 7 to 7 reply value two\n",
+        0,
+        "history 2\n1 deq first 1 last 5 at 3 reply value 1 1\n1 deq first 1 last 5 at 4 reply value 1 2\n",
+    ),
+    (
+        "msq record 1\noperations 1\na deq from 7 to 9 reply value two\n",
+        3,
+        "no 1 Order held 2 held 1\n3 a deq from 7 to 9 reply value two\nheld 2 two\nheld 1 one\n",
+    ),
+];
+
+#[test]
+fn places_recordings_of_a_queue_that_holds_texts(rt: HostRuntime) -> Result<(), Fail> {
+    for (text, status, want) in &FOUND_HOLDING {
+        does_by_any_piece(&rt, rt.alloc(), Engine::Holding, text, *status, want)?;
+    }
+    writes_nothing(&rt, rt.alloc(), Engine::Holding, RECORDED)
+}
+
+/// Operations of recordings, how many they are, and two lines of one thread's that overlap.
+const OVERLAPS: [(&str, u8, Option<(u64, u64)>); 8] = [
+    ("", 0, None),
+    (
+        "a enq x from 1 to 5 reply done\na deq from 5 to 9 reply value x\n",
+        2,
+        None,
+    ),
+    (
+        "a enq x from 1 to 5 reply done\nb deq from 2 to 9 reply value x\n",
+        2,
+        None,
+    ),
+    (
+        "a deq from 4 to 9 reply value x\nb deq from 2 to 3 reply empty\na enq x from 1 to 5 reply done\n",
+        3,
+        Some((3, 5)),
+    ),
+    // A call that never ended; one that took no time, at a moment of another, and at its beginning.
+    (
+        "a enq x from 7 to - reply -\na deq from 9 to 9 reply empty\n",
+        2,
+        Some((3, 4)),
+    ),
+    (
+        "a enq x from 1 to 9 reply done\na deq from 5 to 5 reply empty\n",
+        2,
+        Some((3, 4)),
+    ),
+    (
+        "a deq from 5 to 5 reply empty\na enq x from 5 to 9 reply done\na deq from 9 to 9 reply empty\n",
+        3,
+        None,
+    ),
+    (
+        "a enq x from 5 to 9 reply done\na deq from 5 to 5 reply empty\na deq from 6 to 8 reply empty\n",
+        3,
+        Some((3, 5)),
+    ),
+];
+
+#[test]
+fn warns_of_a_thread_in_two_calls(rt: HostRuntime) -> Result<(), Fail> {
+    for (operations, count, want) in &OVERLAPS {
+        let text = format!(in rt.alloc(); "msq record 1\noperations {count}\n{operations}")?;
+        let mut reader = Script::reader(rt.alloc(), text.as_bytes(), 4096)?;
+        let mut writer = Script::writer(rt.alloc(), 1000, 4096)?;
+        let told = place_text(rt.alloc(), &mut reader, &mut writer, 1000, false);
+        let found = told.map(|told| told.overlap);
+        same(&rt, found, Ok(*want), operations);
     }
     Ok(())
 }

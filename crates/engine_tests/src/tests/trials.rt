@@ -5,7 +5,7 @@ use crate::tests::comparing::same;
 use check_engine::check_text;
 use engine_faults::{Ending, Fault, end_of};
 use history::{Refusal, TextCause};
-use place_engine::place_text;
+use place_engine::{place_holding, place_text};
 use placing::Placed;
 use run_engine::run_text;
 use std::alloc::Global;
@@ -22,6 +22,8 @@ pub enum Engine {
     Place,
     /// Places with the lines of a reason's operations.
     Why,
+    /// The same of a queue that holds `one` and `two` at the start.
+    Holding,
 }
 
 impl Engine {
@@ -38,8 +40,12 @@ impl Engine {
                 Ok(Ending::Well)
             }
             Engine::Check => Ok(Ending::from(check_text(alloc, reader, writer)?)),
-            Engine::Place => Ok(ending_of(&place_text(alloc, reader, writer, 1_000, false)?)),
-            Engine::Why => Ok(ending_of(&place_text(alloc, reader, writer, 1_000, true)?)),
+            Engine::Place => Ok(ending_of(&place_text(alloc, reader, writer, 1_000, false)?.found)),
+            Engine::Why => Ok(ending_of(&place_text(alloc, reader, writer, 1_000, true)?.found)),
+            Engine::Holding => {
+                let held: [&[u8]; 2] = [b"one", b"two"];
+                Ok(ending_of(&place_holding(alloc, reader, writer, 1_000, true, &held)?.found))
+            }
         }
     }
 }

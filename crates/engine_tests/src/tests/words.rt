@@ -134,7 +134,7 @@ const COLOURED: [(&[&str], Colours); 5] = [
 ];
 
 /// Words that ask for no command, and the status.
-const OTHERS: [(&[&str], u8); 57] = [
+const OTHERS: [(&[&str], u8); 60] = [
     (&["run"], 2),
     (&["run", "a", "b"], 2),
     (&["run", "--fast", "a"], 2),
@@ -161,6 +161,9 @@ const OTHERS: [(&[&str], u8); 57] = [
     (&["work"], 2),
     (&["work", "a", "b"], 2),
     (&["place", "a", "--why=1"], 2),
+    (&["place", "a", "--holds"], 2),
+    (&["place", "a", "--holds=x", "--holds=x"], 2),
+    (&["check", "a", "--holds", "x"], 2),
     (&["check", "a", "--why"], 2),
     (&["work", "a", "--workers", "0"], 2),
     (&["work", "a", "--workers", "65"], 2),
@@ -306,6 +309,28 @@ fn reads_whether_a_fault_is_explained(rt: HostRuntime) -> Result<(), Fail> {
             Err(_) => None,
         };
         same(&rt, found, Some(*explains), format_args!("{words:?}"));
+    }
+    Ok(())
+}
+
+/// Words, and the list of what the queue holds that they give.
+const HELD: [(&[&str], Option<&str>); 5] = [
+    (&[], None),
+    (&["check", "a"], None),
+    (&["place", "a", "--why"], None),
+    (&["place", "a", "--holds", "tea,milk"], Some("tea,milk")),
+    (&["place", "--holds=", "a"], Some("")),
+];
+
+#[test]
+fn reads_what_a_queue_holds(rt: HostRuntime) -> Result<(), Fail> {
+    for (words, held) in &HELD {
+        let answer = read_words(rt.alloc(), &strings(rt.alloc(), words)?);
+        let found = match &answer {
+            Ok(command) => Some(command.held.as_ref().map(|list| list.as_str())),
+            Err(_) => None,
+        };
+        same(&rt, found, Some(*held), format_args!("{words:?}"));
     }
     Ok(())
 }

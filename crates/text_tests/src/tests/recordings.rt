@@ -2,7 +2,7 @@
 use crate::tests::comparing::same;
 use history::{Refusal, TextCause};
 use history_text::print_history;
-use recording_text::parse_recording;
+use recording_text::{parse_holding, parse_recording, texts_in};
 use std::alloc::{AllocError, Global};
 use std::test::Fail;
 use text_io::Script;
@@ -83,6 +83,50 @@ fn reads_recordings_as_histories(rt: HostRuntime) -> Result<(), Fail> {
         let mut writer = Script::writer(rt.alloc(), 1000, 7)?;
         print_history(read.as_slice(), &mut writer)?;
         same(&rt, writer.written(), history.as_bytes(), text);
+    }
+    Ok(())
+}
+
+/// A recording of a queue that holds `x` and `y`, the history of its longer one, and the same with a number that leaves no room.
+const HOLDING: [&str; 3] = [
+    "msq record 1\noperations 2\na deq from 1 to - reply -\na enq y from 4 to 5 reply done\n",
+    "history 4
+1 enq 1 first 1 last 1 at - reply done
+1 enq 2 first 2 last 2 at - reply done
+1 deq first 3 last - at - reply -
+1 enq 2 first 6 last 7 at - reply done
+",
+    "msq record 1\noperations 2\na deq from 1 to - reply -\na deq from 4 to 18446744073709551614 reply empty\n",
+];
+
+#[test]
+fn reads_recordings_of_a_queue_that_holds_texts(rt: HostRuntime) -> Result<(), Fail> {
+    let [text, history, late] = HOLDING;
+    let held: [&[u8]; 2] = [b"x", b"y"];
+    let read = parse_holding(rt.alloc(), &held, text.as_bytes())?;
+    let mut writer = Script::writer(rt.alloc(), 1000, 7)?;
+    print_history(read.as_slice(), &mut writer)?;
+    same(&rt, writer.written(), history.as_bytes(), text);
+    let told = parse_holding(rt.alloc(), &held, late.as_bytes()).err();
+    same(&rt, told, Some(Refusal::Text(4, TextCause::Range)), late);
+    Ok(())
+}
+
+/// Lists, and how many texts they have; none where they are no such lists.
+const LISTS: [(&str, Option<usize>); 6] = [
+    ("tea", Some(1)),
+    ("a,b-c,_.0", Some(3)),
+    ("", None),
+    ("a,", None),
+    (",a", None),
+    ("a b", None),
+];
+
+#[test]
+fn reads_lists_of_texts(rt: HostRuntime) -> Result<(), Fail> {
+    for (list, want) in &LISTS {
+        let found = texts_in(rt.alloc(), list.as_bytes())?.map(|texts| texts.len());
+        same(&rt, found, *want, list);
     }
     Ok(())
 }

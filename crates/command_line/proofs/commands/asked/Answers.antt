@@ -5,7 +5,7 @@ use Rattle.std.proofs.lemmas.List.{nil_from_length}
 use Rattle.std.proofs.lemmas.Result.{err_from_is_err_and}
 use Rattle.clap.specs.Words.{App, HasKind, Kinds, Row, Text, is_simple, is_simple_and_free, takes, subcommand_rows_of}
 use Rattle.command_line.specs.declared.commands.Task.TheVariants.{Run}
-use Rattle.command_line.specs.Commands.{file_met, met_in, AsksForCauses, IsTask}
+use Rattle.command_line.specs.Commands.{file_met, held_met, met_in, AsksForCauses, IsTask}
 use Rattle.command_line.proofs.Words.{faults_in-nil, faults_in-words, is_free-command_line, is_simple-command_line, met_in-nil, met_in-words, unwrap_or-now}
 use Rattle.command_line.proofs.commands.asked.Goals as goal
 
@@ -19,6 +19,7 @@ returns-then-is_empty-clause-asked c =
       file = c.in_ok-command_of.ensures.file ∙ ap (λ met. unwrap_or (file_met met) (codes "-")) (sym (met_in-nil queues whens));
       task = subst (λ met. IsTask met c.in_ok-command_of.field-0.task) (sym (met_in-nil queues whens)) (rw c.in_ok-command_of.ensures.task none);
       explains = subst (λ met. AsksForCauses met c.in_ok-command_of.field-0.explains) (sym (met_in-nil queues whens)) c.in_ok-command_of.ensures.explains;
+      held = c.in_ok-command_of.ensures.held ∙ ap held_met (sym (met_in-nil queues whens));
       taken = faults_in-nil queues whens;
     })
 
@@ -48,7 +49,8 @@ returns-clause-asked c =
     record {
       file = c.in_ok-command_of-2.ensures.file ∙ ap (λ file. file.now) c.unwrap_or-file.ensures ∙ unwrap_or-now c.file_in.result _
           ∙ ap (λ o. unwrap_or o (codes "-")) (c.file_in.ensures ∙ ap file_met met);
-      task = rw c.in_ok-command_of-2.ensures.task (subst (λ (o : Option (Text × List Row)). IsTask o c.task_in.result) met c.task_in.ensures);
-      explains = rw c.in_ok-command_of-2.ensures.explains (subst (λ (o : Option (Text × List Row)). AsksForCauses o c.explains_in.result) met c.explains_in.ensures);
+      task = rw c.in_ok-command_of-2.ensures.task (subst (λ (o : Option (Text × List Row)). IsTask o c.task_in-task.result) met c.task_in-task.ensures);
+      explains = rw c.in_ok-command_of-2.ensures.explains (subst (λ (o : Option (Text × List Row)). AsksForCauses o c.explains_in-explains.result) met c.explains_in-explains.ensures);
+      held = c.in_ok-command_of-2.ensures.held ∙ c.held_in.ensures ∙ ap held_met met;
       taken = sym (faults_in-words queues whens _ c.args.words.now _ _ line c.is_empty.ensures c.if-is_empty.false) ∙ c.in_ok-matches.ensures.kinds free;
     }

@@ -15,5 +15,9 @@ returns-clause-ok g c =
       answers = answers;
       cause = cause;
       right = says history c.in_ok-found.found answers;
-      written = rw c.deref-2.ensures.value at c.in_ok-tell.ensures.ok;
+      written = rw c.deref-3.ensures.value at c.in_ok-tell.ensures.ok;
     }
+
+pub returns-clause-overlap : goal.returns-clause-overlap
+returns-clause-overlap g c =
+    (c.in_ok-given.given.text.items, c.in_ok-given.ensures.ok.read, rw c.deref-2.ensures.value at c.in_ok-overlap.ensures.ok)

@@ -1,47 +1,13 @@
-use Rattle.std.proofs.Common.{◌≡◌, arith, sym, ◌∙◌, subst}
-use Rattle.std.proofs.lemmas.Bool.{eqb-true}
-use Rattle.std.proofs.lemmas.List.{nil_from_length}
-use Rattle.std.proofs.lemmas.Result.{err_from_is_err_and}
-use Rattle.recording_text.specs.RecordingReading.{known_by}
-use Rattle.recording_text.proofs.Steps.{HasRead, HasRead-more, HasRead-room, fault-end, fault-operation, fault-extra, whole-recording, not_empty}
+use Rattle.std.proofs.Common.{◌≡◌, [], rules, subst}
+use Rattle.std.proofs.lemmas.Result.{IfOk-weaker}
+use Rattle.recording_text.proofs.Steps.{stands-alone}
+use Rattle.recording_text.specs.RecordingReading.{StandsFor, StandsBehind, known_by}
 use Rattle.recording_text.proofs.parsing.parse_recording.Goals as goal
 
-pub returns-in_err-line-clause-err : goal.returns-in_err-line-clause-err
-returns-in_err-line-clause-err c =
-    let e = c.in_err-line.ensures.err in
-    let p = err_from_is_err_and c.from_residual-in_err-line.result c.from_residual-in_err-line.ensures.1 in
-    rw (p.1, p.2, e.0)
-    (fault-end c.in_ok-count.count c.args.text.now c.loop-place.rest.now c.loop-place.place (known_by c.loop-place.known) c.loop-place.operations.items
-    c.loop-place.invariant c.loop-place-test.true e.1)
-
-pub keep-requires : goal.keep-requires
-keep-requires c =
-    HasRead-room c.in_ok-count.count c.args.text.now c.loop-place.rest.now c.loop-place.place (known_by c.loop-place.known) c.loop-place.operations.items
-    c.loop-place.invariant c.loop-place-test.true
-
-pub returns-in_err-keep-clause-err : goal.returns-in_err-keep-clause-err
-returns-in_err-keep-clause-err c =
-    let line = c.in_ok-line.ensures.ok in
-    let p = err_from_is_err_and c.from_residual-in_err-keep.result c.from_residual-in_err-keep.ensures.1 in
-    rw (p.1, p.2)
-    (fault-operation c.in_ok-count.count c.args.text.now c.loop-place.rest.now c.in_ok-line.line.now c.in_ok-line.later.now c.loop-place.place (known_by c.loop-place.known)
-    c.loop-place.operations.items c.in_err-keep.field-0.0 c.loop-place.invariant c.loop-place-test.true line.1 line.0 c.in_err-keep.ensures.err)
-
-pub loop-place-preserved : goal.loop-place-preserved
-loop-place-preserved c =
-    HasRead-more c.in_ok-count.count c.args.text.now c.loop-place.rest.now c.in_ok-line.line.now c.in_ok-line.later.now c.loop-place.place (known_by c.loop-place.known)
-    (known_by c.keep.new.known) c.loop-place.operations.items c.keep.new.operations.items c.loop-place.invariant c.loop-place-test.true c.in_ok-line.ensures.ok.1 c.in_ok-keep.ensures.ok
-
-pub returns-then-is_empty-clause-ok : goal.returns-then-is_empty-clause-ok
-returns-then-is_empty-clause-ok c =
-    let all : c.loop-place.place ≡ c.in_ok-count.count = omega (arith, c.loop-place-test.false, c.loop-place.auto.place-end) in
-    whole-recording c.in_ok-count.count c.args.text.now c.loop-place.rest.now (known_by c.loop-place.known) c.loop-place.operations.items
-    (subst (λ place. HasRead c.in_ok-count.count c.args.text.now c.loop-place.rest.now place (known_by c.loop-place.known) c.loop-place.operations.items) all c.loop-place.invariant)
-    (nil_from_length _ (eqb-true _ _ (sym c.is_empty.ensures ∙ c.if-is_empty.true)))
-
-pub returns-clause-err : goal.returns-clause-err
-returns-clause-err c =
-    let all : c.loop-place.place ≡ c.in_ok-count.count = omega (arith, c.loop-place-test.false, c.loop-place.auto.place-end) in
-    fault-extra c.in_ok-count.count c.args.text.now c.loop-place.rest.now (known_by c.loop-place.known) c.loop-place.operations.items
-    (subst (λ place. HasRead c.in_ok-count.count c.args.text.now c.loop-place.rest.now place (known_by c.loop-place.known) c.loop-place.operations.items) all c.loop-place.invariant)
-    (not_empty c.loop-place.rest.now c.is_empty.result c.is_empty.ensures c.if-is_empty.false)
+pub returns-clause-ok : goal.returns-clause-ok
+returns-clause-ok c =
+    let text = c.args.text.now in
+    let new = known_by c.parse_behind.new.known in
+    let none : known_by c.new-known.result ≡ [] = search rules in
+    IfOk-weaker c.parse_behind.result (λ ops. StandsBehind (known_by c.new-known.result) new text ops.items) (λ ops. StandsFor text ops.items)
+    (λ ops is. stands-alone new text ops.items (subst (λ start. StandsBehind start new text ops.items) none is)) c.parse_behind.ensures.ok
