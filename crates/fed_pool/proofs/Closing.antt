@@ -122,9 +122,9 @@ module _ {Q S V U T A : Type 0} (is_seat : Q → S → Type 0) (permits : Q → 
           ending.answered_once answers (stands crew.led.leader.feed) g o crew.led.leader.given crew.led.leader.awaited so ks os t.items t.dones t.sent (unsent_of (map result_in ws))
           t.popped t.pushed t.given t.taken t.done t.all rest untold tasks_once results_once
 
-      -- and none is left where all was told
-      pub none_left : crew.led.leader.awaited ≡ 0 → left_in rest ≡ []
-      none_left =
+      -- and nothing is left where all was told
+      pub nothing_left : crew.led.leader.awaited ≡ 0 → (left_in rest ≡ []) × ((left_in untold ≡ []) × (unsent_of (map result_in ws) ≡ []))
+      nothing_left =
           let t = all_ws in
-          ending.none_left answers (stands crew.led.leader.feed) g o crew.led.leader.given crew.led.leader.awaited so ks os t.items t.dones t.sent (unsent_of (map result_in ws))
+          ending.nothing_left answers (stands crew.led.leader.feed) g o crew.led.leader.given crew.led.leader.awaited so ks os t.items t.dones t.sent (unsent_of (map result_in ws))
           t.popped t.pushed t.given t.taken t.done t.all rest untold tasks_once results_once

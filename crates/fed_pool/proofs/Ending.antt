@@ -100,8 +100,8 @@ module _ {T A : Type 0} (answers : T → A → Type 0) (stands : List T → List
   answered_once = record { ran = ran; dones = ran_done; each = each; came = results_all; all = tasks_all }
 
   -- where all that was handed out was told nothing is left
-  pub none_left : awaited ≡ 0 → left_in rest ≡ []
-  none_left ended =
+  pub nothing_left : awaited ≡ 0 → (left_in rest ≡ []) × ((left_in results ≡ []) × (unsent ≡ []))
+  nothing_left ended =
       let a = length_permutation so.pushed ((mine ++ theirs) ++ left) pushed_once in
       let b = length-append (mine ++ theirs) left in
       let c = length-append mine theirs in
@@ -115,7 +115,8 @@ module _ {T A : Type 0} (answers : T → A → Type 0) (stands : List T → List
       let v = length-append (map value_in so.received) untold in
       let w = length-map so.received value_in in
       let l = so.still_awaited in
-      empty (left_in rest) (omega (arith, ended, a, b, c, d, e, f, z, s, t, u, v, w, l))
+      let x = length-map (left_in results) value_in in
+      (empty (left_in rest) (omega (arith, ended, a, b, c, d, e, f, z, s, t, u, v, w, l)), (empty (left_in results) (omega (arith, ended, a, b, c, d, e, f, z, s, t, u, v, w, l, x)), empty unsent (omega (arith, ended, a, b, c, d, e, f, z, s, t, u, v, w, l, x))))
     where
       empty : {X : Type 0} (xs : List X) → length xs ≡ 0 → xs ≡ []
       empty [] h = refl

@@ -25,3 +25,8 @@ module _ {T A : Type 0} (stands : List T → List (Done A) → Type 0) where
       → (given : List T) (told : List (Done A)) → stands given told → stands' given (told ++ all)
   told_all stands' rest all h none given told so =
       subst (λ l. stands' given (told ++ l)) (sym (append-nil h.before) ∙ ap (λ l. h.before ++ l) (sym none) ∙ h.split) (h.tells given told so)
+
+-- a list with an element isn't empty
+pub not_empty : {X Y : Type 0} (before rest : List X) (x : X) (all : List X) → before ++ x ∷ rest ≡ all → all ≡ [] → Y
+not_empty [] rest x all same none = absurd (let e : x ∷ rest ≡ [] = same ∙ none in cc)
+not_empty (y ∷ before) rest x all same none = absurd (let e : y ∷ (before ++ x ∷ rest) ≡ [] = same ∙ none in cc)

@@ -1,5 +1,5 @@
 //! The threads of workers.
-ghost use Rattle.std.specs.Prelude.{◌≡◌, []};
+ghost use Rattle.std.specs.Prelude.{◌≡◌, [], None};
 ghost use Rattle.std.specs.List.{All};
 ghost use denote.Param.Send.{IsSend, IsSync};
 ghost use Rattle.blocking_carrier.specs.Queues.{queue_of};
@@ -46,8 +46,10 @@ fn lead_team<
 ) -> Crew<C::Seat, D::Seat, F, Result<T::Output, T::Error>>
     requires { IsTeam C.is_seat C.permits C.known D.is_seat D.permits D.known T.answers F.stands
         (queue_of tasks.now) (queue_of results.now) team }
-    ensures { HasCrew C.is_seat C.permits C.known D.is_seat D.permits D.known T.answers F.stands
+    ensures crew { HasCrew C.is_seat C.permits C.known D.is_seat D.permits D.known T.answers F.stands
         (queue_of tasks.now) (queue_of results.now) [] team result }
+    ensures kept { F.kept result.led.leader.feed ≡ F.kept team.leader.feed }
+    ensures idle { result.led.refused ≡ None → F.idle result.led.leader.feed }
 {
     let Team { leader, workers } = team;
     let led = lead(rt, tasks, results, leader, stop);
@@ -78,8 +80,10 @@ pub(crate) fn run_crew<
     requires team { IsTeam C.is_seat C.permits C.known D.is_seat D.permits D.known T.answers F.stands
         (queue_of tasks.now) (queue_of results.now) team }
     requires room { HasRoomFor posts.items team }
-    ensures { HasCrew C.is_seat C.permits C.known D.is_seat D.permits D.known T.answers F.stands
+    ensures crew { HasCrew C.is_seat C.permits C.known D.is_seat D.permits D.known T.answers F.stands
         (queue_of tasks.now) (queue_of results.now) posts.items team result }
+    ensures kept { F.kept result.led.leader.feed ≡ F.kept team.leader.feed }
+    ensures idle { result.led.refused ≡ None → F.idle result.led.leader.feed }
 {
     let Some(post) = posts.pop() else {
         return lead_team(rt, tasks, results, team, stop);
@@ -98,8 +102,10 @@ pub(crate) fn run_crew<
         requires team { IsTeam C.is_seat C.permits C.known D.is_seat D.permits D.known T.answers
             F.stands (queue_of tasks.now) (queue_of results.now) team }
         requires room { HasRoomFor posts.items team }
-        ensures { HasCrew C.is_seat C.permits C.known D.is_seat D.permits D.known T.answers F.stands
+        ensures crew { HasCrew C.is_seat C.permits C.known D.is_seat D.permits D.known T.answers F.stands
             (queue_of tasks.entry.now) (queue_of results.entry.now) posts.items team result }
+        ensures kept { F.kept result.led.leader.feed ≡ F.kept team.leader.feed }
+        ensures idle { result.led.refused ≡ None → F.idle result.led.leader.feed }
     { run_crew(rt, tasks, results, posts, team, stop) };
     let (served, mut crew) = join(rt, one, others);
     crew.workers.push_reserved(served);

@@ -1,5 +1,5 @@
 //! What feeds a pool.
-ghost use Rattle.std.specs.Prelude.{◌∷◌, [], ◌++◌, List, Result};
+ghost use Rattle.std.specs.Prelude.{◌≡◌, ◌∷◌, [], ◌++◌, List, Result, None};
 ghost use Rattle.tasks.specs.declared.answers.Done.{Done};
 ghost use Rattle.fed_pool.specs.Feeds.{StandsAfter};
 
@@ -11,6 +11,14 @@ pub trait Feed<T: Task>: Drop {
     // It stands so after it gave these tasks, in order, and was told these results.
     ghost stands: { Self → List T → List (Done (Result T.Output T.Error)) → Type 0 };
 
+    // What it keeps in each of its calls: so what it began with is known of it at the end.
+    ghost Kept: { Type 0 };
+
+    ghost kept: { Self → Kept };
+
+    // It has no task until another result is told.
+    ghost idle: { Self → Type 0 };
+
     /// The next task; none where there is none until another result is told, and for good where none is to come.
     ///
     /// ```rust
@@ -19,10 +27,12 @@ pub trait Feed<T: Task>: Drop {
     /// }
     /// ```
     fn next(&mut self) -> Option<T>
-        //= tasks/feed: What its type says of a feed, by the tasks that it gave and the results that it was told, is so after
-        //=   each of its calls.
-        ensures { (given : List T) (told : List (Done (Result T.Output T.Error)))
-            → stands self.old given told → StandsAfter (stands self.new) given told result };
+        //= tasks/feed (stands, kept, idle): What its type says of a feed, by the tasks that it gave and the results that it
+        //=   was told, is so after each of its calls, and what it keeps is as before. One that gives no task is idle.
+        ensures stands { (given : List T) (told : List (Done (Result T.Output T.Error)))
+            → stands self.old given told → StandsAfter (stands self.new) given told result }
+        ensures kept { kept self.new ≡ kept self.old }
+        ensures idle { result ≡ None → idle self.new };
 
     /// Takes the result of a task: its number tells which, in the order in which they were given, from 0 on.
     ///
@@ -35,6 +45,7 @@ pub trait Feed<T: Task>: Drop {
     /// ```
     fn tell(&mut self, done: Done<Result<T::Output, T::Error>>)
         //= tasks/feed
-        ensures { (given : List T) (told : List (Done (Result T.Output T.Error)))
-            → stands self.old given told → stands self.new given (told ++ done ∷ []) };
+        ensures stands { (given : List T) (told : List (Done (Result T.Output T.Error)))
+            → stands self.old given told → stands self.new given (told ++ done ∷ []) }
+        ensures kept { kept self.new ≡ kept self.old };
 }

@@ -46,8 +46,9 @@ fn take_result<
 ) -> Result<bool, Refusal>
     requires { IsLeading C.is_seat C.permits C.known D.is_seat D.permits D.known T.answers F.stands
         (queue_of tasks.now) (queue_of results.now) leader.old }
-    ensures { GoesOn C.is_seat C.permits C.known D.is_seat D.permits D.known T.answers F.stands
-        (queue_of tasks.now) (queue_of results.now) leader.old leader.new }
+    ensures leading { GoesOn C.is_seat C.permits C.known D.is_seat D.permits D.known T.answers
+        F.stands (queue_of tasks.now) (queue_of results.now) leader.old leader.new }
+    ensures kept { F.kept leader.new.feed ≡ F.kept leader.old.feed }
 {
     let Some(awaited) = leader.awaited.checked_sub(1) else {
         return Ok(false);
@@ -62,7 +63,8 @@ fn take_result<
     }
 }
 
-// Hands out the next task; false where there is none now. One that can't be pushed is run here.
+// Hands out the next task; false where there is none now. One that can't be pushed is run here. Refused by `BadSize` where there
+// is no number for a further one.
 fn hand_out<
     R: Wait,
     T: Task,
@@ -74,25 +76,27 @@ fn hand_out<
     tasks: &BlockingCarrier<C>,
     results: &BlockingCarrier<D>,
     leader: &mut Leader<C::Seat, D::Seat, F>,
-) -> bool
+) -> Result<bool, Refusal>
     requires { IsLeading C.is_seat C.permits C.known D.is_seat D.permits D.known T.answers F.stands
         (queue_of tasks.now) (queue_of results.now) leader.old }
-    ensures { GoesOn C.is_seat C.permits C.known D.is_seat D.permits D.known T.answers F.stands
-        (queue_of tasks.now) (queue_of results.now) leader.old leader.new }
+    ensures leading { GoesOn C.is_seat C.permits C.known D.is_seat D.permits D.known T.answers
+        F.stands (queue_of tasks.now) (queue_of results.now) leader.old leader.new }
+    ensures kept { F.kept leader.new.feed ≡ F.kept leader.old.feed }
+    ensures idle { IfOk result (λ given. IsTrue given ⊎ F.idle leader.new.feed) }
 {
     let number = leader.given;
-    if number == usize::MAX {
-        return false;
-    }
-    let Some(task) = leader.feed.next() else {
-        return false;
+    let Some(given) = number.checked_add(1) else {
+        return Err(Refusal::BadSize);
     };
-    leader.given += 1;
+    let Some(task) = leader.feed.next() else {
+        return Ok(false);
+    };
+    leader.given = given;
     match tasks.push(rt, &mut leader.tasks, Numbered { number, task }) {
         Ok(()) => leader.awaited += 1,
         Err(Unpushed { refusal: _, value }) => leader.feed.tell(value.run()),
     }
-    true
+    Ok(true)
 }
 
 // Runs a task here that no worker took yet; false where there is none.
@@ -113,6 +117,7 @@ fn help<
     requires awaited { 0 < leader.old.awaited }
     ensures leading { GoesOn C.is_seat C.permits C.known D.is_seat D.permits D.known T.answers
         F.stands (queue_of tasks.now) (queue_of results.now) leader.old leader.new }
+    ensures kept { F.kept leader.new.feed ≡ F.kept leader.old.feed }
     ensures same { IfOk result (λ ran. IsTrue ran ⊎ (leader.new.awaited ≡ leader.old.awaited)) }
 {
     match tasks.pop(rt, &mut leader.tasks)? {
@@ -141,8 +146,9 @@ fn wait_for<
     requires leading { IsLeading C.is_seat C.permits C.known D.is_seat D.permits D.known T.answers
         F.stands (queue_of tasks.now) (queue_of results.now) leader.old }
     requires awaited { 0 < leader.old.awaited }
-    ensures { GoesOn C.is_seat C.permits C.known D.is_seat D.permits D.known T.answers F.stands
-        (queue_of tasks.now) (queue_of results.now) leader.old leader.new }
+    ensures leading { GoesOn C.is_seat C.permits C.known D.is_seat D.permits D.known T.answers
+        F.stands (queue_of tasks.now) (queue_of results.now) leader.old leader.new }
+    ensures kept { F.kept leader.new.feed ≡ F.kept leader.old.feed }
 {
     let front = results.recv(rt, &mut leader.results)?;
     leader.awaited -= 1;
@@ -167,9 +173,11 @@ fn turn<
         (queue_of tasks.now) (queue_of results.now) leader.old }
     ensures leading { GoesOn C.is_seat C.permits C.known D.is_seat D.permits D.known T.answers
         F.stands (queue_of tasks.now) (queue_of results.now) leader.old leader.new }
+    ensures kept { F.kept leader.new.feed ≡ F.kept leader.old.feed }
     ensures ended { IfOk result (λ more. IsTrue more ⊎ (leader.new.awaited ≡ 0)) }
+    ensures idle { IfOk result (λ more. IsTrue more ⊎ F.idle leader.new.feed) }
 {
-    if take_result(rt, tasks, results, leader)? || hand_out(rt, tasks, results, leader) {
+    if take_result(rt, tasks, results, leader)? || hand_out(rt, tasks, results, leader)? {
         return Ok(true);
     }
     if leader.awaited == 0 {
@@ -198,7 +206,9 @@ fn lead_on<
         (queue_of tasks.now) (queue_of results.now) leader.old }
     ensures leading { GoesOn C.is_seat C.permits C.known D.is_seat D.permits D.known T.answers
         F.stands (queue_of tasks.now) (queue_of results.now) leader.old leader.new }
+    ensures kept { F.kept leader.new.feed ≡ F.kept leader.old.feed }
     ensures ended { result ≡ None → leader.new.awaited ≡ 0 }
+    ensures idle { result ≡ None → F.idle leader.new.feed }
 {
     for _ in rt.forever() {
         match turn(rt, tasks, results, leader) {
@@ -250,10 +260,13 @@ pub(crate) fn lead<
 ) -> Led<C::Seat, D::Seat, F>
     requires { IsLeading C.is_seat C.permits C.known D.is_seat D.permits D.known T.answers F.stands
         (queue_of tasks.now) (queue_of results.now) leader }
-    //= tasks/led_on: Who hands out the tasks pushes each that it is given under its own number, or runs it, and tells each
-    //=   result that comes; then it shuts the queue of tasks, or finds it shut, or tells why it couldn't.
-    ensures { HasEnded C.is_seat C.permits C.known D.is_seat D.permits D.known T.answers F.stands
+    //= tasks/led_on (ended, kept, idle): Who hands out the tasks pushes each that it is given under its own number, or runs
+    //=   it, and tells each result that comes, until the feed is idle and all is told; then it shuts the queue of tasks, or
+    //=   finds it shut, or tells why it couldn't.
+    ensures ended { HasEnded C.is_seat C.permits C.known D.is_seat D.permits D.known T.answers F.stands
         (queue_of tasks.now) (queue_of results.now) leader result }
+    ensures kept { F.kept result.leader.feed ≡ F.kept leader.feed }
+    ensures idle { result.refused ≡ None → F.idle result.leader.feed }
 {
     let refused = lead_on(rt, tasks, results, &mut leader);
     if refused.is_some() {

@@ -117,10 +117,12 @@ pub fn run_feed<R: Threads + Wait + Sync, T: Task, F: Feed<T>>(
     room: u32,
 ) -> Result<Fed<F, T>, Unstarted<F>>
     requires { F.stands feed [] [] }
-    //= tasks/run_feed (told, all, feed, only_memory): Over two new queues each task that a feed gave is told of once, as by
+    //= tasks/run_feed (told, all, kept, idle, feed, only_memory): Over two new queues each task that a feed gave is told of once, as by
     //=   `run_fed`; where memory is refused the feed comes back as it was.
     ensures told { IfOk result (HasFed T.answers F.stands) }
     ensures all { IfOk result (λ fed. fed.refused ≡ None → left_in fed.left ≡ []) }
+    ensures kept { IfOk result (λ fed. F.kept fed.feed ≡ F.kept feed) }
+    ensures idle { IfOk result (λ fed. fed.refused ≡ None → F.idle fed.feed) }
     ensures feed { IfErr result (λ unstarted. unstarted.feed ≡ feed) }
     ensures only_memory { IfErr result (λ unstarted. unstarted.refusal ≡ Refusal.Memory) }
 {

@@ -1,5 +1,6 @@
 //! A pool that is fed: the tasks that it is given are run by its workers, and each result is told.
 ghost use Rattle.std.specs.Prelude.{◌≡◌, ◌+◌, ◌++◌, ◌≤◌, ℕ, [], List, Result, length, map, None, vec_capacity, IfOk, IfErr};
+ghost use Rattle.carriers.specs.Closing.{AsksSoMany};
 ghost use Rattle.carriers.specs.Rests.{left_in};
 ghost use Rattle.tasks.specs.declared.answers.Done.{Done};
 ghost use Rattle.fed_pool.specs.Answered.{value_in};
@@ -148,9 +149,11 @@ fn part<S: Drop, U: Drop, A: Drop>(workers: Vec<Served<S, U, A>>, parts: &mut Pa
 
 // Tells the results that are left in their queue.
 fn tell_left<T: Task, F: Feed<T>>(feed: &mut F, rest: RestOf<Done<Result<T::Output, T::Error>>>)
-    ensures { (given : List T) (told : List (Done (Result T.Output T.Error)))
+    ensures told { (given : List T) (told : List (Done (Result T.Output T.Error)))
         → F.stands feed.old given told
         → F.stands feed.new given (told ++ map value_in (left_in rest)) }
+    ensures kept { F.kept feed.new ≡ F.kept feed.old }
+    ensures same { left_in rest ≡ [] → feed.new ≡ feed.old }
 {
     for item in rest {
         feed.tell(item.value);
@@ -162,9 +165,11 @@ fn tell_unsent<T: Task, F: Feed<T>>(
     feed: &mut F,
     unsent: Vec<Option<Done<Result<T::Output, T::Error>>>>,
 )
-    ensures { (given : List T) (told : List (Done (Result T.Output T.Error)))
+    ensures told { (given : List T) (told : List (Done (Result T.Output T.Error)))
         → F.stands feed.old given told
         → F.stands feed.new given (told ++ unsent_of unsent.items) }
+    ensures kept { F.kept feed.new ≡ F.kept feed.old }
+    ensures same { unsent_of unsent.items ≡ [] → feed.new ≡ feed.old }
 {
     for done in unsent {
         if let Some(done) = done {
@@ -189,11 +194,16 @@ fn closed<
 ) -> Fed<F, T>
     requires room { C.has_room tasks room }
     requires results_room { D.has_room results results_room }
+    requires tasks_asked { AsksSoMany C.asks tasks (length crew.workers.items + 1) }
+    requires results_asked { AsksSoMany D.asks results (length crew.workers.items + 1) }
     requires parts { IsNew (length crew.workers.items + 1) parts }
     requires ended { AllEnded C.is_seat C.permits C.known D.is_seat D.permits D.known T.answers
         F.stands tasks results crew }
+    requires idle { crew.led.refused ≡ None → F.idle crew.led.leader.feed }
     ensures told { HasFed T.answers F.stands result }
     ensures all { result.refused ≡ None → left_in result.left ≡ [] }
+    ensures kept { F.kept result.feed ≡ F.kept crew.led.leader.feed }
+    ensures idle { result.refused ≡ None → F.idle result.feed }
     ensures joined { length result.ends.items ≡ length crew.workers.items }
 {
     let Crew { led, workers } = crew;
@@ -251,11 +261,15 @@ fn run_in<
     requires tasks { IsLine C.is_seat C.permits C.known tasks }
     requires results { IsLine D.is_seat D.permits D.known results }
     requires same { length tasks.seats.items ≡ length results.seats.items }
+    requires tasks_asked { AsksSoMany C.asks tasks.queue (length tasks.seats.items) }
+    requires results_asked { AsksSoMany D.asks results.queue (length results.seats.items) }
     requires room { C.has_room tasks.queue room }
     requires results_room { D.has_room results.queue results_room }
     requires space { IsSpace (length tasks.seats.items) space }
     ensures told { HasFed T.answers F.stands result }
     ensures all { result.refused ≡ None → left_in result.left ≡ [] }
+    ensures kept { F.kept result.feed ≡ F.kept feed }
+    ensures idle { result.refused ≡ None → F.idle result.feed }
     ensures joined { length result.ends.items + 1 ≡ length tasks.seats.items }
 {
     let queue = BlockingCarrier::new(tasks.queue);
@@ -316,10 +330,15 @@ pub fn run_fed<
     requires tasks { IsLine C.is_seat C.permits C.known tasks }
     requires results { IsLine D.is_seat D.permits D.known results }
     requires same { length tasks.seats.items ≡ length results.seats.items }
-    //= tasks/fed (told, all, joined): Each task that a feed gave is told of once: its own result was told, under its number,
-    //=   or it is handed back. Where no call of who tells the results was refused, none is handed back. Each worker has ended.
+    requires tasks_asked { AsksSoMany C.asks tasks.queue (length tasks.seats.items) }
+    requires results_asked { AsksSoMany D.asks results.queue (length results.seats.items) }
+    //= tasks/fed (told, all, kept, idle, joined): Each task that a feed gave is told of once: its own result was told, under
+    //=   its number, or it is handed back. Where no call of who tells the results was refused, none is handed back, and the
+    //=   feed is idle. What it keeps is as before. Each worker has ended.
     ensures told { IfOk result (HasFed T.answers F.stands) }
     ensures all { IfOk result (λ fed. fed.refused ≡ None → left_in fed.left ≡ []) }
+    ensures kept { IfOk result (λ fed. F.kept fed.feed ≡ F.kept feed) }
+    ensures idle { IfOk result (λ fed. fed.refused ≡ None → F.idle fed.feed) }
     ensures joined { IfOk result (λ fed. length fed.ends.items + 1 ≡ length tasks.seats.items) }
     //= tasks/unfed (feed, tasks, results): Where memory is refused the feed wasn't asked for a task, and all comes back.
     ensures feed { IfErr result (λ unfed. unfed.feed ≡ feed) }

@@ -10,16 +10,16 @@ use tasks::{Done, End, Task};
 
 /// So many tasks, one after another; how many results were told, and how many of them weren't their task's own.
 #[derive(Drop)]
-struct Row {
+pub(super) struct Row {
     calls: Calls,
-    given: u64,
+    pub(super) given: u64,
     most: u64,
-    told: u64,
-    wrong: u64,
+    pub(super) told: u64,
+    pub(super) wrong: u64,
 }
 
 impl Row {
-    fn new(calls: Calls, most: u64) -> Row {
+    pub(super) fn new(calls: Calls, most: u64) -> Row {
         Row {
             calls,
             given: 0,
@@ -32,6 +32,12 @@ impl Row {
 
 impl Feed<Counting> for Row {
     ghost stands = { λ _ _ _. Unit {0} };
+
+    ghost Kept = { Unit {0} };
+
+    ghost kept = { λ _. tt };
+
+    ghost idle = { λ _. Unit {0} };
 
     fn next(&mut self) -> Option<Counting> {
         if self.given >= self.most {
@@ -131,6 +137,12 @@ struct Tree {
 
 impl Feed<Node> for Tree {
     ghost stands = { λ _ _ _. Unit {0} };
+
+    ghost Kept = { Unit {0} };
+
+    ghost kept = { λ _. tt };
+
+    ghost idle = { λ _. Unit {0} };
 
     fn next(&mut self) -> Option<Node> {
         let height = self.waiting.pop()?;

@@ -1,8 +1,14 @@
 //! Tasks where memory is refused: all come back, or each is answered.
-use super::counting::{Calls, calls, others, same, tasks, wanted};
+use super::counting::{Calls, Counting, calls, others, same, tasks, wanted};
+use super::fed::Row;
 use executor::{Unstarted, run_all};
+use fed_pool::run_feed;
 use history::Refusal;
+use std::alloc::Global;
+use std::process::Abort;
+use std::sync::{Arc, Wait};
 use std::test::Fail;
+use std::thread::Threads;
 
 /// How many tasks there are.
 const MANY: u64 = 20;
@@ -47,5 +53,28 @@ fn a_refused_allocation_is_told_once(rt: HostRuntime) -> Result<(), Fail> {
         (MANY, 0),
         "each was run once",
     );
+    feed_is_told_once(&rt, alloc, &calls)
+}
+
+// Where one allocation of a fed pool is refused its feed wasn't asked, and comes back to be run by the next call.
+fn feed_is_told_once<R: Threads + Wait + Sync + Abort>(
+    rt: &R,
+    alloc: Global,
+    calls: &Calls,
+) -> Result<(), Fail> {
+    let row = Row::new(Arc::try_clone(calls)?, MANY);
+    let fed = match run_feed::<_, Counting, _>(rt, alloc, row, Some(2), 4) {
+        Ok(fed) => fed,
+        Err(unfed) => {
+            let told = (unfed.refusal, unfed.feed.given, unfed.feed.told);
+            same(rt, told, (Refusal::Memory, 0, 0), "the feed comes back");
+            match run_feed::<_, Counting, _>(rt, alloc, unfed.feed, Some(2), 4) {
+                Ok(fed) => fed,
+                Err(unfed) => return Err(Fail::from(unfed.refusal)),
+            }
+        }
+    };
+    let found = (fed.feed.told, fed.feed.wrong, others(calls, 2));
+    same(rt, found, (MANY, 0, 0), "each was run once more");
     Ok(())
 }

@@ -35,7 +35,7 @@ pub push_reserved-requires : goal.push_reserved-requires
 push_reserved-requires g t c =
     let C = g.C.Carrier in
     let D = g.D.Carrier in
-    let crew = c.join-served.ensures.second in
+    let crew = c.join-served.ensures.second.0 in
     let many = as_many C.is_seat C.permits C.known D.is_seat D.permits D.known g.T.Task.answers (queue_of c.args.tasks.now) (queue_of c.args.results.now) _ _ crew.back in
     let split = ap length c.in-Some.ensures.items in
     let parts = length-append c.pop.new.self.items (c.in-Some.post ∷ []) in
@@ -43,11 +43,11 @@ push_reserved-requires g t c =
     let same = crew.room in
     omega (arith, many, split, parts, room, same)
 
-pub returns : goal.returns
-returns g t c =
+pub returns-clause-crew : goal.returns-clause-crew
+returns-clause-crew g t c =
     let C = g.C.Carrier in
     let D = g.D.Carrier in
-    let crew = c.join-served.ensures.second in
+    let crew = c.join-served.ensures.second.0 in
     let Back = IsServed C.is_seat C.permits C.known D.is_seat D.permits D.known g.T.Task.answers (queue_of c.args.tasks.now) (queue_of c.args.results.now) in
     let ws = c.join-served.result.1.workers.items in
     let both = zip-push Back c.pop.new.self.items ws c.in-Some.post c.join-served.result.0 crew.back c.join-served.ensures.first in

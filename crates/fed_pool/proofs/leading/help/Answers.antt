@@ -28,7 +28,7 @@ returns-in-Some-clause-leading g c =
     let popped = subst (λ a. PopAnswersOf k a k') c.in-Some.is c.in_ok-front.ensures.answer in
     let some = c.requires.awaited in
     goes_tasks C.is_seat C.permits C.known D.is_seat D.permits D.known g.T.Task.answers g.F.Feed.stands _ _ l c.requires.leading c.pop.new.seat c.tell.new.self l.given _ c.pop.ensures.seat c.pop.ensures.number
-    (leads_helped g.T.Task.answers (g.F.Feed.stands l.feed) k k' o o l.given l.awaited c.requires.leading.so (g.F.Feed.stands c.tell.new.self) c.run.result c.tell.ensures _ (omega (arith, some)) front popped c.run.ensures)
+    (leads_helped g.T.Task.answers (g.F.Feed.stands l.feed) k k' o o l.given l.awaited c.requires.leading.so (g.F.Feed.stands c.tell.new.self) c.run.result c.tell.ensures.stands _ (omega (arith, some)) front popped c.run.ensures)
 
 pub returns-in-None-clause-leading : goal.returns-in-None-clause-leading
 returns-in-None-clause-leading g c =

@@ -4,8 +4,8 @@ use Rattle.fed_pool.proofs.Handing.{leads_on}
 use Rattle.fed_pool.proofs.Going.{goes_tasks, goes_on}
 use Rattle.fed_pool.proofs.leading.lead.Goals as goal
 
-pub returns : goal.returns
-returns g c =
+pub returns-clause-ended : goal.returns-clause-ended
+returns-clause-ended g c =
     let C = g.C.Carrier in
     let D = g.D.Carrier in
     let l = c.lead_on-refused.new.leader in

@@ -5,8 +5,8 @@ use Rattle.fed_pool.proofs.Handing.{leads_same, leads_told}
 use Rattle.fed_pool.proofs.Going.{goes_results}
 use Rattle.fed_pool.proofs.leading.wait_for.Goals as goal
 
-pub returns-in_err-front : goal.returns-in_err-front
-returns-in_err-front g c =
+pub returns-in_err-front-clause-leading : goal.returns-in_err-front-clause-leading
+returns-in_err-front-clause-leading g c =
     let C = g.C.Carrier in
     let D = g.D.Carrier in
     let l = c.args.leader.now in
@@ -16,8 +16,8 @@ returns-in_err-front g c =
     goes_results C.is_seat C.permits C.known D.is_seat D.permits D.known g.T.Task.answers g.F.Feed.stands _ _ l c.requires.leading c.recv.new.seat l.feed l.awaited c.recv.ensures.seat c.recv.ensures.number
     (leads_same g.T.Task.answers (g.F.Feed.stands l.feed) k k o o' l.given l.awaited c.requires.leading.so refl refl (recv_refused_mine o o' _ c.in_err-front.ensures.refused))
 
-pub returns : goal.returns
-returns g c =
+pub returns-clause-leading : goal.returns-clause-leading
+returns-clause-leading g c =
     let C = g.C.Carrier in
     let D = g.D.Carrier in
     let l = c.args.leader.now in
@@ -29,5 +29,5 @@ returns g c =
     let some = c.requires.awaited in
     let n = got.last.number in
     goes_results C.is_seat C.permits C.known D.is_seat D.permits D.known g.T.Task.answers g.F.Feed.stands _ _ l c.requires.leading c.recv.new.seat c.tell.new.self _ c.recv.ensures.seat c.recv.ensures.number
-    (leads_told g.T.Task.answers (g.F.Feed.stands l.feed) k k o o' l.given l.awaited c.requires.leading.so (g.F.Feed.stands c.tell.new.self) front.value c.tell.ensures _ (omega (arith, some)) n front refl
+    (leads_told g.T.Task.answers (g.F.Feed.stands l.feed) k k o o' l.given l.awaited c.requires.leading.so (g.F.Feed.stands c.tell.new.self) front.value c.tell.ensures.stands _ (omega (arith, some)) n front refl
     (got.popped.mine ∙ (λ i. got.waited.mine i ++ did_pop n front ∷ [])))
