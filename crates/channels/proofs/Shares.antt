@@ -9,7 +9,7 @@ use Rattle.blocking_carrier.specs.declared.queue.BlockingCarrier.{BlockingCarrie
 use Rattle.blocking_carrier.specs.Queues.{queue_of}
 use Rattle.channels.specs.declared.sender.Sender.{Sender}
 use Rattle.channels.specs.declared.receiver.Receiver.{Receiver}
-use Rattle.channels.specs.declared.sides.Closer.{Closer}
+use Rattle.channels.specs.declared.closers.Closer.{Closer}
 use Rattle.channels.specs.Handles.{sender_queue, receiver_queue}
 use Rattle.channels.specs.Seats.{IsGiver, IsTaker}
 
@@ -74,6 +74,9 @@ module _ {C A S : Type 0} {carrier : Ghosts C A S} (prop : (q : C) (s : S) → I
       ∣ subst (λ x. IsGiver carrier.is_seat carrier.permits carrier.known x after) (sym e)
       (here, subst (λ n. MayPush (carrier.permits q) n) (sym same) (sender_of q h e).1) ∣₁
 
-  -- the seat that shuts a side of this queue is the queue's
-  pub shuts_in : (b : BlockingCarrier C) (s : Closer C A S carrier) → b ≡ s.queue.value → carrier.is_seat (queue_of b) s.seat
-  shuts_in b s e = subst (λ x. carrier.is_seat (queue_of x) s.seat) (sym e) (∥∥₁_elim s.sits (prop (queue_of s.queue.value) s.seat) (λ x. x))
+  -- the seat of a closer of this queue is the queue's, and may push
+  pub shuts_in : (b : BlockingCarrier C) (c : Closer C A S carrier) → b ≡ c.queue.value → IsGiver carrier.is_seat carrier.permits carrier.known (queue_of b) c.seat
+  shuts_in b c e =
+      let q = queue_of c.queue.value in
+      subst (λ x. IsGiver carrier.is_seat carrier.permits carrier.known (queue_of x) c.seat) (sym e)
+      (∥∥₁_elim c.sits (×_prop (prop q c.seat) (may_push-prop (carrier.permits q) (carrier.known c.seat).number)) (λ x. x))

@@ -1,3 +1,4 @@
+pub mod Closers
 pub mod Ends
 pub mod Handles
 pub mod Seats

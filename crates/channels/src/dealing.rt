@@ -5,6 +5,7 @@ ghost use Rattle.blocking_carrier.specs.Queues.{queue_of};
 ghost use Rattle.channels.specs.Seats.{IsGiver, IsTaker};
 ghost use Rattle.channels.specs.Handles.{sender_queue, sender_seat, receiver_queue, receiver_seat};
 
+use crate::closers::Closer;
 use crate::receiver::Receiver;
 use crate::sender::Sender;
 use crate::sides::Side;
@@ -42,7 +43,7 @@ pub fn senders<C: Carrier + Drop>(
     let Ok(share) = Arc::try_clone(queue) else {
         return Err(Refusal::Memory);
     };
-    let Ok(side) = Arc::new(alloc, Side::new(share, closer)) else {
+    let Ok(side) = Arc::new(alloc, Side::new(Closer::new(share, closer))) else {
         return Err(Refusal::Memory);
     };
     let mut senders = Vec::new(alloc);
@@ -82,7 +83,7 @@ pub fn receivers<C: Carrier + Drop>(
     let Ok(share) = Arc::try_clone(queue) else {
         return Err(Refusal::Memory);
     };
-    let Ok(side) = Arc::new(alloc, Side::new(share, closer)) else {
+    let Ok(side) = Arc::new(alloc, Side::new(Closer::new(share, closer))) else {
         return Err(Refusal::Memory);
     };
     let mut receivers = Vec::new(alloc);

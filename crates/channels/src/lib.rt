@@ -1,6 +1,7 @@
 //! Channels of values of any type: senders and receivers, of which the last one of a side shuts the queue as it is dropped.
 #![tactic(auto)]
 
+mod closers;
 mod dealing;
 mod meeting;
 mod receiver;

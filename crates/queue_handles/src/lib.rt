@@ -2,6 +2,7 @@
 #![tactic(auto)]
 
 mod cloning;
+mod closers;
 mod dealing;
 mod handles;
 mod receiving;

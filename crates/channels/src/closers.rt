@@ -1,0 +1,68 @@
+//! What shuts a channel's queue where one of its sides ends.
+ghost use Rattle.std.specs.Prelude.{◌≡◌, IfErr, OnOk};
+ghost use Rattle.history.specs.Answers.{StopsShut};
+ghost use Rattle.carriers.specs.Answers.{DidShutOf, PushRefusedOf};
+ghost use Rattle.blocking_carrier.specs.Queues.{queue_of};
+ghost use Rattle.channels.specs.Seats.{IsGiver};
+
+use blocking_carrier::BlockingCarrier;
+use carriers::Carrier;
+use history::Refusal;
+use std::alloc::Global;
+use std::sync::Arc;
+
+/// In how many turns the last handle of a side shuts the queue, at most.
+const TURNS: u32 = 65_536;
+
+/// Who shuts a queue, once, since that takes it. (A trait's: the `drop` of a side calls it, and the borrow checker covers no call
+/// there that rests on `Seat: Send`, but of a trait's methods.)
+pub(crate) trait Shuts {
+    type Seat;
+
+    /// Shuts the queue by one call: what that answers, and the seat as it is then.
+    fn shut(self) -> (Result<(), Refusal>, Self::Seat);
+}
+
+/// A seat that shuts its queue, with a share of that. It isn't `Drop`, and a shut takes it: so whoever has it shuts the queue,
+/// and once, or leaves it as it is.
+pub(crate) struct Closer<C: Carrier + Drop> {
+    queue: Arc<BlockingCarrier<C>, Global>,
+    seat: C::Seat,
+    ghost sits: { ∥ IsGiver C.is_seat C.permits C.known (queue_of queue.value) seat ∥₁ },
+}
+
+impl<C: Carrier + Drop> Closer<C> {
+    pub(crate) fn new(queue: Arc<BlockingCarrier<C>, Global>, seat: C::Seat) -> Closer<C>
+        requires { IsGiver C.is_seat C.permits C.known (queue_of queue.value) seat }
+    {
+        Closer { queue, seat }
+    }
+
+    // Leaves the queue as it is.
+    pub(crate) fn leave(self) {
+        let Closer { queue: _, seat: _ } = self;
+    }
+}
+
+impl<C: Carrier + Drop> Shuts for Closer<C> {
+    ghost use Rattle.channels.specs.Closers.{closer_queue, closer_seat};
+
+    type Seat = C::Seat;
+
+    fn shut(self) -> (Result<(), Refusal>, C::Seat)
+        //= carriers/channel_ended (shut, refused, refusal, caused): As the last sender, or the last receiver, is dropped its
+        //=   closer makes one call, a `try_shut` of 65,536 turns: the queue is shut by this one deed, or that is refused, with its
+        //=   cause.
+        ensures shut { OnOk result.0
+            (DidShutOf (C.known (closer_seat self)) (C.known result.1)) }
+        ensures refused { IfErr result.0
+            (λ refusal. PushRefusedOf (C.known (closer_seat self)) refusal (C.known result.1)) }
+        ensures refusal { IfErr result.0 StopsShut }
+        ensures caused { IfErr result.0
+            (C.shut_cause (closer_queue self) (closer_seat self) result.1 65536) }
+    {
+        let Closer { queue, mut seat } = self;
+        let answer = queue.try_shut(&mut seat, TURNS);
+        (answer, seat)
+    }
+}
