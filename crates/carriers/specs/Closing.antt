@@ -48,3 +48,12 @@ pub record ClosesWith {A : Type 0} (permits : List Permit) (seats : List (KnownO
 -- a queue was closed by these seats, with this rest
 abbrev pub ClosesOf : {A : Type 0} → List Permit → List (KnownOf A) → RestOf A → Type 0
 ClosesOf permits seats rest = ClosesWith permits seats (left_in rest) (taken_in rest) (whole_in rest) (was_shut_in rest)
+
+module _ {Q A : Type 0} (asks : Q → List (KnownOf A) → Type 0) where
+  -- any seats are enough for an end of a queue of values, and none too
+  abbrev pub AsksAny : Q → Type 0
+  AsksAny queue = (seats : List (KnownOf A)) → asks queue seats
+
+  -- so many seats are enough for it, whichever they are
+  abbrev pub AsksSoMany : Q → ℕ → Type 0
+  AsksSoMany queue count = (seats : List (KnownOf A)) → length seats ≡ count → asks queue seats

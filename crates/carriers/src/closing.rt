@@ -1,5 +1,5 @@
 //! The end of a queue of values.
-ghost use Rattle.std.specs.Prelude.{◌≡◌, map, IfErr, IfOk};
+ghost use Rattle.std.specs.Prelude.{◌≡◌, List, map, IfErr, IfOk};
 ghost use Rattle.std.specs.List.{All};
 ghost use Rattle.carriers.specs.Closing.{ClosesOf};
 
@@ -12,6 +12,7 @@ use std::alloc::Global;
 pub trait CloseCarrier: Carrier + Sized {
     ghost use Rattle.std.specs.Global.{Vec};
     ghost use Rattle.carriers.specs.declared.rests.RestOf.{RestOf};
+    ghost use Rattle.carriers.specs.Knowledge.{KnownOf};
 
     /// Memory for what may be left of the queue.
     type Room: Drop;
@@ -21,6 +22,9 @@ pub trait CloseCarrier: Carrier + Sized {
 
     // This is the end of this queue, and it leaves this rest.
     ghost ends: { Self → Self.End → RestOf Self.Item → Type 0 };
+
+    // The seats that are handed in are enough for an end of this queue: any, or all.
+    ghost asks: { Self → List (KnownOf Self.Item) → Type 0 };
 
     // There is room for all that this queue may hold.
     ghost has_room: { Self → Self.Room → Type 0 };
@@ -48,10 +52,11 @@ pub trait CloseCarrier: Carrier + Sized {
     fn close_with(self, room: Self::Room, seats: Vec<Self::Seat>) -> (RestOf<Self::Item>, Self::End)
         requires room { has_room self room }
         requires seats { All (Self.is_seat self) seats.items }
+        requires asked { asks self (map Self.known seats.items) }
         //= carriers/rest: The values left of a closed queue are what a run of permitted deeds leaves, which begins with
         //=   what each seat handed in had seen and has just their own deeds as theirs; its pops are counted, and whether it
         //=   has a shut is told. The rest is whole exactly where these seats made as many pops and pushes, and a shut if it
-        //=   has one; each deed is then theirs. With every seat it is whole.
+        //=   has one; each deed is then theirs. With every seat it is whole. Which seats an end asks for the queue names.
         ensures rest { ClosesOf (Self.permits self) (map Self.known seats.items) result.0 }
         //= carriers/ends: With the rest comes an end, whichever seats are handed in, of which the queue's `ends` holds.
         ensures ends { ends self result.1 result.0 };
@@ -70,16 +75,17 @@ pub trait CloseCarrier: Carrier + Sized {
         alloc: Global,
         seats: Vec<Self::Seat>,
     ) -> Result<(RestOf<Self::Item>, Self::End), Unclosed<Self, Self::Seat>>
-        requires { All (Self.is_seat self) seats.items }
+        requires seats { All (Self.is_seat self) seats.items }
+        requires asked { asks self (map Self.known seats.items) }
         //= carriers/rest
         ensures rest { IfOk result
             (λ r. ClosesOf (Self.permits self) (map Self.known seats.items) r.0) }
         //= carriers/ends
         ensures ends { IfOk result (λ r. ends self r.1 r.0) }
-        //= carriers/unclosed (queue, seats): A queue that isn't closed, for want of memory, comes back as it was, with the
+        //= carriers/unclosed (queue, same): A queue that isn't closed, for want of memory, comes back as it was, with the
         //=   seats handed in.
         ensures queue { IfErr result (λ unclosed. unclosed.queue ≡ self) }
-        ensures seats { IfErr result (λ unclosed. unclosed.seats.items ≡ seats.items) }
+        ensures same { IfErr result (λ unclosed. unclosed.seats.items ≡ seats.items) }
     {
         match self.room(alloc) {
             Ok(room) => Ok(self.close_with(room, seats)),

@@ -82,6 +82,8 @@ impl<C: CloseCarrier + Drop> ValueSeat<C> {
     ) -> Result<(RestOf<C::Item>, C::End), Unended<C>>
         requires room { HasEndRoom C.has_room (queue_of self) (length others.items) room }
         requires others { All (λ s. queue_of s ≡ queue_of self) others.items }
+        requires asked { C.asks (queue_of self)
+            (map (λ s. C.known (seat_of s)) (others.items ++ self ∷ [])) }
         //= library/close_values (rest, ends, back): What is left of a queue of values ended by seats of it is what its own `close` says of
         //=   these. A queue that isn't ended comes back, with its seats: at `InUse` and `Memory` as they were, at `Raced`
         //=   without their shares. When which of them is answered, no clause says.
@@ -111,7 +113,9 @@ impl<C: CloseCarrier + Drop> ValueSeat<C> {
         alloc: Global,
         others: Vec<ValueSeat<C>>,
     ) -> Result<(RestOf<C::Item>, C::End), Unended<C>>
-        requires { All (λ s. queue_of s ≡ queue_of self) others.items }
+        requires others { All (λ s. queue_of s ≡ queue_of self) others.items }
+        requires asked { C.asks (queue_of self)
+            (map (λ s. C.known (seat_of s)) (others.items ++ self ∷ [])) }
         //= library/close_values (rest, ends, back)
         ensures rest { IfOk result (λ r. ClosesOf (C.permits (queue_of self))
             (map (λ s. C.known (seat_of s)) (others.items ++ self ∷ [])) r.0) }

@@ -50,6 +50,8 @@ impl<T: Send + Drop> CloseCarrier for ValueQueue<T> {
 
     ghost ends = { λ q. LeavesValues (arena_of q) };
 
+    ghost asks = { λ _ _. Unit {0} };
+
     ghost has_room = { λ q. HasRoom (arena_of q) };
 
     fn room(&self, alloc: Global) -> Result<Room<T>, Refusal> {

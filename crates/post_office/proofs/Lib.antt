@@ -1,3 +1,4 @@
 mod Dealing
 mod Ends
+pub mod Sent
 mod Shares

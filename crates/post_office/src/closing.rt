@@ -84,8 +84,10 @@ impl<C: CloseCarrier + Drop> PostOffice<C> {
     ) -> Result<(RestOf<C::Item>, C::End), Unended<C>>
         requires senders { All (λ h. sender_queue h ≡ office_queue self) senders.items }
         requires receivers { All (λ h. receiver_queue h ≡ office_queue self) receivers.items }
+        requires asked { C.asks (office_queue self)
+            (known_by self senders.items receivers.items) }
         //= offices/close (rest, ends): What is left of an office that is closed with some senders and receivers is what the
-        //=   close of its queue says of their seats and the office's own.
+        //=   close of its queue says of their seats and the office's own. Which of them an end asks for the queue names.
         ensures rest { IfOk result (λ r. ClosesOf (C.permits (office_queue self))
             (known_by self senders.items receivers.items) r.0) }
         ensures ends { IfOk result (λ r. C.ends (office_queue self) r.1 r.0) }

@@ -1,6 +1,7 @@
 //! Tasks that are run by a pool: what became of each.
 ghost use Rattle.std.specs.Prelude.{◌≡◌, ◌+◌, ◌++◌, length, map, Some, IfOk, IfErr};
 ghost use Rattle.std.specs.List.{All, Any};
+ghost use Rattle.carriers.specs.Closing.{AsksSoMany};
 ghost use Rattle.carriers.specs.Rests.{left_in};
 ghost use Rattle.tasks.specs.Tasks.{AreTold};
 ghost use Rattle.tasks.specs.Gathers.{slots_in, fills};
@@ -136,6 +137,7 @@ fn run_in<R: Threads + Wait + Sync, T: Task, C: CloseCarrier<Item = Numbered<T>>
     space: Space<C::Seat, T, Result<T::Output, T::Error>>,
 ) -> Ran<T, Result<T::Output, T::Error>>
     requires crew { IsCrewOf C.is_seat C.permits C.known queue seats.items }
+    requires asked { AsksSoMany C.asks queue (length seats.items) }
     requires room { C.has_room queue room }
     requires space { IsSpace (length tasks.items) (length seats.items) space }
     ensures told { AreTold T.answers tasks.items result.outcomes.items }
@@ -193,7 +195,8 @@ pub fn run_on<R: Threads + Wait + Sync, T: Task, C: CloseCarrier<Item = Numbered
     seats: Vec<C::Seat>,
     tasks: Vec<T>,
 ) -> Result<Ran<T, Result<T::Output, T::Error>>, Unrun<C, C::Seat, T>>
-    requires { IsCrewOf C.is_seat C.permits C.known queue seats.items }
+    requires crew { IsCrewOf C.is_seat C.permits C.known queue seats.items }
+    requires asked { AsksSoMany C.asks queue (length seats.items) }
     //= tasks/told (told, joined, finished): Each task that a pool was given is told of once, at its own place: by its own
     //=   answer, or as handed back. Each worker has ended. Where one found the queue shut and empty, each task is answered.
     ensures told { IfOk result (λ ran. AreTold T.answers tasks.items ran.outcomes.items) }

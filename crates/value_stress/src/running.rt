@@ -1,5 +1,6 @@
 //! Rounds of pushes and pops in threads, of which each value is looked at.
 ghost use Rattle.std.specs.Thread.{IsSync};
+ghost use Rattle.carriers.specs.Closing.{AsksAny};
 ghost use Rattle.value_stress.specs.Seated.{MayCall, AreTwo, AreFour};
 
 use crate::loads::Load;
@@ -215,7 +216,8 @@ pub fn judged<R: Threads + Wait + Sync, T: Load, Q: CloseCarrier<Item = T> + Syn
     does: Works,
     count: u64,
 ) -> Option<Verdict>
-    requires { AreFour Q.is_seat Q.permits Q.known queue seats }
+    requires seats { AreFour Q.is_seat Q.permits Q.known queue seats }
+    requires asked { AsksAny Q.asks queue }
 {
     let (seats, threads) = four(rt, alloc, &queue, seats, does, count);
     let list = list_of(&queue, alloc, seats)?;

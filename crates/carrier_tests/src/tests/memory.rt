@@ -1,6 +1,7 @@
 //! A queue of values where memory is refused: what comes back, and that each value is dropped once.
 ghost use Rattle.std.specs.Prelude.{IfOk};
 ghost use Rattle.std.specs.List.{All};
+ghost use Rattle.carriers.specs.Closing.{AsksAny};
 ghost use Rattle.value_queue.specs.Queues.{IsQueueSeat};
 
 use super::calls::{last, push, same};
@@ -49,7 +50,8 @@ fn closed<C: CloseCarrier<Item = Counted> + Drop>(
     seats: Vec<C::Seat>,
     mark: &Counted,
 ) -> Result<RestOf<Counted>, Refusal>
-    requires { All (C.is_seat queue) seats.items }
+    requires seats { All (C.is_seat queue) seats.items }
+    requires asked { AsksAny C.asks queue }
 {
     let Unclosed { queue, seats } = match queue.close(alloc, seats) {
         Ok((rest, _end)) => return Ok(rest),
@@ -69,7 +71,8 @@ fn goes<C: CloseCarrier<Item = Counted> + Drop>(
     queue: C,
     mut seats: Vec<C::Seat>,
 ) -> Result<(), Fail>
-    requires { All (C.is_seat queue) seats.items }
+    requires seats { All (C.is_seat queue) seats.items }
+    requires asked { AsksAny C.asks queue }
 {
     let mark = mark(alloc)?;
     let mut seat = last(&queue, &mut seats)?;

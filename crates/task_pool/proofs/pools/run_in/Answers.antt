@@ -62,6 +62,21 @@ close_with-rest-requires-clause-seats g c =
     let back = each_back is_seat g.C.Carrier.permits g.C.Carrier.known g.T.Task.answers _ _ ws c.run_crew-led.ensures.back in
     subst (λ q. All (is_seat q) c.part.new.parts.seats.items) (sym c.into_inner.ensures) (subst (All (is_seat _)) (sym is) (All-cons (is_seat _) led.seat (map seat_in ws) c.run_crew-led.ensures.led.seat back))
 
+pub close_with-rest-requires-clause-asked : goal.close_with-rest-requires-clause-asked
+close_with-rest-requires-clause-asked g c =
+    let known = g.C.Carrier.known in
+    let led = c.run_crew-led.result.led in
+    let ws = c.run_crew-led.result.workers.items in
+    let back = c.part.new.parts.seats.items in
+    let is : back ≡ led.seat ∷ map seat_in ws = c.part.ensures.seats ∙ ap (λ l. l ++ map seat_in ws) (c.push_reserved.ensures.items ∙ ap (λ l. l ++ led.seat ∷ []) c.requires.space.parts.no_seats) in
+    let many = as_many g.C.Carrier.is_seat g.C.Carrier.permits known g.T.Task.answers _ _ _ c.run_crew-led.ensures.back in
+    let all = count g.C.Carrier.is_seat g.C.Carrier.permits known c.args.queue c.args.seats.items c.pop.new.self.items c.in-Some.giver c.in-Some.ensures.items c.requires.crew in
+    let these = length-map back known in
+    let those = ap length is in
+    let workers = length-map ws seat_in in
+    subst (λ q. g.C.CloseCarrier.asks q (map known back)) (sym (c.into_inner.ensures ∙ c.new-queue.ensures))
+    (c.requires.asked (map known back) (omega (arith, these, those, workers, many, all)))
+
 pub told-outcomes-requires : goal.told-outcomes-requires
 told-outcomes-requires g c =
     let known = g.C.Carrier.known in

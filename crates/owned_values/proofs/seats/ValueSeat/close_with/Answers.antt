@@ -8,6 +8,12 @@ pub close_with-requires-clause-seats : goal.close_with-requires-clause-seats
 close_with-requires-clause-seats g c = all_sit c.args.others.items c.args.self c.without_shares-seats.result.items c.without_shares-seats.ensures
     g.met.C.Carrier.seat_prop c.in-Ok.queue (sym c.in-Ok.ensures.ok) c.requires.others
 
+pub close_with-requires-clause-asked : goal.close_with-requires-clause-asked
+close_with-requires-clause-asked g c =
+    subst (λ q. g.C.CloseCarrier.asks q (map g.C.Carrier.known c.without_shares-seats.result.items)) (sym c.in-Ok.ensures.ok)
+    (subst (g.C.CloseCarrier.asks (queue_of c.args.self))
+    (sym (all_known c.args.others.items c.args.self c.without_shares-seats.result.items c.without_shares-seats.ensures g.C.Carrier.known)) c.requires.asked)
+
 pub returns-in-Ok-clause-rest : goal.returns-in-Ok-clause-rest
 returns-in-Ok-clause-rest g c =
     subst (λ ks. ClosesOf (g.C.Carrier.permits (queue_of c.args.self)) ks c.close_with.result.0)

@@ -10,12 +10,18 @@ use Rattle.post_office.specs.Offices.{office_queue, known_by}
 use Rattle.post_office.proofs.Shares.{all_sit, seats_put}
 use Rattle.post_office.proofs.offices.PostOffice.close.Goals as goal
 
-pub close-requires-after_bounds : goal.close-requires-after_bounds
-close-requires-after_bounds g c κs within =
+pub close-requires-clause-seats : goal.close-requires-clause-seats
+close-requires-clause-seats g c κs within =
     let q = c.into_inner.result in
     let put = seats_put c.args.self c.args.senders.items c.args.receivers.items c.reserve.new.self.items c.put_senders.new.seats.items c.put_receivers.new.seats.items c.push_reserved.new.self.items (c.reserve.ensures.items ∙ c.new-seats.ensures.items) c.put_senders.ensures.items c.put_receivers.ensures.items c.push_reserved.ensures.items in
     subst (All (g.C.Carrier.is_seat q)) (sym put)
     (all_sit g.met.C.Carrier.seat_prop c.args.self c.args.senders.items c.args.receivers.items q (sym (c.into_inner.ensures ∙ ap queue_of c.in-Ok.ensures.ok)) c.requires.senders c.requires.receivers)
+
+pub close-requires-clause-asked : goal.close-requires-clause-asked
+close-requires-clause-asked g c κs within =
+    let put = seats_put c.args.self c.args.senders.items c.args.receivers.items c.reserve.new.self.items c.put_senders.new.seats.items c.put_receivers.new.seats.items c.push_reserved.new.self.items (c.reserve.ensures.items ∙ c.new-seats.ensures.items) c.put_senders.ensures.items c.put_receivers.ensures.items c.push_reserved.ensures.items in
+    subst (λ q. g.C.CloseCarrier.asks q (map g.C.Carrier.known c.push_reserved.new.self.items)) (sym (c.into_inner.ensures ∙ ap queue_of c.in-Ok.ensures.ok))
+    (subst (λ l. g.C.CloseCarrier.asks (office_queue c.args.self) (map g.C.Carrier.known l)) (sym put) c.requires.asked)
 
 pub returns-in-Ok-close-clause-in_order : goal.returns-in-Ok-close-clause-in_order
 returns-in-Ok-close-clause-in_order g c =
@@ -40,7 +46,7 @@ returns-in-Err-close-clause-back g c =
     let q = c.in-Err-close.field-0.queue in
     let put = seats_put c.args.self c.args.senders.items c.args.receivers.items c.reserve.new.self.items c.put_senders.new.seats.items c.put_receivers.new.seats.items c.push_reserved.new.self.items (c.reserve.ensures.items ∙ c.new-seats.ensures.items) c.put_senders.ensures.items c.put_receivers.ensures.items c.push_reserved.ensures.items in
     let same = c.in-Err-close.ensures.queue ∙ c.into_inner.ensures ∙ ap queue_of c.in-Ok.ensures.ok in
-    let seats = c.in-Err-close.ensures.seats ∙ put in (
+    let seats = c.in-Err-close.ensures.same ∙ put in (
       same,
       seats,
       subst (All (g.C.Carrier.is_seat q)) (sym seats)

@@ -1,0 +1,19 @@
+-- A sender and a receiver of an office that was opened may go to a thread where its letters may.
+use denote.Param.Send.{IsSend}
+use denote.RattleType.{RattleType}
+use Rattle.carriers.specs.declared.queues.Carrier.{Ghosts}
+use Rattle.channels.specs.contracts.sender.Sender as sender
+use Rattle.channels.specs.contracts.receiver.Receiver as receiver
+use Rattle.channels.proofs.sender.Sender.TheSendSync.{the_send as sender_send}
+use Rattle.channels.proofs.receiver.Receiver.TheSendSync.{the_send as receiver_send}
+use Rattle.node_arena.specs.contracts.seats.Seat as seat
+use Rattle.node_arena.proofs.seats.Seat.TheSendSync.{the_send as seat_send}
+use Rattle.picked_values.specs.contracts.queue.ValueQueue as queue
+use Rattle.picked_values.proofs.queue.ValueQueue.TheSendSync.{the_send as queue_send, the_sync as queue_sync}
+
+module _ (T : RattleType) (send : IsSend T) (g : Ghosts (queue.the_row T).Denot T.Denot (seat.the_row T).Denot) where
+  pub sender_goes : IsSend (sender.the_row (queue.the_row T) T (seat.the_row T) g)
+  sender_goes = sender_send (queue.the_row T) T (seat.the_row T) g (queue_send T send) (seat_send T send) (queue_sync T send)
+
+  pub receiver_goes : IsSend (receiver.the_row (queue.the_row T) T (seat.the_row T) g)
+  receiver_goes = receiver_send (queue.the_row T) T (seat.the_row T) g (queue_send T send) (seat_send T send) (queue_sync T send)
