@@ -1,5 +1,5 @@
 -- A push claims its place.
-use Rattle.std.proofs.Common.{append_assoc, ◌≡◌, ⊎_elim, ℕ, zero, suc, ◌+◌, ◌-◌, ◌%◌, ◌^◌, ◌<◌, ◌≤◌, Bool, true, false, List, [], ◌∷◌, ◌++◌, length, get_or, set, Some, None, Option, slice_get, sym, refl, ap, ◌∙◌, subst, arith, append-nil, length-append}
+use Rattle.std.proofs.Common.{append_assoc, ◌≡◌, ⊎_elim, inl, inr, ℕ, zero, suc, ◌+◌, ◌-◌, ◌%◌, ◌^◌, ◌<◌, ◌≤◌, Bool, true, false, List, [], ◌∷◌, ◌++◌, length, get_or, set, Some, None, Option, slice_get, sym, refl, ap, ◌∙◌, subst, arith, append-nil, length-append}
 use Rattle.std.specs.List.{All, count_by}
 use Rattle.std.proofs.lemmas.List.Elements.{All-head, All-tail}
 use Rattle.std.proofs.lemmas.List.Sums.{sum_by-append}
@@ -16,8 +16,8 @@ use Rattle.ring_queue.specs.Rule.{HasClaimed, Cell, Log, SeatOk, total, put, Rin
 use Rattle.ring_queue.specs.Steps.{Rests, contents, pushes, AreSmall, PlacesClaimed}
 use Rattle.ring_queue.proofs.Puts.{got_snoc, set_twice, put_twice, same_or_not, put_here, put_else, total-put}
 use Rattle.ring_queue.proofs.Histories.{own_one, own_other, all_one, all_noted_more, leads_push, noted_shut, all_one_note}
-use Rattle.ring_queue.proofs.Keeps.{none_claimed, cell, log_before, next_is_filled, claims}
-use Rattle.ring_queue.proofs.Tables.{it_fits, notes_stay, learns}
+use Rattle.ring_queue.proofs.Keeps.{Became, none_claimed, cell, log_before, next_is_filled, claims}
+use Rattle.ring_queue.proofs.Tables.{Extends, adds_none, it_fits, notes_stay, learns}
 
 -- the elements before others
 got_before : {A : Type 0} (xs : List A) (a : A) (k : ℕ) (b : A) → slice_get xs k ≡ Some b → slice_get (xs ++ a ∷ []) k ≡ Some b
@@ -196,7 +196,7 @@ record Pushes (z : Layout) (words : List ℕ) (seats : ℕ → SeatView) (p : �
   seen : seat.seen ≡ c.ring.history ++ pushes c.seat.number bodies
   mine : seat.mine ≡ c.seat.mine ++ pushes c.seat.number bodies
   notes : seat.notes ≡ c.seat.notes
-  ring : Ring z (set words 0 (c.ring.tail + length bodies)) (put seats c.seat.number seat)
+  ring : Became z (set words 0 (c.ring.tail + length bodies)) (put seats c.seat.number seat) (c.ring.history ++ pushes c.seat.number bodies)
 
 abbrev IsSmall : ℕ → Type 0
 IsSmall b = b < 2 ^ 48
@@ -215,7 +215,7 @@ push_all [] b z words seats p xs c f enough small permit =
       seen = refl;
       mine = refl;
       notes = refl;
-      ring = subst (λ w. Ring z (set words 0 w) (put seats c.seat.number (after_push z words seats p xs c b))) (ap (tail_word (c.ring.tail + 1)) f) one.0;
+      ring = subst (λ w. Became z (set words 0 w) (put seats c.seat.number (after_push z words seats p xs c b)) (c.ring.history ++ pushes c.seat.number (b ∷ []))) (ap (tail_word (c.ring.tail + 1)) f) (one.0, one.3);
     }
 push_all (b' ∷ bs) b z words seats p xs c f enough small permit =
     let one = push_one z words seats p xs c b f (All-head IsSmall b (b' ∷ bs) small) (permit b) in
@@ -240,17 +240,18 @@ push_all (b' ∷ bs) b z words seats p xs c f enough small permit =
     } in
     let more = push_all bs b' z words1 (put seats n v1) p (xs ++ val ∷ []) c1 (one.2 ∙ f) (omega (arith, enough)) (All-tail IsSmall b (b' ∷ bs) small) permit in
     let spent = more.spent in
+    let onward : one.0.history ++ pushes n (b' ∷ bs) ≡ c.ring.history ++ pushes n (b ∷ b' ∷ bs) = ap (λ h. h ++ pushes n (b' ∷ bs)) one.3 ∙ append_assoc c.ring.history (Push n b ∷ []) (pushes n (b' ∷ bs)) in
     record {
       seat = more.seat;
       number = more.number;
       head = more.head;
       spent = omega (arith, spent, many, enough);
       stage = more.stage ∙ ap (claimed p) (append_assoc xs (val ∷ []) (contents false n (b' ∷ bs)));
-      seen = more.seen ∙ (ap (λ h. h ++ pushes n (b' ∷ bs)) one.3 ∙ append_assoc c.ring.history (Push n b ∷ []) (pushes n (b' ∷ bs)));
+      seen = more.seen ∙ onward;
       mine = more.mine ∙ append_assoc c.seat.mine (Push n b ∷ []) (pushes n (b' ∷ bs));
       notes = more.notes;
-      ring = subst (λ (y : List ℕ × (ℕ → SeatView)). Ring z y.0 y.1)
-          (λ i. ((set_twice words 0 (tail_word (c.ring.tail + 1) c.ring.shut) (one.0.tail + length (b' ∷ bs)) ∙ ap (set words 0) (let q : one.0.tail + length (b' ∷ bs) ≡ c.ring.tail + length (b ∷ b' ∷ bs) = omega (arith, tail1, many) in q)) i, put_twice seats n v1 more.seat i))
+      ring = subst (λ (y : List ℕ × (ℕ → SeatView) × List Entry). Became z y.0 y.1 y.2)
+          (λ i. ((set_twice words 0 (tail_word (c.ring.tail + 1) c.ring.shut) (one.0.tail + length (b' ∷ bs)) ∙ ap (set words 0) (let q : one.0.tail + length (b' ∷ bs) ≡ c.ring.tail + length (b ∷ b' ∷ bs) = omega (arith, tail1, many) in q)) i, put_twice seats n v1 more.seat i, onward i))
           more.ring;
     }
 
@@ -264,7 +265,7 @@ record Marks (z : Layout) (words : List ℕ) (seats : ℕ → SeatView) (p : ℕ
   seen : seat.seen ≡ c.ring.history
   mine : seat.mine ≡ c.seat.mine
   noted : seat.notes ≡ notes
-  ring : Ring z (set words 0 (c.ring.tail + length bodies + 2 ^ 62)) (put seats c.seat.number seat)
+  ring : Became z (set words 0 (c.ring.tail + length bodies + 2 ^ 62)) (put seats c.seat.number seat) c.ring.history
 
 mark_all : (bs : List ℕ) (b : ℕ) (z : Layout) (words : List ℕ) (seats : ℕ → SeatView) (p : ℕ) (xs : List (Option Taken)) (c : Claiming z words seats p xs) (notes : List ℕ) → All (IsNoted c.ring.history) notes → c.ring.shut ≡ true → length (b ∷ bs) ≤ c.seat.credits
     → Marks z words seats p xs c notes (b ∷ bs)
@@ -280,7 +281,7 @@ mark_all [] b z words seats p xs c notes noted f enough =
       seen = refl;
       mine = refl;
       noted = refl;
-      ring = subst (λ w. Ring z (set words 0 w) (put seats c.seat.number (after_mark z words seats p xs c notes))) (ap (tail_word (c.ring.tail + 1)) f) one.0;
+      ring = subst (λ w. Became z (set words 0 w) (put seats c.seat.number (after_mark z words seats p xs c notes)) c.ring.history) (ap (tail_word (c.ring.tail + 1)) f) (one.0, one.3 ∙ append-nil c.ring.history);
     }
 mark_all (b' ∷ bs) b z words seats p xs c notes noted f enough =
     let one = mark_one z words seats p xs c notes noted f in
@@ -314,8 +315,8 @@ mark_all (b' ∷ bs) b z words seats p xs c notes noted f enough =
       seen = more.seen ∙ same;
       mine = more.mine;
       noted = more.noted;
-      ring = subst (λ (y : List ℕ × (ℕ → SeatView)). Ring z y.0 y.1)
-          (λ i. ((set_twice words 0 (tail_word (c.ring.tail + 1) c.ring.shut) (one.0.tail + length (b' ∷ bs) + 2 ^ 62) ∙ ap (set words 0) (let q : one.0.tail + length (b' ∷ bs) + 2 ^ 62 ≡ c.ring.tail + length (b ∷ b' ∷ bs) + 2 ^ 62 = omega (arith, tail1, many) in q)) i, put_twice seats n v1 more.seat i))
+      ring = subst (λ (y : List ℕ × (ℕ → SeatView) × List Entry). Became z y.0 y.1 y.2)
+          (λ i. ((set_twice words 0 (tail_word (c.ring.tail + 1) c.ring.shut) (one.0.tail + length (b' ∷ bs) + 2 ^ 62) ∙ ap (set words 0) (let q : one.0.tail + length (b' ∷ bs) + 2 ^ 62 ≡ c.ring.tail + length (b ∷ b' ∷ bs) + 2 ^ 62 = omega (arith, tail1, many) in q)) i, put_twice seats n v1 more.seat i, same i))
           more.ring;
     }
 
@@ -331,7 +332,7 @@ module _ (z : Layout) (words : List ℕ) (seats : ℕ → SeatView) (r : Ring z 
 
   -- places are claimed, one for each body
   pub claims_places : (b : ℕ) (bs : List ℕ) → length (b ∷ bs) ≤ v.credits → 1 ≤ v.number → v.number ≤ length z.roles → AreSmall (b ∷ bs) → ((body : ℕ) → IsPermitted (permits_of z) (Push v.number body))
-      → (v' : SeatView) × (v'.number ≡ v.number) × Ring z (set words 0 ((n + length (b ∷ bs)) % 2 ^ 64)) (put seats v.number v') × PlacesClaimed z (b ∷ bs) v n v'
+      → (v' : SeatView) × (v'.number ≡ v.number) × (r' : Ring z (set words 0 ((n + length (b ∷ bs)) % 2 ^ 64)) (put seats v.number v')) × Extends (pushes v.number (b ∷ bs)) r.history v r'.history v' × PlacesClaimed z (b ∷ bs) v n v'
   claims_places b bs enough from to small permit = go r.shut refl
     where
       count : ℕ
@@ -359,15 +360,17 @@ module _ (z : Layout) (words : List ℕ) (seats : ℕ → SeatView) (r : Ring z 
         to = to;
       }
 
-      go : (s : Bool) → r.shut ≡ s → (v' : SeatView) × (v'.number ≡ v.number) × Ring z (set words 0 ((n + count) % 2 ^ 64)) (put seats v.number v') × PlacesClaimed z (b ∷ bs) v n v'
+      go : (s : Bool) → r.shut ≡ s → (v' : SeatView) × (v'.number ≡ v.number) × (r' : Ring z (set words 0 ((n + count) % 2 ^ 64)) (put seats v.number v')) × Extends (pushes v.number (b ∷ bs)) r.history v r'.history v' × PlacesClaimed z (b ∷ bs) v n v'
       go false f =
           let is_n : n ≡ r.tail = r.tail_is ∙ ap (tail_word r.tail) f in
           let all = push_all bs b z words seats r.tail [] start f enough small permit in
           let bound = few in
-          let ring' : Ring z (set words 0 ((n + count) % 2 ^ 64)) (put seats v.number all.seat) = subst (λ w. Ring z (set words 0 w) (put seats v.number all.seat)) (let q : r.tail + count ≡ (n + count) % 2 ^ 64 = omega (arith, is_n, bound) in q) all.ring in (
+          let made : Became z (set words 0 ((n + count) % 2 ^ 64)) (put seats v.number all.seat) (r.history ++ pushes v.number (b ∷ bs)) = subst (λ w. Became z (set words 0 w) (put seats v.number all.seat) (r.history ++ pushes v.number (b ∷ bs))) (let q : r.tail + count ≡ (n + count) % 2 ^ 64 = omega (arith, is_n, bound) in q) all.ring in
+          let ring' = made.0 in (
             all.seat,
             all.number,
             ring',
+            record { added = pushes v.number (b ∷ bs); which = inr refl; grown = made.1; own = all.mine; seen = inl (all.seen ∙ sym made.1) },
             record {
               learns = learns z (set words 0 ((n + count) % 2 ^ 64)) seats v all.seat all.number ring';
               head = all.head;
@@ -387,10 +390,12 @@ module _ (z : Layout) (words : List ℕ) (seats : ℕ → SeatView) (r : Ring z 
           let notes : List ℕ = v.notes ++ length r.history ∷ [] in
           let all = mark_all bs b z words seats r.tail [] start notes (all_one_note (IsNoted r.history) v.notes (length r.history) (notes_stay z words seats r v is) (noted_shut r.history leads)) f enough in
           let bound = few in
-          let ring' : Ring z (set words 0 ((n + count) % 2 ^ 64)) (put seats v.number all.seat) = subst (λ w. Ring z (set words 0 w) (put seats v.number all.seat)) (let q : r.tail + count + 2 ^ 62 ≡ (n + count) % 2 ^ 64 = omega (arith, is_n, bound) in q) all.ring in (
+          let made : Became z (set words 0 ((n + count) % 2 ^ 64)) (put seats v.number all.seat) r.history = subst (λ w. Became z (set words 0 w) (put seats v.number all.seat) r.history) (let q : r.tail + count + 2 ^ 62 ≡ (n + count) % 2 ^ 64 = omega (arith, is_n, bound) in q) all.ring in
+          let ring' = made.0 in (
             all.seat,
             all.number,
             ring',
+            adds_none (pushes v.number (b ∷ bs)) r.history v ring'.history all.seat made.1 all.mine all.seen,
             record {
               learns = learns z (set words 0 ((n + count) % 2 ^ 64)) seats v all.seat all.number ring';
               head = all.head;
@@ -407,6 +412,6 @@ module _ (z : Layout) (words : List ℕ) (seats : ℕ → SeatView) (r : Ring z 
 
   -- the same of any bodies, one at least
   pub claims_bodies : (bodies : List ℕ) → 1 ≤ length bodies → length bodies ≤ v.credits → 1 ≤ v.number → v.number ≤ length z.roles → AreSmall bodies → ((body : ℕ) → IsPermitted (permits_of z) (Push v.number body))
-      → (v' : SeatView) × (v'.number ≡ v.number) × Ring z (set words 0 ((n + length bodies) % 2 ^ 64)) (put seats v.number v') × PlacesClaimed z bodies v n v'
+      → (v' : SeatView) × (v'.number ≡ v.number) × (r' : Ring z (set words 0 ((n + length bodies) % 2 ^ 64)) (put seats v.number v')) × Extends (pushes v.number bodies) r.history v r'.history v' × PlacesClaimed z bodies v n v'
   claims_bodies [] some enough from to small permit = absurd (let f : 1 ≤ 0 = some in omega (arith, f))
   claims_bodies (b ∷ bs) some enough from to small permit = claims_places b bs enough from to small permit

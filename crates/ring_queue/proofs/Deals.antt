@@ -7,6 +7,7 @@ use mathlib.Core.Option.{some, some-injective, some-ne-none}
 use lib.ListN.{get_elem?}
 use Rattle.atomic_table.specs.Table.{Me, Splits, opening}
 use Rattle.atomic_table.proofs.Lists.{at_set}
+use Rattle.history.specs.declared.operations.Entry.{Entry}
 use Rattle.history.specs.Seats.{IsNoted, IsPermitted, IsSound}
 use Rattle.atomic_table.specs.Seated.{TableId}
 use Rattle.atomic_table.specs.declared.shared.Seat.{Seat as Token}
@@ -23,7 +24,7 @@ use Rattle.ring_queue.specs.Rule.{put, total, Ring, Holds, first_view}
 use Rattle.ring_queue.proofs.Puts.{put_here, put_else, total_bound}
 use Rattle.ring_queue.proofs.Keeps.{cell}
 use Rattle.ring_queue.proofs.Puts.{got_snoc}
-use Rattle.ring_queue.proofs.Tables.{one_of}
+use Rattle.ring_queue.proofs.Tables.{HoldsWith, one_of}
 
 pub at_end : {A : Type 0} (l : List A) (a b : A) (j : ℕ) → get_elem? (l ++ a ∷ []) j ≡ some b → (get_elem? l j ≡ some b) ⊎ ((j ≡ length l) × (a ≡ b))
 at_end [] a b zero e = inr (refl, some-injective a b e)
@@ -110,8 +111,9 @@ opens z words ring = record {
 }
 
 -- a seat is dealt
-pub deals : (z : Layout) (id n : ℕ) → Splits {S = ℕ} (Holds z) id (keeper z.slots n) (dealt_left (keeper z.slots n)) (dealt_right (keeper z.slots n))
-deals z id n s h mine =
+pub deals : (z : Layout) (es : List Entry) (id n : ℕ) → Splits {S = ℕ} (HoldsWith z es) id (keeper z.slots n) (dealt_left (keeper z.slots n)) (dealt_right (keeper z.slots n))
+deals z es id n s whole mine =
+    let h : Holds z s = whole.0 in
     let k = h.kept id z.slots n mine in
     let dealt : n ≡ h.dealt = k.1 in
     let l : ℕ = length (set s.views id (keeper z.slots (n + 1))) in
@@ -129,28 +131,30 @@ deals z id n s h mine =
     (λ (q : (j ≢ id) × (get_elem? s.views j ≡ some u)). old j i u o q.1 b)
     (at_set s.views id j (keeper z.slots (n + 1)) u t))
     (λ (t : (j ≡ l) × (seated (new_seat z.slots n) ≡ u)). let q = one_of (new_seat z.slots n) o i (ap (λ (y : View). get_elem? (members y) i) t.1 ∙ b) in subst (λ (y : ℕ × ℕ × SeatView). P y.0 y.1 y.2) (λ c. (sym t.0 c, sym q.0 c, q.1 c)) new)
-    (at_end (set s.views id (keeper z.slots (n + 1))) (seated (new_seat z.slots n)) u j a) in
-    record {
-      seats = h.seats;
-      ring = h.ring;
-      dealt = n + 1;
-      home = h.home;
-      owner = own;
-      fits = λ j i u o a b. (all j i u o a b).0;
-      owned = λ j i u o a b. let t = all j i u o a b in (t.1, t.2);
-      kept = λ j p m a. ⊎_elim
-          (λ (t : get_elem? (set s.views id (keeper z.slots (n + 1))) j ≡ some (keeper p m)).
-          ⊎_elim (λ (q : (j ≡ id) × (keeper z.slots (n + 1) ≡ keeper p m)). let e = q.1 in (q.0 ∙ k.0, cc, cc))
-          (λ (q : (j ≢ id) × (get_elem? s.views j ≡ some (keeper p m))). absurd (q.0 ((h.kept j p m q.1).0 ∙ sym k.0)))
-          (at_set s.views id j (keeper z.slots (n + 1)) (keeper p m) t))
-          (λ (t : (j ≡ l) × (seated (new_seat z.slots n) ≡ keeper p m)). let e = t.1 in cc)
-          (at_end (set s.views id (keeper z.slots (n + 1))) (seated (new_seat z.slots n)) (keeper p m) j a);
-      undealt = λ p over. h.undealt p (omega (arith, over, dealt));
-    }
+    (at_end (set s.views id (keeper z.slots (n + 1))) (seated (new_seat z.slots n)) u j a) in (
+      record {
+        seats = h.seats;
+        ring = h.ring;
+        dealt = n + 1;
+        home = h.home;
+        owner = own;
+        fits = λ j i u o a b. (all j i u o a b).0;
+        owned = λ j i u o a b. let t = all j i u o a b in (t.1, t.2);
+        kept = λ j p m a. ⊎_elim
+            (λ (t : get_elem? (set s.views id (keeper z.slots (n + 1))) j ≡ some (keeper p m)).
+            ⊎_elim (λ (q : (j ≡ id) × (keeper z.slots (n + 1) ≡ keeper p m)). let e = q.1 in (q.0 ∙ k.0, cc, cc))
+            (λ (q : (j ≢ id) × (get_elem? s.views j ≡ some (keeper p m))). absurd (q.0 ((h.kept j p m q.1).0 ∙ sym k.0)))
+            (at_set s.views id j (keeper z.slots (n + 1)) (keeper p m) t))
+            (λ (t : (j ≡ l) × (seated (new_seat z.slots n) ≡ keeper p m)). let e = t.1 in cc)
+            (at_end (set s.views id (keeper z.slots (n + 1))) (seated (new_seat z.slots n)) (keeper p m) j a);
+        undealt = λ p over. h.undealt p (omega (arith, over, dealt));
+      },
+      whole.1,
+    )
 
 -- the same at the names of a call
 pub deals_at : (z about : Layout) (id n : ℕ) (me : Me ℕ View) → about ≡ z → me ≡ (keeper z.slots n, []) → Splits {S = ℕ} (Holds about) id me.0 (dealt_left me.0) (dealt_right me.0)
-deals_at z about id n me same is = subst (λ (y : Layout × Me ℕ View). Splits {S = ℕ} (Holds y.0) id y.1.0 (dealt_left y.1.0) (dealt_right y.1.0)) (λ i. (sym same i, sym is i)) (deals z id n)
+deals_at z about id n me same is = subst (λ (y : Layout × Me ℕ View). Splits {S = ℕ} (Holds y.0) id y.1.0 (dealt_left y.1.0) (dealt_right y.1.0)) (λ i. (sym same i, sym is i)) (λ s h a. (deals z h.ring.history id n s (h, refl) a).0)
 
 -- what a new seat knows is sound
 pub new_is_sound : (z : Layout) (n : ℕ) → IsSound (permits_of z) (known_by (new_seat z.slots n))

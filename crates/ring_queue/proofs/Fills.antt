@@ -1,5 +1,5 @@
 -- A push fills its place.
-use Rattle.std.proofs.Common.{◌≡◌, ◌≢◌, ℕ, suc, ◌+◌, ◌-◌, ◌%◌, ◌^◌, ◌<◌, ◌≤◌, true, List, [], ◌∷◌, ◌++◌, length, get_or, set, slice_get, Option, Some, None, sym, refl, ap, ◌∙◌, subst, arith, append-nil}
+use Rattle.std.proofs.Common.{◌≡◌, ◌≢◌, ℕ, suc, ◌+◌, ◌-◌, ◌%◌, ◌^◌, ◌<◌, ◌≤◌, inl, inr, true, List, [], ◌∷◌, ◌++◌, length, get_or, set, slice_get, Option, Some, None, sym, refl, ap, ◌∙◌, subst, arith, append-nil}
 use Rattle.std.proofs.lemmas.Option.{none-some}
 use Rattle.std.specs.List.{All}
 use Rattle.history.specs.declared.operations.Entry.{Entry}
@@ -15,7 +15,7 @@ use Rattle.ring_queue.proofs.Puts.{put_else}
 use Rattle.ring_queue.specs.Steps.{next_stage, PlaceFilled}
 use Rattle.ring_queue.proofs.Histories.{own_one, all_noted_more, noted_shut, all_one_note}
 use Rattle.ring_queue.proofs.Keeps.{cell, fills}
-use Rattle.ring_queue.proofs.Tables.{it_fits, notes_stay}
+use Rattle.ring_queue.proofs.Tables.{Extends, it_fits, notes_stay}
 
 -- the others of the places that a seat claimed, once it has filled the first
 claimed_next : (p : ℕ) (x : Option Taken) (xs : List (Option Taken)) (q : ℕ) (y : Option Taken) → q ≢ p → HasClaimed (claimed p (x ∷ xs)) q y → HasClaimed (standing (p + 1) xs) q y
@@ -78,20 +78,22 @@ module _ (z : Layout) (words : List ℕ) (seats : ℕ → SeatView) (r : Ring z 
   tail_small = let a = r.limited in let b = r.planned in let c = b.limited in omega (arith, a, c)
 
   abbrev pub Line : (SeatView → ℕ → SeatView → Type 0) → ℕ → List ℕ → Type 0
-  Line fact number words' = (v' : SeatView) × (v'.number ≡ v.number) × Ring z words' (put seats v.number v') × fact v number v'
+  Line fact number words' = (v' : SeatView) × (v'.number ≡ v.number) × (r' : Ring z words' (put seats v.number v')) × Extends [] r.history v r'.history v' × fact v number v'
 
   -- the first place is filled of those that the seat claimed from one on
   pub fills_place : (p : ℕ) (x : Option Taken) (xs : List (Option Taken)) → v.stage ≡ claimed p (x ∷ xs)
-      → (v' : SeatView) × (v'.number ≡ v.number) × Ring z (set words (slot_word (p % z.slots)) (face z.slots p x)) (put seats v.number v') × PlaceFilled v v'
+      → (v' : SeatView) × (v'.number ≡ v.number) × (r' : Ring z (set words (slot_word (p % z.slots)) (face z.slots p x)) (put seats v.number v')) × Extends [] r.history v r'.history v' × PlaceFilled v v'
   fills_place p x xs at =
       let own : (q : ℕ) (y : Option Taken) → HasClaimed (claimed p (x ∷ xs)) q y → (r.cells (q % z.slots) ≡ cell q (Some v.number)) × (r.log q ≡ y) = subst (Stands z.slots r.head r.tail live r.log r.cells v) at fit.stage in
       let mine = own p x (omega arith, ap (slice_get (x ∷ xs)) (let e : p - p ≡ 0 = omega arith in e)) in
-      let v' : SeatView = record v { stage = standing (p + 1) xs } in (
+      let v' : SeatView = record v { stage = standing (p + 1) xs } in
+      let made = fills z words seats r v.number p x v' (λ q y ne h. claimed_next p x xs q y ne (subst (λ st. HasClaimed st q y) (ap (λ (u : SeatView). u.stage) is ∙ at) h)) mine.0 mine.1
+      (record { number = refl; behind = fit.behind; few = fit.few; rest = fit.rest; begins = fit.begins; own = fit.own; known = fit.known; noted = fit.noted; stage = stands_next p x xs own mine.0 })
+      (ap (λ (u : SeatView). u.credits) (sym is)) in (
         v',
         refl,
-        fills z words seats r v.number p x v' (λ q y ne h. claimed_next p x xs q y ne (subst (λ st. HasClaimed st q y) (ap (λ (u : SeatView). u.stage) is ∙ at) h)) mine.0 mine.1
-            (record { number = refl; behind = fit.behind; few = fit.few; rest = fit.rest; begins = fit.begins; own = fit.own; known = fit.known; noted = fit.noted; stage = stands_next p x xs own mine.0 })
-            (ap (λ (u : SeatView). u.credits) (sym is)),
+        made.0,
+        record { added = []; which = inl refl; grown = made.1 ∙ sym (append-nil r.history); own = sym (append-nil v.mine); seen = inr (refl, refl) },
         ap (λ st. record v { stage = next_stage st }) (sym at),
       )
     where

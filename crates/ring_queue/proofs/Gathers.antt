@@ -8,6 +8,7 @@ use Rattle.atomic_table.specs.Table.{Me, Joins, Enters}
 use Rattle.atomic_table.specs.Seated.{TableId}
 use Rattle.atomic_table.specs.declared.shared.Seat.{Seat as Token}
 use Rattle.atomic_table.proofs.Lists.{at_set, set_else}
+use Rattle.history.specs.declared.operations.Entry.{Entry}
 use Rattle.ring_queue.specs.declared.queue.RingQueue.{RingQueue}
 use Rattle.ring_queue.specs.declared.seats.Seat.{Seat}
 use Rattle.ring_queue.specs.declared.views.Knowing.{Knowing}
@@ -18,12 +19,14 @@ use Rattle.ring_queue.specs.Seats.{view}
 use Rattle.ring_queue.specs.Queues.{IsQueueSeat}
 use Rattle.ring_queue.specs.Closing.{HasToken, HasGathered}
 use Rattle.ring_queue.proofs.Puts.{put_here, put_else}
+use Rattle.ring_queue.proofs.Tables.{HoldsWith}
 use Rattle.ring_queue.proofs.Deals.{at_end}
 use Rattle.ring_queue.proofs.Meets.{views_now, no_one}
 
 -- a token that gathers takes in one of a seat
-gathers : (z : Layout) (id other : ℕ) (vs : List SeatView) (w : SeatView) → Joins {S = ℕ} (Holds z) id (gathered vs) other (seated w) (gathered (vs ++ w ∷ [])) spent
-gathers z id other vs w s h at_id ne at_other =
+pub gathers : (z : Layout) (es : List Entry) (id other : ℕ) (vs : List SeatView) (w : SeatView) → Joins {S = ℕ} (HoldsWith z es) id (gathered vs) other (seated w) (gathered (vs ++ w ∷ [])) spent
+gathers z es id other vs w s whole at_id ne at_other =
+    let h : Holds z s = whole.0 in
     let all : View = gathered (vs ++ w ∷ []) in
     let there : get_elem? s.views other ≡ some (seated w) = sym (set_else s.views id other all ne) ∙ at_other in
     let l : ℕ = length vs in
@@ -33,7 +36,7 @@ gathers z id other vs w s h at_id ne at_other =
     let old : (j i : ℕ) (u : View) (o : SeatView) → j ≢ other → get_elem? s.views j ≡ some u → get_elem? (members u) i ≡ some o → P j i o = λ j i u o far a b.
     let k = h.owned j i u o a b in (h.fits j i u o a b, put_else h.owner w.number o.number (id, l) (λ e. far (ap (λ (y : ℕ × ℕ). y.0) (sym k.0 ∙ (ap h.owner e ∙ ow.0)))) ∙ k.0, k.1) in
     let new : P id l w = (h.fits other 0 (seated w) w there refl, put_here h.owner w.number w.number (id, l) refl, ow.1) in
-    views_now z s h (set (set s.views id all) other spent) own
+    let q = views_now z s h (set (set s.views id all) other spent) own
     (λ j i u o a b. ⊎_elim
     (λ (t : (j ≡ other) × (spent ≡ u)). no_one o i (ap (λ (y : View). get_elem? (members y) i) t.1 ∙ b))
     (λ (t : (j ≢ other) × (get_elem? (set s.views id all) j ≡ some u)). ⊎_elim
@@ -49,27 +52,30 @@ gathers z id other vs w s h at_id ne at_other =
     (λ (q : (j ≡ id) × (all ≡ keeper m n)). let e = q.1 in cc)
     (λ (q : (j ≢ id) × (get_elem? s.views j ≡ some (keeper m n))). h.kept j m n q.1)
     (at_set s.views id j all (keeper m n) t.1))
-    (at_set (set s.views id all) other j spent (keeper m n) a))
+    (at_set (set s.views id all) other j spent (keeper m n) a)) in
+    (q.0, q.1 ∙ whole.1)
 
 -- a new token gathers
+pub enters_with : (key : Layout) (es : List Entry) (slots word : ℕ) → Enters {S = ℕ} (HoldsWith key es) slots word (λ n w. w ≡ gathered [])
+enters_with key es slots word s whole empty fit =
+    let h : Holds key s = whole.0 in
+    let q = views_now key s h (s.views ++ gathered [] ∷ []) h.owner
+    (λ j i u o a b. ⊎_elim
+    (λ (t : get_elem? s.views j ≡ some u). let k = h.owned j i u o t b in (h.fits j i u o t b, k.0, k.1))
+    (λ (t : (j ≡ length s.views) × (gathered [] ≡ u)). no_one o i (ap (λ (y : View). get_elem? (members y) i) t.1 ∙ b))
+    (at_end s.views (gathered []) u j a))
+    (λ j m n a. ⊎_elim
+    (λ (t : get_elem? s.views j ≡ some (keeper m n)). h.kept j m n t)
+    (λ (t : (j ≡ length s.views) × (gathered [] ≡ keeper m n)). let e = t.1 in cc)
+    (at_end s.views (gathered []) (keeper m n) j a)) in
+    (gathered [], (q.0, q.1 ∙ whole.1), refl)
+
 pub enters : (key : Layout) (slots word : ℕ) → Enters {S = ℕ} (Holds key) slots word (λ n w. Opens (w, []))
-enters key slots word s h empty fit = (
-  gathered [],
-  views_now key s h (s.views ++ gathered [] ∷ []) h.owner
-      (λ j i u o a b. ⊎_elim
-      (λ (t : get_elem? s.views j ≡ some u). let k = h.owned j i u o t b in (h.fits j i u o t b, k.0, k.1))
-      (λ (t : (j ≡ length s.views) × (gathered [] ≡ u)). no_one o i (ap (λ (y : View). get_elem? (members y) i) t.1 ∙ b))
-      (at_end s.views (gathered []) u j a))
-      (λ j m n a. ⊎_elim
-      (λ (t : get_elem? s.views j ≡ some (keeper m n)). h.kept j m n t)
-      (λ (t : (j ≡ length s.views) × (gathered [] ≡ keeper m n)). let e = t.1 in cc)
-      (at_end s.views (gathered []) (keeper m n) j a)),
-  refl,
-)
+enters key slots word s h empty fit = let q = enters_with key h.ring.history slots word s (h, refl) empty fit in (q.0, q.1.0, ap (λ w. (w, [])) q.2)
 
 -- the same at the names of a call
 pub gathers_at : (key : Layout) (id other : ℕ) (vs : List SeatView) (me him : Me ℕ View) (w : SeatView) → me ≡ (gathered vs, []) → him ≡ (seated w, []) → Joins {S = ℕ} (Holds key) id me.0 other him.0 (both_of me.0 him.0) spent
-gathers_at key id other vs me him w is his = subst (λ (y : Me ℕ View × Me ℕ View). Joins {S = ℕ} (Holds key) id y.0.0 other y.1.0 (both_of y.0.0 y.1.0) spent) (λ i. (sym is i, sym his i)) (gathers key id other vs w)
+gathers_at key id other vs me him w is his = subst (λ (y : Me ℕ View × Me ℕ View). Joins {S = ℕ} (Holds key) id y.0.0 other y.1.0 (both_of y.0.0 y.1.0) spent) (λ i. (sym is i, sym his i)) (λ s h a n b. (gathers key h.ring.history id other vs w s (h, refl) a n b).0)
 
 -- a token that took in one more
 pub took_in : (t : TableId) (k k' : Token ℕ Knowing) (seats : List Seat) (s : Seat) → HasGathered t k (map view seats) → HasToken t s → k'.table_id ≡ k.table_id → k'.me ≡ (both_of k.me.0 s.token.me.0, k.me.1) → HasGathered t k' (map view (seats ++ s ∷ []))

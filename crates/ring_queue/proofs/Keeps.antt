@@ -42,6 +42,10 @@ seat_stays z head tail live head' tail' live' log log' cells cells' history es n
       stage = stands k.stage;
     }
 
+-- a ring of these words and seats, with this history
+abbrev pub Became : (z : Layout) (words : List ℕ) (seats : ℕ → SeatView) → List Entry → Type 0
+Became z words seats history = (r : Ring z words seats) × (r.history ≡ history)
+
 -- a seat in no call has claimed no place
 pub none_claimed : (st : Stage) (p : ℕ) (x : Option Taken) → Rests st → HasClaimed st p x → ⊥
 none_claimed rests p x rested h = h
@@ -50,7 +54,7 @@ none_claimed (claimed q xs) p x rested h = rested
 none_claimed (found ws) p x rested h = h
 
 -- who fills a place still stands there
-filler_on : (count : ℕ) (log log' : Log) (seats seats' : ℕ → SeatView) (p : ℕ) (f : Option ℕ) → log' p ≡ log p
+pub filler_on : (count : ℕ) (log log' : Log) (seats seats' : ℕ → SeatView) (p : ℕ) (f : Option ℕ) → log' p ≡ log p
     → ((k : ℕ) → HasClaimed (seats k).stage p (log p) → HasClaimed (seats' k).stage p (log p))
     → FillerStands count log seats p f → FillerStands count log' seats' p f
 filler_on count log log' seats seats' p None same stays h = tt
@@ -96,7 +100,7 @@ module _ (z : Layout) (words : List ℕ) (seats : ℕ → SeatView) (r : Ring z 
   head_below = let c = r.counted in omega (arith, c)
 
   -- a load, or any step that writes what it found: the words stay, and what the seats know changes
-  pub renewed : (seats' : ℕ → SeatView) → ((k : ℕ) → SeatOk z r.head r.tail live r.log r.cells r.history k (seats' k))
+  abbrev pub renewed : (seats' : ℕ → SeatView) → ((k : ℕ) → SeatOk z r.head r.tail live r.log r.cells r.history k (seats' k))
       → r.tail + total (length z.roles) seats' ≤ (r.head + z.most) + reserve z → r.tail + total (length z.roles) seats' ≤ z.limit
       → r.voids + total (length z.roles) seats' ≤ reserve z
       → ((k p : ℕ) (x : Option Taken) → HasClaimed (seats k).stage p x → HasClaimed (seats' k).stage p x)
@@ -134,9 +138,11 @@ module _ (z : Layout) (words : List ℕ) (seats : ℕ → SeatView) (r : Ring z 
   pub watches : (n : ℕ) (v : SeatView) → Rests (seats n).stage → SeatOk z r.head r.tail live r.log r.cells r.history n v
       → r.tail + total (length z.roles) (put seats n v) ≤ (r.head + z.most) + reserve z → r.tail + total (length z.roles) (put seats n v) ≤ z.limit
       → r.voids + total (length z.roles) (put seats n v) ≤ reserve z
-      → Ring z words (put seats n v)
-  watches n v rested ok room limit spare =
-      renewed (put seats n v) (λ k. put_each seats n k v (SeatOk z r.head r.tail live r.log r.cells r.history) ok (λ ne. r.each_seat k)) room limit spare (claimed_beside seats n v rested)
+      → Became z words (put seats n v) r.history
+  watches n v rested ok room limit spare = (
+    renewed (put seats n v) (λ k. put_each seats n k v (SeatOk z r.head r.tail live r.log r.cells r.history) ok (λ ne. r.each_seat k)) room limit spare (claimed_beside seats n v rested),
+    refl,
+  )
 
   -- the slot of the next place had one a lap before
   pub next_on : r.tail ≡ (r.cells (r.tail % m)).place + m
@@ -297,7 +303,7 @@ module _ (z : Layout) (words : List ℕ) (seats : ℕ → SeatView) (r : Ring z 
   pub fills : (n p : ℕ) (x : Option Taken) (v : SeatView) → ((q : ℕ) (y : Option Taken) → q ≢ p → HasClaimed (seats n).stage q y → HasClaimed v.stage q y) → r.cells (p % m) ≡ cell p (Some n) → r.log p ≡ x
       → SeatOk z r.head r.tail live r.log (put r.cells (p % m) (cell p None)) r.history n v
       → v.credits ≡ (seats n).credits
-      → Ring z (set words (slot_word (p % m)) (face m p x)) (put seats n v)
+      → Became z (set words (slot_word (p % m)) (face m p x)) (put seats n v) r.history
   fills n p x v left mine filled ok same =
       let i : ℕ = p % m in
       let w : ℕ = face m p x in
@@ -309,50 +315,52 @@ module _ (z : Layout) (words : List ℕ) (seats : ℕ → SeatView) (r : Ring z 
       (λ k. put_each seats n k v (λ q (u : SeatView). u.credits ≡ (seats q).credits) same (λ _. refl)) in
       let a = r.roomy in
       let b = r.limited in
-      let s = r.spare in
-      record {
-        planned = r.planned;
-        head = r.head;
-        tail = r.tail;
-        voids = r.voids;
-        shut = r.shut;
-        values = r.values;
-        history = r.history;
-        log = r.log;
-        cells = cells';
-        wide = length-set words (slot_word i) w ∙ r.wide;
-        tail_is = get_or-set_other words (slot_word i) 0 w 0 (λ e. omega (arith, e)) ∙ r.tail_is;
-        head_is = get_or-set_other words (slot_word i) 16 w 0 (λ e. omega (arith, e)) ∙ r.head_is;
-        leads = r.leads;
-        taken = r.taken;
-        permitted = r.permitted;
-        counted = r.counted;
-        unshut = r.unshut;
-        spare = omega (arith, s, totals);
-        roomy = omega (arith, a, totals);
-        limited = omega (arith, b, totals);
-        logged = r.logged;
-        marked = r.marked;
-        fits = r.fits;
-        each_cell = λ j lt. put_each r.cells i j (cell p None) (CellOk m r.head r.tail r.log words')
-            (record { slot = old.slot; claimed = old.claimed; last = old.last; lies = get_or-set_same words (slot_word i) w 0 (slot_within p) ∙ ap (face m p) (sym filled) })
-            (λ ne. cell_apart i j w ne (r.cells j) (r.each_cell j lt));
-        filling = λ j lt. put_each r.cells i j (cell p None) (λ q (c : Cell). FillerStands (length z.roles) r.log (put seats n v) c.place c.filler) tt
-            (λ ne. filler_on (length z.roles) r.log r.log seats (put seats n v) (r.cells j).place (r.cells j).filler refl
-            (claimed_apart n v j lt left ne) (r.filling j lt));
-        each_seat = λ k. put_each seats n k v (SeatOk z r.head r.tail live r.log cells' r.history) ok
-            (λ ne. let g = r.each_seat k in record {
-              number = g.number;
-              behind = g.behind;
-              few = g.few;
-              rest = g.rest;
-              begins = g.begins;
-              own = g.own;
-              known = g.known;
-              noted = g.noted;
-              stage = others_fill k (seats k) g.number ne (seats k).stage g.stage;
-            });
-      }
+      let s = r.spare in (
+        record {
+          planned = r.planned;
+          head = r.head;
+          tail = r.tail;
+          voids = r.voids;
+          shut = r.shut;
+          values = r.values;
+          history = r.history;
+          log = r.log;
+          cells = cells';
+          wide = length-set words (slot_word i) w ∙ r.wide;
+          tail_is = get_or-set_other words (slot_word i) 0 w 0 (λ e. omega (arith, e)) ∙ r.tail_is;
+          head_is = get_or-set_other words (slot_word i) 16 w 0 (λ e. omega (arith, e)) ∙ r.head_is;
+          leads = r.leads;
+          taken = r.taken;
+          permitted = r.permitted;
+          counted = r.counted;
+          unshut = r.unshut;
+          spare = omega (arith, s, totals);
+          roomy = omega (arith, a, totals);
+          limited = omega (arith, b, totals);
+          logged = r.logged;
+          marked = r.marked;
+          fits = r.fits;
+          each_cell = λ j lt. put_each r.cells i j (cell p None) (CellOk m r.head r.tail r.log words')
+              (record { slot = old.slot; claimed = old.claimed; last = old.last; lies = get_or-set_same words (slot_word i) w 0 (slot_within p) ∙ ap (face m p) (sym filled) })
+              (λ ne. cell_apart i j w ne (r.cells j) (r.each_cell j lt));
+          filling = λ j lt. put_each r.cells i j (cell p None) (λ q (c : Cell). FillerStands (length z.roles) r.log (put seats n v) c.place c.filler) tt
+              (λ ne. filler_on (length z.roles) r.log r.log seats (put seats n v) (r.cells j).place (r.cells j).filler refl
+              (claimed_apart n v j lt left ne) (r.filling j lt));
+          each_seat = λ k. put_each seats n k v (SeatOk z r.head r.tail live r.log cells' r.history) ok
+              (λ ne. let g = r.each_seat k in record {
+                number = g.number;
+                behind = g.behind;
+                few = g.few;
+                rest = g.rest;
+                begins = g.begins;
+                own = g.own;
+                known = g.known;
+                noted = g.noted;
+                stage = others_fill k (seats k) g.number ne (seats k).stage g.stage;
+              });
+        },
+        refl,
+      )
     where
       claimed_apart : (n : ℕ) (v : SeatView) (j : ℕ) (lt : j < m) → ((q : ℕ) (y : Option Taken) → q ≢ p → HasClaimed (seats n).stage q y → HasClaimed v.stage q y) → j ≢ p % m
           → (k : ℕ) → HasClaimed (seats k).stage (r.cells j).place (r.log (r.cells j).place) → HasClaimed (put seats n v k).stage (r.cells j).place (r.log (r.cells j).place)
@@ -462,7 +470,7 @@ module _ (z : Layout) (words : List ℕ) (seats : ℕ → SeatView) (r : Ring z 
   pub shuts : (n : ℕ) (v : SeatView) → Rests (seats n).stage → r.shut ≡ false → IsPermitted (permits_of z) (Shut n)
       → SeatOk z r.head r.tail live r.log r.cells (r.history ++ Shut n ∷ []) n v
       → v.credits ≡ (seats n).credits
-      → Ring z (set words 0 (tail_word r.tail true)) (put seats n v)
+      → Became z (set words 0 (tail_word r.tail true)) (put seats n v) (r.history ++ Shut n ∷ [])
   shuts n v rested unshut permit ok same =
       let w : ℕ = tail_word r.tail true in
       let wide = r.wide in
@@ -470,39 +478,41 @@ module _ (z : Layout) (words : List ℕ) (seats : ℕ → SeatView) (r : Ring z 
       (λ k. put_each seats n k v (λ q (u : SeatView). u.credits ≡ (seats q).credits) same (λ _. refl)) in
       let a = r.roomy in
       let b = r.limited in
-      let s = r.spare in
-      record {
-        planned = r.planned;
-        head = r.head;
-        tail = r.tail;
-        voids = r.voids;
-        shut = true;
-        values = r.values;
-        history = r.history ++ Shut n ∷ [];
-        log = r.log;
-        cells = r.cells;
-        wide = length-set words 0 w ∙ wide;
-        tail_is = get_or-set_same words 0 w 0 (omega (arith, wide));
-        head_is = get_or-set_other words 0 16 w 0 (λ e. omega (arith, e)) ∙ r.head_is;
-        taken = r.taken ∙ ap (λ k. m + k) ((let e : count_by is_pop r.history ≡ count_by is_pop r.history + 0 = omega arith in e) ∙ sym (sum_by-append _ r.history (Shut n ∷ [])));
-        leads = leads_shut r.history r.values n (subst (λ b. Leads r.history b r.values) unshut r.leads);
-        permitted = all_one (IsPermitted (permits_of z)) r.history (Shut n) r.permitted permit;
-        counted = r.counted;
-        unshut = λ e. r.unshut unshut;
-        spare = omega (arith, s, totals);
-        roomy = omega (arith, a, totals);
-        limited = omega (arith, b, totals);
-        logged = r.logged;
-        marked = r.marked;
-        fits = r.fits;
-        each_cell = λ j lt. let k = r.each_cell j lt in record {
-          slot = k.slot;
-          claimed = k.claimed;
-          last = k.last;
-          lies = subst (λ (y : ℕ). Lies m r.head r.log y (r.cells j).place (r.cells j).filler) (sym (slot_after_tail w j)) k.lies;
-        };
-        filling = λ j lt. filler_on (length z.roles) r.log r.log seats (put seats n v) (r.cells j).place (r.cells j).filler refl (λ k. claimed_beside seats n v rested k (r.cells j).place (r.log (r.cells j).place)) (r.filling j lt);
-        each_seat = λ k. put_each seats n k v (SeatOk z r.head r.tail live r.log r.cells (r.history ++ Shut n ∷ [])) ok
-            (λ ne. seat_stays z r.head r.tail live r.head r.tail live r.log r.log r.cells r.cells r.history (Shut n ∷ []) k (seats k)
-            (omega arith) (own_other k r.history (Shut n) (λ e. ne (sym e))) (λ s. s) (r.each_seat k));
-      }
+      let s = r.spare in (
+        record {
+          planned = r.planned;
+          head = r.head;
+          tail = r.tail;
+          voids = r.voids;
+          shut = true;
+          values = r.values;
+          history = r.history ++ Shut n ∷ [];
+          log = r.log;
+          cells = r.cells;
+          wide = length-set words 0 w ∙ wide;
+          tail_is = get_or-set_same words 0 w 0 (omega (arith, wide));
+          head_is = get_or-set_other words 0 16 w 0 (λ e. omega (arith, e)) ∙ r.head_is;
+          taken = r.taken ∙ ap (λ k. m + k) ((let e : count_by is_pop r.history ≡ count_by is_pop r.history + 0 = omega arith in e) ∙ sym (sum_by-append _ r.history (Shut n ∷ [])));
+          leads = leads_shut r.history r.values n (subst (λ b. Leads r.history b r.values) unshut r.leads);
+          permitted = all_one (IsPermitted (permits_of z)) r.history (Shut n) r.permitted permit;
+          counted = r.counted;
+          unshut = λ e. r.unshut unshut;
+          spare = omega (arith, s, totals);
+          roomy = omega (arith, a, totals);
+          limited = omega (arith, b, totals);
+          logged = r.logged;
+          marked = r.marked;
+          fits = r.fits;
+          each_cell = λ j lt. let k = r.each_cell j lt in record {
+            slot = k.slot;
+            claimed = k.claimed;
+            last = k.last;
+            lies = subst (λ (y : ℕ). Lies m r.head r.log y (r.cells j).place (r.cells j).filler) (sym (slot_after_tail w j)) k.lies;
+          };
+          filling = λ j lt. filler_on (length z.roles) r.log r.log seats (put seats n v) (r.cells j).place (r.cells j).filler refl (λ k. claimed_beside seats n v rested k (r.cells j).place (r.log (r.cells j).place)) (r.filling j lt);
+          each_seat = λ k. put_each seats n k v (SeatOk z r.head r.tail live r.log r.cells (r.history ++ Shut n ∷ [])) ok
+              (λ ne. seat_stays z r.head r.tail live r.head r.tail live r.log r.log r.cells r.cells r.history (Shut n ∷ []) k (seats k)
+              (omega arith) (own_other k r.history (Shut n) (λ e. ne (sym e))) (λ s. s) (r.each_seat k));
+        },
+        refl,
+      )

@@ -23,3 +23,5 @@ pub mod Bounds
 pub mod Openings
 pub mod Moments
 pub mod WorkedRuns
+pub mod Carrying
+pub mod Lifts

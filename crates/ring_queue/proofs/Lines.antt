@@ -18,9 +18,9 @@ use Rattle.ring_queue.specs.Steps.{Rests, IsAhead, LeadsToSome, HoldsSoMany, Tai
 use Rattle.ring_queue.proofs.Numbers.{same_place, parity_turns, face_parity, face_payload, payload_none}
 use Rattle.ring_queue.proofs.Puts.{same_or_not, put_each, total_bound}
 use Rattle.ring_queue.proofs.Histories.{noted_empty, noted_shut, all_one_note}
-use Rattle.ring_queue.proofs.Keeps.{some_slot, watches, head_below, cell}
+use Rattle.ring_queue.proofs.Keeps.{Became, some_slot, watches, head_below, cell}
 use Rattle.ring_queue.proofs.Puts.{got_snoc}
-use Rattle.ring_queue.proofs.Tables.{it_fits, notes_stay, saw_all, looks, learns}
+use Rattle.ring_queue.proofs.Tables.{Extends, adds_none, it_fits, notes_stay, saw_all, looks, learns}
 
 module _ (z : Layout) (words : List ℕ) (seats : ℕ → SeatView) (r : Ring z words seats) (v : SeatView) (is : seats v.number ≡ v) (rested : Rests v.stage) where
   abbrev live : ℕ
@@ -59,7 +59,7 @@ module _ (z : Layout) (words : List ℕ) (seats : ℕ → SeatView) (r : Ring z 
 
   -- the ring after a step that changes no word
   seen_ring : (st : Stage) (head : ℕ) (notes : List ℕ) → All (IsNoted r.history) notes → head ≤ r.head → Stands z.slots r.head r.tail live r.log r.cells (after st head v.credits notes) st
-      → Ring z words (put seats v.number (after st head v.credits notes))
+      → Became z words (put seats v.number (after st head v.credits notes)) r.history
   seen_ring st head notes noted behind stands =
       looks z words seats r v is (after st head v.credits notes) rested refl (saw_all z words seats r v is (after st head v.credits notes) refl refl refl noted behind fit.few stands)
 
@@ -75,7 +75,7 @@ module _ (z : Layout) (words : List ℕ) (seats : ℕ → SeatView) (r : Ring z 
   tail_counts e = let a = r.counted in let b = r.unshut e in let c = r.taken in let d = pushes-Leads r.history r.shut r.values r.leads in omega (arith, a, b, c, d)
 
   abbrev Line : (SeatView → ℕ → SeatView → Type 0) → ℕ → Type 0
-  Line fact n = (v' : SeatView) × (v'.number ≡ v.number) × Ring z words (put seats v.number v') × fact v n v'
+  Line fact n = (v' : SeatView) × (v'.number ≡ v.number) × (r' : Ring z words (put seats v.number v')) × Extends [] r.history v r'.history v' × fact v n v'
 
   -- what a load of Tail finds
   abbrev n : ℕ
@@ -89,10 +89,11 @@ module _ (z : Layout) (words : List ℕ) (seats : ℕ → SeatView) (r : Ring z 
       go true e =
           let is_n : n ≡ r.tail + 2 ^ 62 = r.tail_is ∙ ap (tail_word r.tail) e in
           let v' : SeatView = after rests v.head v.credits one_note in
-          let ring : Ring z words (put seats v.number v') = seen_ring rests v.head one_note (notes_and_shut (shut_leads e)) fit.behind tt in (
+          let made : Became z words (put seats v.number v') r.history = seen_ring rests v.head one_note (notes_and_shut (shut_leads e)) fit.behind tt in let ring : Ring z words (put seats v.number v') = made.0 in (
             v',
             refl,
             ring,
+            adds_none [] r.history v ring.history v' made.1 refl refl,
             record {
               learns = learns z words seats v v' refl ring;
               head = refl;
@@ -110,10 +111,11 @@ module _ (z : Layout) (words : List ℕ) (seats : ℕ → SeatView) (r : Ring z 
           (λ within. dite (dec_le (v.head + z.most) n)
           (λ full.
           let v' : SeatView = after (saw n) v.head v.credits v.notes in
-          let ring : Ring z words (put seats v.number v') = seen_ring (saw n) v.head v.notes notes_stay' fit.behind (let c = r.counted in let o = r.unshut e in omega (arith, c, o, is_n)) in (
+          let made : Became z words (put seats v.number v') r.history = seen_ring (saw n) v.head v.notes notes_stay' fit.behind (let c = r.counted in let o = r.unshut e in omega (arith, c, o, is_n)) in let ring : Ring z words (put seats v.number v') = made.0 in (
             v',
             refl,
             ring,
+            adds_none [] r.history v ring.history v' made.1 refl refl,
             record {
               learns = learns z words seats v v' refl ring;
               head = refl;
@@ -131,12 +133,13 @@ module _ (z : Layout) (words : List ℕ) (seats : ℕ → SeatView) (r : Ring z 
           let behind = fit.behind in
           let lt : n < v.head + z.most = omega (arith, apart) in
           let none = r.unshut e in
-          let ring : Ring z words (put seats v.number v') = watches z words seats r v.number v' (subst (λ (u : SeatView). Rests u.stage) (sym is) rested)
+          let made : Became z words (put seats v.number v') r.history = watches z words seats r v.number v' (subst (λ (u : SeatView). Rests u.stage) (sym is) rested)
           (saw_all z words seats r v is v' refl refl refl notes_stay' fit.behind (omega arith) tt)
-          (omega (arith, few, behind, lt, is_n)) (omega (arith, few, within, is_n)) (omega (arith, few, none)) in (
+          (omega (arith, few, behind, lt, is_n)) (omega (arith, few, within, is_n)) (omega (arith, few, none)) in let ring : Ring z words (put seats v.number v') = made.0 in (
             v',
             refl,
             ring,
+            adds_none [] r.history v ring.history v' made.1 refl refl,
             record {
               learns = learns z words seats v v' refl ring;
               head = refl;
@@ -149,11 +152,12 @@ module _ (z : Layout) (words : List ℕ) (seats : ℕ → SeatView) (r : Ring z 
           )))
           (λ over.
           let v' : SeatView = after rests v.head v.credits v.notes in
-          let ring : Ring z words (put seats v.number v') = seen_ring rests v.head v.notes notes_stay' fit.behind tt in
+          let made : Became z words (put seats v.number v') r.history = seen_ring rests v.head v.notes notes_stay' fit.behind tt in let ring : Ring z words (put seats v.number v') = made.0 in
           let count = tail_counts e in (
             v',
             refl,
             ring,
+            adds_none [] r.history v ring.history v' made.1 refl refl,
             record {
               learns = learns z words seats v v' refl ring;
               head = refl;
@@ -201,10 +205,11 @@ module _ (z : Layout) (words : List ℕ) (seats : ℕ → SeatView) (r : Ring z 
   pub reads_head : Line (HeadFound z) (get_or words 16 0)
   reads_head =
       let v' : SeatView = after rests r.head v.credits v.notes in
-      let ring : Ring z words (put seats v.number v') = seen_ring rests r.head v.notes notes_stay' (omega arith) tt in (
+      let made : Became z words (put seats v.number v') r.history = seen_ring rests r.head v.notes notes_stay' (omega arith) tt in let ring : Ring z words (put seats v.number v') = made.0 in (
         v',
         refl,
         ring,
+        adds_none [] r.history v ring.history v' made.1 refl refl,
         record {
           learns = learns z words seats v v' refl ring;
           head = sym r.head_is;
@@ -229,10 +234,11 @@ module _ (z : Layout) (words : List ℕ) (seats : ℕ → SeatView) (r : Ring z 
       let knows : IsFilled z.slots r.tail r.log r.cells r.head w = at_head w (subst (Stands z.slots r.head r.tail live r.log r.cells v) at fit.stage here) in
       let ends : Leads r.history true [] = (front_tells w knows).0 mark in
       let v' : SeatView = after rests r.head v.credits one_note in
-      let ring : Ring z words (put seats v.number v') = seen_ring rests r.head one_note (notes_and_shut ([], ends)) (omega arith) tt in (
+      let made : Became z words (put seats v.number v') r.history = seen_ring rests r.head one_note (notes_and_shut ([], ends)) (omega arith) tt in let ring : Ring z words (put seats v.number v') = made.0 in (
         v',
         refl,
         ring,
+        adds_none [] r.history v ring.history v' made.1 refl refl,
         record {
           learns = learns z words seats v v' refl ring;
           head = sym r.head_is;
@@ -244,10 +250,11 @@ module _ (z : Layout) (words : List ℕ) (seats : ℕ → SeatView) (r : Ring z 
       ))
       (λ apart.
       let v' : SeatView = after rests r.head v.credits v.notes in
-      let ring : Ring z words (put seats v.number v') = seen_ring rests r.head v.notes notes_stay' (omega arith) tt in (
+      let made : Became z words (put seats v.number v') r.history = seen_ring rests r.head v.notes notes_stay' (omega arith) tt in let ring : Ring z words (put seats v.number v') = made.0 in (
         v',
         refl,
         ring,
+        adds_none [] r.history v ring.history v' made.1 refl refl,
         record {
           learns = learns z words seats v v' refl ring;
           head = sym r.head_is;
@@ -307,10 +314,11 @@ module _ (z : Layout) (words : List ℕ) (seats : ℕ → SeatView) (r : Ring z 
       (λ same.
       let w : ℕ = front_word v.head in
       let v' : SeatView = after (found (w ∷ [])) v.head v.credits v.notes in
-      let ring : Ring z words (put seats v.number v') = seen_ring (found (w ∷ [])) v.head v.notes notes_stay' fit.behind (λ here. one_found here same) in (
+      let made : Became z words (put seats v.number v') r.history = seen_ring (found (w ∷ [])) v.head v.notes notes_stay' fit.behind (λ here. one_found here same) in let ring : Ring z words (put seats v.number v') = made.0 in (
         v',
         refl,
         ring,
+        adds_none [] r.history v ring.history v' made.1 refl refl,
         record {
           learns = learns z words seats v v' refl ring;
           head = refl;
@@ -323,10 +331,11 @@ module _ (z : Layout) (words : List ℕ) (seats : ℕ → SeatView) (r : Ring z 
       ))
       (λ apart.
       let v' : SeatView = after rests v.head v.credits v.notes in
-      let ring : Ring z words (put seats v.number v') = seen_ring rests v.head v.notes notes_stay' fit.behind tt in (
+      let made : Became z words (put seats v.number v') r.history = seen_ring rests v.head v.notes notes_stay' fit.behind tt in let ring : Ring z words (put seats v.number v') = made.0 in (
         v',
         refl,
         ring,
+        adds_none [] r.history v ring.history v' made.1 refl refl,
         record {
           learns = learns z words seats v v' refl ring;
           head = refl;
@@ -353,10 +362,11 @@ module _ (z : Layout) (words : List ℕ) (seats : ℕ → SeatView) (r : Ring z 
       onward : n ≢ v.head → n ≢ v.head + 2 ^ 62 → IsAhead z r.history v.head → Line (EndFound z) n
       onward apart not_end ahead =
           let v' : SeatView = after rests v.head v.credits v.notes in
-          let ring : Ring z words (put seats v.number v') = seen_ring rests v.head v.notes notes_stay' fit.behind tt in (
+          let made : Became z words (put seats v.number v') r.history = seen_ring rests v.head v.notes notes_stay' fit.behind tt in let ring : Ring z words (put seats v.number v') = made.0 in (
             v',
             refl,
             ring,
+            adds_none [] r.history v ring.history v' made.1 refl refl,
             record {
               learns = learns z words seats v v' refl ring;
               head = refl;
@@ -378,10 +388,11 @@ module _ (z : Layout) (words : List ℕ) (seats : ℕ → SeatView) (r : Ring z 
           (λ same.
           let ends : Leads r.history true [] = subst (λ (vs : List Taken). Leads r.history true vs) (none_left (omega (arith, is_n, same))) (subst (λ b. Leads r.history b r.values) f r.leads) in
           let v' : SeatView = after rests v.head v.credits one_note in
-          let ring : Ring z words (put seats v.number v') = seen_ring rests v.head one_note (notes_and_shut ([], ends)) fit.behind tt in (
+          let made : Became z words (put seats v.number v') r.history = seen_ring rests v.head one_note (notes_and_shut ([], ends)) fit.behind tt in let ring : Ring z words (put seats v.number v') = made.0 in (
             v',
             refl,
             ring,
+            adds_none [] r.history v ring.history v' made.1 refl refl,
             record {
               learns = learns z words seats v v' refl ring;
               head = refl;
@@ -400,10 +411,11 @@ module _ (z : Layout) (words : List ℕ) (seats : ℕ → SeatView) (r : Ring z 
           (λ same.
           let ends : LeadsTo r.history [] = subst (λ (vs : List Taken). Leads r.history false vs) (none_left (omega (arith, is_n, same))) (subst (λ b. Leads r.history b r.values) f r.leads) in
           let v' : SeatView = after rests v.head v.credits one_note in
-          let ring : Ring z words (put seats v.number v') = seen_ring rests v.head one_note (notes_and_empty ends) fit.behind tt in (
+          let made : Became z words (put seats v.number v') r.history = seen_ring rests v.head one_note (notes_and_empty ends) fit.behind tt in let ring : Ring z words (put seats v.number v') = made.0 in (
             v',
             refl,
             ring,
+            adds_none [] r.history v ring.history v' made.1 refl refl,
             record {
               learns = learns z words seats v v' refl ring;
               head = refl;
@@ -443,10 +455,11 @@ module _ (z : Layout) (words : List ℕ) (seats : ℕ → SeatView) (r : Ring z 
   pub sees_tail : Line (TailSeen z) (get_or words 0 0)
   sees_tail =
       let v' : SeatView = after rests v.head v.credits v.notes in
-      let ring : Ring z words (put seats v.number v') = seen_ring rests v.head v.notes notes_stay' fit.behind tt in (
+      let made : Became z words (put seats v.number v') r.history = seen_ring rests v.head v.notes notes_stay' fit.behind tt in let ring : Ring z words (put seats v.number v') = made.0 in (
         v',
         refl,
         ring,
+        adds_none [] r.history v ring.history v' made.1 refl refl,
         record { learns = learns z words seats v v' refl ring; head = refl; credits = refl; rests = tt; sees = sees rests v.head v.credits; holds = holds_so_many },
       )
 
@@ -458,16 +471,18 @@ module _ (z : Layout) (words : List ℕ) (seats : ℕ → SeatView) (r : Ring z 
       (λ some.
       let w : ℕ = front_word (v.head + length ws) in
       let v' : SeatView = after (found (ws ++ w ∷ [])) v.head v.credits v.notes in
-      let ring : Ring z words (put seats v.number v') = seen_ring (found (ws ++ w ∷ [])) v.head v.notes notes_stay' fit.behind
+      let made : Became z words (put seats v.number v') r.history = seen_ring (found (ws ++ w ∷ [])) v.head v.notes notes_stay' fit.behind
       (λ here i u got. ⊎_elim
       (λ (old : slice_get ws i ≡ Some u). subst (Stands z.slots r.head r.tail live r.log r.cells v) at fit.stage here i u old)
       (λ (new : (i ≡ length ws) × (w ≡ u)).
       let e : v.head + length ws ≡ r.head + i = (let is = new.0 in omega (arith, here, is)) in
       subst (λ (y : ℕ × ℕ). IsFilled z.slots r.tail r.log r.cells y.0 y.1) (λ k. (e k, new.1 k)) (place_filled (v.head + length ws) (omega (arith, here)) (omega (arith, here, few)) same))
-      (got_snoc ws w u i got)) in (
+      (got_snoc ws w u i got)) in
+      let ring : Ring z words (put seats v.number v') = made.0 in (
         v',
         refl,
         ring,
+        adds_none [] r.history v ring.history v' made.1 refl refl,
         record {
           learns = learns z words seats v v' refl ring;
           head = refl;
@@ -484,10 +499,11 @@ module _ (z : Layout) (words : List ℕ) (seats : ℕ → SeatView) (r : Ring z 
       stays : (front_word (v.head + length ws) / 2 ^ 63 ≡ parity z.slots (v.head + length ws) → 0 < front_word (v.head + length ws) % 2 ^ 63 → found ws ≡ found (ws ++ front_word (v.head + length ws) ∷ [])) → Line (NextFound z ws) (front_word (v.head + length ws))
       stays valued =
           let v' : SeatView = after (found ws) v.head v.credits v.notes in
-          let ring : Ring z words (put seats v.number v') = seen_ring (found ws) v.head v.notes notes_stay' fit.behind (subst (Stands z.slots r.head r.tail live r.log r.cells v) at fit.stage) in (
+          let made : Became z words (put seats v.number v') r.history = seen_ring (found ws) v.head v.notes notes_stay' fit.behind (subst (Stands z.slots r.head r.tail live r.log r.cells v) at fit.stage) in let ring : Ring z words (put seats v.number v') = made.0 in (
             v',
             refl,
             ring,
+            adds_none [] r.history v ring.history v' made.1 refl refl,
             record {
               learns = learns z words seats v v' refl ring;
               head = refl;

@@ -5,6 +5,7 @@ use mathlib.Core.Option.{some, some-injective, some-ne-none}
 use lib.ListN.{get_elem?}
 use Rattle.atomic_table.specs.Table.{State, Me, Splits, Joins, Allows, keeps}
 use Rattle.atomic_table.proofs.Lists.{at_set, set_else, set_again}
+use Rattle.history.specs.declared.operations.Entry.{Entry}
 use Rattle.history.specs.Answers.{SeesMore}
 use Rattle.ring_queue.specs.Plans.{Layout}
 use Rattle.ring_queue.specs.Seeing.{Stage, rests, saw, claimed, found, SeatView, View, keeper, seated, paired, spent, members, knows, knows_second, known_by, both_of, first_of, second_of}
@@ -12,25 +13,28 @@ use Rattle.ring_queue.specs.Rule.{HasClaimed, Stands, SeatOk, total, put, Ring, 
 use Rattle.ring_queue.specs.Meeting.{learned, Met}
 use Rattle.ring_queue.proofs.Keeps.{renewed}
 use Rattle.ring_queue.proofs.Puts.{put_here, put_else, put_each, total_same}
-use Rattle.ring_queue.proofs.Tables.{one_of, it_fits, it_is_sound, notes_stay, saw_all, head_below}
+use Rattle.ring_queue.proofs.Tables.{HoldsWith, one_of, it_fits, it_is_sound, notes_stay, saw_all, head_below}
 use Rattle.ring_queue.proofs.Deals.{at_end}
 
 -- the views change, and each seat that they speak of keeps its place in `own`
 pub views_now : (z : Layout) (s : State ℕ View) (h : Holds z s) (views : List View) (own : ℕ → ℕ × ℕ)
     → ((j i : ℕ) (u : View) (o : SeatView) → get_elem? views j ≡ some u → get_elem? (members u) i ≡ some o → (h.seats o.number ≡ o) × (own o.number ≡ (j, i)) × (o.number < h.dealt))
     → ((j m n : ℕ) → get_elem? views j ≡ some (keeper m n) → (j ≡ h.home) × (n ≡ h.dealt) × (m ≡ z.slots))
-    → Holds z record { words = s.words; homes = s.homes; views = views }
-views_now z s h views own all some_keeper = record {
-  seats = h.seats;
-  ring = h.ring;
-  dealt = h.dealt;
-  home = h.home;
-  owner = own;
-  fits = λ j i u o a b. (all j i u o a b).0;
-  owned = λ j i u o a b. let t = all j i u o a b in (t.1, t.2);
-  kept = some_keeper;
-  undealt = h.undealt;
-}
+    → HoldsWith z h.ring.history record { words = s.words; homes = s.homes; views = views }
+views_now z s h views own all some_keeper = (
+  record {
+    seats = h.seats;
+    ring = h.ring;
+    dealt = h.dealt;
+    home = h.home;
+    owner = own;
+    fits = λ j i u o a b. (all j i u o a b).0;
+    owned = λ j i u o a b. let t = all j i u o a b in (t.1, t.2);
+    kept = some_keeper;
+    undealt = h.undealt;
+  },
+  refl,
+)
 
 two_of : (v w o : SeatView) (i : ℕ) → get_elem? (v ∷ w ∷ []) i ≡ some o → ((i ≡ 0) × (v ≡ o)) ⊎ ((i ≡ 1) × (w ≡ o))
 two_of v w o zero e = inl (refl, some-injective v o e)
@@ -40,8 +44,9 @@ pub no_one : {X : Type 0} (o : SeatView) (i : ℕ) → get_elem? {A = SeatView} 
 no_one o i e = absurd (some-ne-none o (sym e))
 
 -- two seats become one
-pub pairs : (z : Layout) (id other : ℕ) (v w : SeatView) → Joins {S = ℕ} (Holds z) id (seated v) other (seated w) (paired v w) spent
-pairs z id other v w s h at_id ne at_other =
+pub pairs : (z : Layout) (es : List Entry) (id other : ℕ) (v w : SeatView) → Joins {S = ℕ} (HoldsWith z es) id (seated v) other (seated w) (paired v w) spent
+pairs z es id other v w s whole at_id ne at_other =
+    let h : Holds z s = whole.0 in
     let there : get_elem? s.views other ≡ some (seated w) = sym (set_else s.views id other (paired v w) ne) ∙ at_other in
     let own : ℕ → ℕ × ℕ = put h.owner w.number (id, 1) in
     let ov = h.owned id 0 (seated v) v at_id refl in
@@ -50,7 +55,7 @@ pairs z id other v w s h at_id ne at_other =
     let differ : v.number ≢ w.number = λ e. ne (ap (λ (y : ℕ × ℕ). y.0) (sym ow.0 ∙ (ap h.owner (sym e) ∙ ov.0))) in
     let first : P id 0 v = (h.fits id 0 (seated v) v at_id refl, put_else h.owner w.number v.number (id, 1) differ ∙ ov.0, ov.1) in
     let second : P id 1 w = (h.fits other 0 (seated w) w there refl, put_here h.owner w.number w.number (id, 1) refl, ow.1) in
-    views_now z s h (set (set s.views id (paired v w)) other spent) own
+    let q = views_now z s h (set (set s.views id (paired v w)) other spent) own
     (λ j i u o a b. ⊎_elim
     (λ (t : (j ≡ other) × (spent ≡ u)). no_one o i (ap (λ (y : View). get_elem? (members y) i) t.1 ∙ b))
     (λ (t : (j ≢ other) × (get_elem? (set s.views id (paired v w)) j ≡ some u)). ⊎_elim
@@ -66,11 +71,13 @@ pairs z id other v w s h at_id ne at_other =
     (λ (t : (j ≢ other) × (get_elem? (set s.views id (paired v w)) j ≡ some (keeper m n))). ⊎_elim (λ (q : (j ≡ id) × (paired v w ≡ keeper m n)). let e = q.1 in cc)
     (λ (q : (j ≢ id) × (get_elem? s.views j ≡ some (keeper m n))). h.kept j m n q.1)
     (at_set s.views id j (paired v w) (keeper m n) t.1))
-    (at_set (set s.views id (paired v w)) other j spent (keeper m n) a))
+    (at_set (set s.views id (paired v w)) other j spent (keeper m n) a)) in
+    (q.0, q.1 ∙ whole.1)
 
 -- one seat becomes two
-pub parts : (z : Layout) (id : ℕ) (v w : SeatView) → Splits {S = ℕ} (Holds z) id (paired v w) (seated v) (seated w)
-parts z id v w s h at_id =
+pub parts : (z : Layout) (es : List Entry) (id : ℕ) (v w : SeatView) → Splits {S = ℕ} (HoldsWith z es) id (paired v w) (seated v) (seated w)
+parts z es id v w s whole at_id =
+    let h : Holds z s = whole.0 in
     let l : ℕ = length (set s.views id (seated v)) in
     let own : ℕ → ℕ × ℕ = put h.owner w.number (l, 0) in
     let ov = h.owned id 0 (paired v w) v at_id refl in
@@ -79,7 +86,7 @@ parts z id v w s h at_id =
     let differ : v.number ≢ w.number = λ e. let f = ap (λ (y : ℕ × ℕ). y.1) (sym ow.0 ∙ (ap h.owner (sym e) ∙ ov.0)) in omega arith in
     let first : P id 0 v = (h.fits id 0 (paired v w) v at_id refl, put_else h.owner w.number v.number (l, 0) differ ∙ ov.0, ov.1) in
     let second : P l 0 w = (h.fits id 1 (paired v w) w at_id refl, put_here h.owner w.number w.number (l, 0) refl, ow.1) in
-    views_now z s h (set s.views id (seated v) ++ seated w ∷ []) own
+    let q = views_now z s h (set s.views id (seated v) ++ seated w ∷ []) own
     (λ j i u o a b. ⊎_elim
     (λ (t : get_elem? (set s.views id (seated v)) j ≡ some u). ⊎_elim
     (λ (q : (j ≡ id) × (seated v ≡ u)). let y = one_of v o i (ap (λ (y : View). get_elem? (members y) i) q.1 ∙ b) in subst (λ (x : ℕ × ℕ × SeatView). P x.0 x.1 x.2) (λ c. (sym q.0 c, sym y.0 c, y.1 c)) first)
@@ -92,14 +99,16 @@ parts z id v w s h at_id =
     (λ (t : get_elem? (set s.views id (seated v)) j ≡ some (keeper m n)). ⊎_elim (λ (q : (j ≡ id) × (seated v ≡ keeper m n)). let e = q.1 in cc) (λ (q : (j ≢ id) × (get_elem? s.views j ≡ some (keeper m n))). h.kept j m n q.1)
     (at_set s.views id j (seated v) (keeper m n) t))
     (λ (t : (j ≡ l) × (seated w ≡ keeper m n)). let e = t.1 in cc)
-    (at_end (set s.views id (seated v)) (seated w) (keeper m n) j a))
+    (at_end (set s.views id (seated v)) (seated w) (keeper m n) j a)) in
+    (q.0, q.1 ∙ whole.1)
 
 -- a spare seat, which knows nothing
-pub spares : (z : Layout) (id : ℕ) (v : SeatView) → Splits {S = ℕ} (Holds z) id (seated v) (seated v) spent
-spares z id v s h at_id =
+pub spares : (z : Layout) (es : List Entry) (id : ℕ) (v : SeatView) → Splits {S = ℕ} (HoldsWith z es) id (seated v) (seated v) spent
+spares z es id v s whole at_id =
+    let h : Holds z s = whole.0 in
     let l : ℕ = length (set s.views id (seated v)) in
     let same : set s.views id (seated v) ≡ s.views = set_again s.views id (seated v) at_id in
-    views_now z s h (set s.views id (seated v) ++ spent ∷ []) h.owner
+    let q = views_now z s h (set s.views id (seated v) ++ spent ∷ []) h.owner
     (λ j i u o a b. ⊎_elim
     (λ (t : get_elem? (set s.views id (seated v)) j ≡ some u). let q = subst (λ (vs : List View). get_elem? vs j ≡ some u) same t in let k = h.owned j i u o q b in (h.fits j i u o q b, k.0, k.1))
     (λ (t : (j ≡ l) × (spent ≡ u)). no_one o i (ap (λ (y : View). get_elem? (members y) i) t.1 ∙ b))
@@ -107,13 +116,14 @@ spares z id v s h at_id =
     (λ j m n a. ⊎_elim
     (λ (t : get_elem? (set s.views id (seated v)) j ≡ some (keeper m n)). h.kept j m n (subst (λ (vs : List View). get_elem? vs j ≡ some (keeper m n)) same t))
     (λ (t : (j ≡ l) × (spent ≡ keeper m n)). let e = t.1 in cc)
-    (at_end (set s.views id (seated v)) spent (keeper m n) j a))
+    (at_end (set s.views id (seated v)) spent (keeper m n) j a)) in
+    (q.0, q.1 ∙ whole.1)
 
 module _ (z : Layout) (words : List ℕ) (seats : ℕ → SeatView) (r : Ring z words seats) (v w : SeatView) (differ : w.number ≢ v.number) (is_v : seats v.number ≡ v) (is_w : seats w.number ≡ w) where
   abbrev both : ℕ → SeatView
   both = put (put seats v.number (learned r.history v)) w.number (learned r.history w)
 
-  fits_still : (u : SeatView) → seats u.number ≡ u → SeatOk z r.head r.tail (r.head + length r.values) r.log r.cells r.history u.number (learned r.history u)
+  pub fits_still : (u : SeatView) → seats u.number ≡ u → SeatOk z r.head r.tail (r.head + length r.values) r.log r.cells r.history u.number (learned r.history u)
   fits_still u is =
       let f = it_fits z words seats r u is in
       saw_all z words seats r u is (learned r.history u) refl refl refl (notes_stay z words seats r u is) f.behind f.few (go u.stage f.stage)
@@ -125,7 +135,7 @@ module _ (z : Layout) (words : List ℕ) (seats : ℕ → SeatView) (r : Ring z 
       go (found ws) k = k
 
   -- the ring when both have seen the whole history
-  both_look : Ring z words both
+  abbrev both_look : Ring z words both
   both_look =
       let totals : total (length z.roles) both ≡ total (length z.roles) seats = total_same (length z.roles) seats both
       (λ k. put_each (put seats v.number (learned r.history v)) w.number k (learned r.history w) (λ q (u : SeatView). u.credits ≡ (seats q).credits)
@@ -161,9 +171,10 @@ module _ (z : Layout) (words : List ℕ) (seats : ℕ → SeatView) (r : Ring z 
     second_learns = record { number = refl; below = subst (λ (u : SeatView). u.head < 2 ^ 62) second_is (head_below z words both both_look w.number); sound = it_is_sound z words both both_look (learned r.history w) second_is };
   }
 
--- a load by two seats that are one: both have seen the whole history
-meets_paired : (z : Layout) (slots id : ℕ) (v w : SeatView) → Allows {S = ℕ} (Holds z) slots id (paired v w, []) 0 (λ n. n) (λ n m. Met z v w m)
-meets_paired z slots id v w s h none at_id small =
+-- two seats that are one have seen the whole history
+pub meets_now : (z : Layout) (s : State ℕ View) (h : Holds z s) (id : ℕ) (v w : SeatView) → get_elem? s.views id ≡ some (paired v w)
+    → HoldsWith z h.ring.history record { words = s.words; homes = s.homes; views = set s.views id (paired (learned h.ring.history v) (learned h.ring.history w)) } × Met z v w (paired (learned h.ring.history v) (learned h.ring.history w), [])
+meets_now z s h id v w at_id =
     let r = h.ring in
     let is_v : h.seats v.number ≡ v = h.fits id 0 (paired v w) v at_id refl in
     let is_w : h.seats w.number ≡ w = h.fits id 1 (paired v w) w at_id refl in
@@ -187,36 +198,43 @@ meets_paired z slots id v w s h none at_id small =
     let apart_w : o.number ≢ w.number = λ e. q.0 (ap (λ (y : ℕ × ℕ). y.0) (sym k.0 ∙ (ap h.owner e ∙ ow.0))) in
     (put_else (put h.seats v.number v') w.number o.number w' apart_w ∙ (put_else h.seats v.number o.number v' apart_v ∙ h.fits j i x o q.1 b), k.0, k.1))
     (at_set s.views id j (paired v' w') x a) in (
-      paired v' w',
-      keeps,
-      tt,
-      record {
-        seats = seats';
-        ring = subst (λ ws. Ring z ws seats') (sym (set-get_or s.words 0 0)) (both_look z s.words h.seats r v w differ is_v is_w);
-        dealt = h.dealt;
-        home = h.home;
-        owner = h.owner;
-        fits = λ j i x o a b. (all j i x o a b).0;
-        owned = λ j i x o a b. let q = all j i x o a b in (q.1, q.2);
-        kept = λ j m n a. ⊎_elim (λ (q : (j ≡ id) × (paired v' w' ≡ keeper m n)). let e = q.1 in cc) (λ (q : (j ≢ id) × (get_elem? s.views j ≡ some (keeper m n))). h.kept j m n q.1) (at_set s.views id j (paired v' w') (keeper m n) a);
-        undealt = λ n over. let lv = ov.1 in let lw = ow.1 in
-            put_else (put h.seats v.number v') w.number n w' (λ e. omega (arith, e, over, lw)) ∙ (put_else h.seats v.number n v' (λ e. omega (arith, e, over, lv)) ∙ h.undealt n over);
-      },
+      (
+        record {
+          seats = seats';
+          ring = both_look z s.words h.seats r v w differ is_v is_w;
+          dealt = h.dealt;
+          home = h.home;
+          owner = h.owner;
+          fits = λ j i x o a b. (all j i x o a b).0;
+          owned = λ j i x o a b. let q = all j i x o a b in (q.1, q.2);
+          kept = λ j m n a. ⊎_elim (λ (q : (j ≡ id) × (paired v' w' ≡ keeper m n)). let e = q.1 in cc) (λ (q : (j ≢ id) × (get_elem? s.views j ≡ some (keeper m n))). h.kept j m n q.1) (at_set s.views id j (paired v' w') (keeper m n) a);
+          undealt = λ n over. let lv = ov.1 in let lw = ow.1 in
+              put_else (put h.seats v.number v') w.number n w' (λ e. omega (arith, e, over, lw)) ∙ (put_else h.seats v.number n v' (λ e. omega (arith, e, over, lv)) ∙ h.undealt n over);
+        },
+        refl,
+      ),
       met z s.words h.seats r v w differ is_v is_w,
     )
 
+-- a load by two seats that are one
+meets_paired : (z : Layout) (slots id : ℕ) (v w : SeatView) → Allows {S = ℕ} (Holds z) slots id (paired v w, []) 0 (λ n. n) (λ n m. Met z v w m)
+meets_paired z slots id v w s h none at_id small =
+    let q = meets_now z s h id v w at_id in
+    let both : View = paired (learned h.ring.history v) (learned h.ring.history w) in
+    (both, keeps, tt, subst (λ (ws : List ℕ). Holds z (record { words = ws; homes = s.homes; views = set s.views id both })) (sym (set-get_or s.words 0 0)) q.0.0, q.1)
+
 -- the same at the names of calls
 pub spares_at : (key : Layout) (id : ℕ) (me : Me ℕ View) (v : SeatView) → me ≡ (seated v, []) → Splits {S = ℕ} (Holds key) id me.0 me.0 spent
-spares_at key id me v is = subst (λ (y : Me ℕ View). Splits {S = ℕ} (Holds key) id y.0 y.0 spent) (sym is) (spares key id v)
+spares_at key id me v is = subst (λ (y : Me ℕ View). Splits {S = ℕ} (Holds key) id y.0 y.0 spent) (sym is) (λ s h a. (spares key h.ring.history id v s (h, refl) a).0)
 
 pub pairs_at : (key : Layout) (id other : ℕ) (me him : Me ℕ View) (v w : SeatView) → me ≡ (seated v, []) → him ≡ (seated w, []) → Joins {S = ℕ} (Holds key) id me.0 other him.0 (both_of me.0 him.0) spent
-pairs_at key id other me him v w is his = subst (λ (y : Me ℕ View × Me ℕ View). Joins {S = ℕ} (Holds key) id y.0.0 other y.1.0 (both_of y.0.0 y.1.0) spent) (λ i. (sym is i, sym his i)) (pairs key id other v w)
+pairs_at key id other me him v w is his = subst (λ (y : Me ℕ View × Me ℕ View). Joins {S = ℕ} (Holds key) id y.0.0 other y.1.0 (both_of y.0.0 y.1.0) spent) (λ i. (sym is i, sym his i)) (λ s h a n b. (pairs key h.ring.history id other v w s (h, refl) a n b).0)
 
 pub meets_at : (key : Layout) (slots id : ℕ) (me : Me ℕ View) (v w : SeatView) → me ≡ (paired v w, []) → Allows {S = ℕ} (Holds key) slots id me 0 (λ n. n) (λ n m. Met key (knows me.0) (knows_second me.0) m)
 meets_at key slots id me v w is = subst (λ (y : Me ℕ View). Allows {S = ℕ} (Holds key) slots id y 0 (λ n. n) (λ n m. Met key (knows y.0) (knows_second y.0) m)) (sym is) (meets_paired key slots id v w)
 
 pub parts_at : (key : Layout) (id : ℕ) (me : Me ℕ View) (v w : SeatView) → me ≡ (paired v w, []) → Splits {S = ℕ} (Holds key) id me.0 (first_of me.0) (second_of me.0)
-parts_at key id me v w is = subst (λ (y : Me ℕ View). Splits {S = ℕ} (Holds key) id y.0 (first_of y.0) (second_of y.0)) (sym is) (parts key id v w)
+parts_at key id me v w is = subst (λ (y : Me ℕ View). Splits {S = ℕ} (Holds key) id y.0 (first_of y.0) (second_of y.0)) (sym is) (λ s h a. (parts key h.ring.history id v w s (h, refl) a).0)
 
 -- the token that two others joined into
 pub joined_is : (j one tok : Me ℕ View) (v w : SeatView) → one ≡ (seated v, []) → tok ≡ (seated w, []) → j ≡ (both_of one.0 tok.0, one.1) → j ≡ (paired v w, [])

@@ -1,5 +1,5 @@
 -- A seat shuts the queue.
-use Rattle.std.proofs.Common.{◌≡◌, ℕ, ◌+◌, ◌^◌, ◌<◌, ◌≤◌, Bool, true, false, bit_or, List, [], ◌∷◌, ◌++◌, length, get_or, set, sym, refl, ap, ◌∙◌, subst, arith, append-nil}
+use Rattle.std.proofs.Common.{◌≡◌, ℕ, ◌+◌, ◌^◌, ◌<◌, ◌≤◌, Bool, true, false, bit_or, inl, inr, List, [], ◌∷◌, ◌++◌, length, get_or, set, sym, refl, ap, ◌∙◌, subst, arith, append-nil}
 use Rattle.std.specs.List.{All}
 use Rattle.std.proofs.lemmas.List.{set-get_or}
 use Rattle.history.specs.declared.operations.Entry.{Entry}
@@ -13,8 +13,8 @@ use Rattle.ring_queue.specs.Seeing.{Stage, rests, SeatView, known_by}
 use Rattle.ring_queue.specs.Rule.{Cell, Log, SeatOk, Stands, put, Ring}
 use Rattle.ring_queue.specs.Steps.{Rests, ShutMade}
 use Rattle.ring_queue.proofs.Histories.{own_one, all_noted_more, noted_shut, all_one_note}
-use Rattle.ring_queue.proofs.Keeps.{shuts}
-use Rattle.ring_queue.proofs.Tables.{it_fits, notes_stay, saw_all, looks, learns}
+use Rattle.ring_queue.proofs.Keeps.{Became, shuts}
+use Rattle.ring_queue.proofs.Tables.{Extends, adds_none, it_fits, notes_stay, saw_all, looks, learns}
 use Rattle.ring_queue.proofs.Bits.{bit_set, bit_stays}
 
 module _ (z : Layout) (words : List ℕ) (seats : ℕ → SeatView) (r : Ring z words seats) (v : SeatView) (is : seats v.number ≡ v) where
@@ -69,7 +69,7 @@ module _ (z : Layout) (words : List ℕ) (seats : ℕ → SeatView) (r : Ring z 
   tail_small = let a = r.limited in let b = r.planned in let c = b.limited in omega (arith, a, c)
 
   abbrev pub Line : (SeatView → ℕ → SeatView → Type 0) → ℕ → List ℕ → Type 0
-  Line fact number words' = (v' : SeatView) × (v'.number ≡ v.number) × Ring z words' (put seats v.number v') × fact v number v'
+  Line fact number words' = (v' : SeatView) × (v'.number ≡ v.number) × (r' : Ring z words' (put seats v.number v')) × Extends (Shut v.number ∷ []) r.history v r'.history v' × fact v number v'
 
   -- the queue is shut
   pub shuts_queue : Rests v.stage → IsPermitted (permits_of z) (Shut v.number) → Line (ShutMade z) n (set words 0 (bit_or n (2 ^ 62)))
@@ -81,11 +81,13 @@ module _ (z : Layout) (words : List ℕ) (seats : ℕ → SeatView) (r : Ring z 
           let v' : SeatView = noting rests v.head v.credits in
           let ok = saw_all z words seats r v is v' refl refl refl (notes_and_shut (shut_leads f)) fit.behind fit.few tt in
           let same : bit_or n (2 ^ 62) ≡ n = ap (λ x. bit_or x (2 ^ 62)) is_n ∙ (bit_stays r.tail tail_small ∙ sym is_n) in
-          let ring : Ring z (set words 0 (bit_or n (2 ^ 62))) (put seats v.number v') =
-          subst (λ ws. Ring z ws (put seats v.number v')) (sym (ap (set words 0) same ∙ set-get_or words 0 0)) (looks z words seats r v is v' rested refl ok) in (
+          let made : Became z (set words 0 (bit_or n (2 ^ 62))) (put seats v.number v') r.history =
+          subst (λ ws. Became z ws (put seats v.number v') r.history) (sym (ap (set words 0) same ∙ set-get_or words 0 0)) (looks z words seats r v is v' rested refl ok) in
+          let ring : Ring z (set words 0 (bit_or n (2 ^ 62))) (put seats v.number v') = made.0 in (
             v',
             refl,
             ring,
+            adds_none (Shut v.number ∷ []) r.history v ring.history v' made.1 refl refl,
             record {
               learns = learns z (set words 0 (bit_or n (2 ^ 62))) seats v v' refl ring;
               head = refl;
@@ -99,13 +101,15 @@ module _ (z : Layout) (words : List ℕ) (seats : ℕ → SeatView) (r : Ring z 
           let is_n : n ≡ r.tail = r.tail_is ∙ ap (tail_word r.tail) f in
           let e : Entry = Shut v.number in
           let v' : SeatView = after rests v.head v.credits e in
-          let ring : Ring z (set words 0 (tail_word r.tail true)) (put seats v.number v') = shuts z words seats r v.number v' (subst (λ (u : SeatView). Rests u.stage) (sym is) rested) f permit
+          let made = shuts z words seats r v.number v' (subst (λ (u : SeatView). Rests u.stage) (sym is) rested) f permit
           (acted r.head r.tail live r.log r.cells rests v.head v.credits e refl fit.behind fit.few tt) (ap (λ (u : SeatView). u.credits) (sym is)) in
-          let ring' : Ring z (set words 0 (bit_or n (2 ^ 62))) (put seats v.number v') =
-          subst (λ w. Ring z (set words 0 w) (put seats v.number v')) (sym (ap (λ x. bit_or x (2 ^ 62)) is_n ∙ bit_set r.tail tail_small)) ring in (
+          let made' : Became z (set words 0 (bit_or n (2 ^ 62))) (put seats v.number v') (r.history ++ e ∷ []) =
+          subst (λ w. Became z (set words 0 w) (put seats v.number v') (r.history ++ e ∷ [])) (sym (ap (λ x. bit_or x (2 ^ 62)) is_n ∙ bit_set r.tail tail_small)) made in
+          let ring' : Ring z (set words 0 (bit_or n (2 ^ 62))) (put seats v.number v') = made'.0 in (
             v',
             refl,
             ring',
+            record { added = e ∷ []; which = inr refl; grown = made'.1; own = refl; seen = inl (sym made'.1) },
             record {
               learns = learns z (set words 0 (bit_or n (2 ^ 62))) seats v v' refl ring';
               head = refl;

@@ -1,10 +1,11 @@
 -- One seat's step, as the table has it.
-use Rattle.std.proofs.Common.{◌≡◌, ◌≢◌, ℕ, ◌+◌, ◌^◌, ◌<◌, ◌≤◌, List, [], ◌∷◌, zero, suc, length, set, sym, refl, ap, ◌∙◌, subst, ⊎_elim, arith, append-nil}
+use Rattle.std.proofs.Common.{◌≡◌, ◌≢◌, ℕ, ◌+◌, ◌^◌, ◌<◌, ◌≤◌, List, [], ◌∷◌, ◌++◌, zero, suc, length, set, sym, refl, ap, ◌∙◌, subst, ◌⊎◌, inl, ⊎_elim, arith, append-nil}
 use Rattle.std.specs.List.{All}
 use mathlib.Core.Option.{some, some-injective, some-ne-none}
 use lib.ListN.{get_elem?}
 use Rattle.atomic_table.specs.Table.{State}
 use Rattle.atomic_table.proofs.Lists.{at_set}
+use Rattle.history.specs.declared.operations.Entry.{Entry}
 use Rattle.history.specs.Entries.{own_entries, Leads}
 use Rattle.history.specs.Seats.{IsSound, IsNoted, IsPermitted}
 use Rattle.ring_queue.specs.Plans.{Layout, permits_of}
@@ -13,7 +14,11 @@ use Rattle.ring_queue.specs.Rule.{Stands, SeatOk, total, put, Ring, Holds}
 use Rattle.ring_queue.specs.Steps.{Rests, Learns}
 use Rattle.ring_queue.proofs.Puts.{put_here, put_else, put_each, total_same}
 use Rattle.ring_queue.proofs.Histories.{all_first, legal_first, all_noted_more}
-use Rattle.ring_queue.proofs.Keeps.{watches}
+use Rattle.ring_queue.proofs.Keeps.{Became, watches}
+
+-- the rule of the queue, with this history
+abbrev pub HoldsWith : Layout → List Entry → State ℕ View → Type 0
+HoldsWith z es s = (h : Holds z s) × (h.ring.history ≡ es)
 
 pub one_of : (v u : SeatView) (i : ℕ) → get_elem? (v ∷ []) i ≡ some u → (i ≡ 0) × (v ≡ u)
 one_of v u zero e = (refl, some-injective v u e)
@@ -25,7 +30,7 @@ module _ (z : Layout) (s : State ℕ View) (h : Holds z s) (id : ℕ) (v : SeatV
   its_seat = h.fits id 0 (seated v) v mine refl
 
   -- one seat's view changes, and with it the ring
-  pub one_seat : (v' : SeatView) (words : List ℕ) → v'.number ≡ v.number → Ring z words (put h.seats v.number v')
+  abbrev pub one_seat : (v' : SeatView) (words : List ℕ) → v'.number ≡ v.number → Ring z words (put h.seats v.number v')
       → Holds z record { words = words; homes = s.homes; views = set s.views id (seated v') }
   one_seat v' words same ring =
       let P : ℕ → ℕ → SeatView → Type 0 = λ j i u. (put h.seats v.number v' u.number ≡ u) × (h.owner u.number ≡ (j, i)) × (u.number < h.dealt) in
@@ -91,7 +96,7 @@ module _ (z : Layout) (words : List ℕ) (seats : ℕ → SeatView) (r : Ring z 
       }
 
   -- a step that changes no word and no count of places in reserve, of a seat that has claimed no place, keeps the ring
-  pub looks : (v' : SeatView) → Rests v.stage → v'.credits ≡ v.credits → SeatOk z r.head r.tail (r.head + length r.values) r.log r.cells r.history v.number v' → Ring z words (put seats v.number v')
+  pub looks : (v' : SeatView) → Rests v.stage → v'.credits ≡ v.credits → SeatOk z r.head r.tail (r.head + length r.values) r.log r.cells r.history v.number v' → Became z words (put seats v.number v') r.history
   looks v' rested same ok =
       let totals : total (length z.roles) (put seats v.number v') ≡ total (length z.roles) seats = total_same (length z.roles) seats (put seats v.number v')
       (λ k. put_each seats v.number k v' (λ q (u : SeatView). u.credits ≡ (seats q).credits) (same ∙ ap (λ (u : SeatView). u.credits) (sym is)) (λ _. refl)) in
@@ -99,6 +104,19 @@ module _ (z : Layout) (words : List ℕ) (seats : ℕ → SeatView) (r : Ring z 
       let b = r.limited in
       let s = r.spare in
       watches z words seats r v.number v' (subst (λ (u : SeatView). Rests u.stage) (sym is) rested) ok (omega (arith, a, totals)) (omega (arith, b, totals)) (omega (arith, s, totals))
+
+-- a step added nothing, or all of these, to the history and to its seat's own entries; the seat has seen all, or added nothing and
+-- has seen what it had
+pub record Extends (all history : List Entry) (v : SeatView) (history' : List Entry) (v' : SeatView) : Type 0 where
+  pub added : List Entry
+  pub which : (added ≡ []) ⊎ (added ≡ all)
+  pub grown : history' ≡ history ++ added
+  pub own : v'.mine ≡ v.mine ++ added
+  pub seen : (v'.seen ≡ history') ⊎ ((added ≡ []) × (v'.seen ≡ v.seen))
+
+-- a step that adds nothing, of a seat that has then seen all
+pub adds_none : (all history : List Entry) (v : SeatView) (history' : List Entry) (v' : SeatView) → history' ≡ history → v'.mine ≡ v.mine → v'.seen ≡ history → Extends all history v history' v'
+adds_none all history v history' v' same own seen = record { added = []; which = inl refl; grown = same ∙ sym (append-nil history); own = own ∙ sym (append-nil v.mine); seen = inl (seen ∙ sym same) }
 
 -- no head of a seat is beyond the limit
 pub head_below : (z : Layout) (words : List ℕ) (seats : ℕ → SeatView) → Ring z words seats → (n : ℕ) → (seats n).head < 2 ^ 62

@@ -19,3 +19,4 @@ pub mod Closing
 pub mod Laid
 pub mod Queues
 pub mod OneProof
+pub mod Beside

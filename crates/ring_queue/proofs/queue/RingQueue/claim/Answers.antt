@@ -1,5 +1,5 @@
 use Rattle.std.proofs.Common.{ℕ, ◌+◌, ◌%◌, ◌^◌, ◌≤◌, length, ap, ◌∙◌, sym, subst, arith}
-use Rattle.ring_queue.specs.Steps.{PlacesClaimed}
+use Rattle.ring_queue.specs.Steps.{pushes, PlacesClaimed}
 use Rattle.ring_queue.specs.Seats.{view}
 use Rattle.ring_queue.proofs.Claims.{claims_bodies}
 use Rattle.ring_queue.proofs.Calls.{Does, asks, numbered}
@@ -16,5 +16,5 @@ fetch_add-tail-requires g c =
     let enough : length g.pushed ≤ (view s).credits = let a = c.requires.1.1.0 in let b = sits.credits in omega (arith, a, b, same) in
     let at = numbered q.plan q.table.shared.table_id s sits in
     asks q.plan q.table.shared.key q.table.shared.table_id s (λ y. PlacesClaimed y g.pushed) q.laid 0 (λ n. (n + c.args.count) % 2 ^ 64) sits (omega (arith, words))
-    (subst (λ (k : ℕ). Does q.plan 0 (view s) (λ n. (n + k) % 2 ^ 64) (PlacesClaimed q.plan g.pushed)) (same ∙ sym c.requires.1.1.1.0)
+    (subst (λ (k : ℕ). Does q.plan 0 (view s) (λ n. (n + k) % 2 ^ 64) (pushes (view s).number g.pushed) (PlacesClaimed q.plan g.pushed)) (same ∙ sym c.requires.1.1.1.0)
     (λ ws seats r is. claims_bodies q.plan ws seats r (view s) is c.requires.0.rests g.pushed has.1 enough at.0 at.1 has.2 (λ b. c.requires.1.0)))

@@ -1,6 +1,6 @@
 use Rattle.std.proofs.Common.{◌≡◌, ℕ, ◌+◌, nat_eq, length, ap, ◌∙◌, sym, subst, arith}
 use prog.Atomic.{either}
-use Rattle.ring_queue.specs.Steps.{FrontsTaken}
+use Rattle.ring_queue.specs.Steps.{pops, FrontsTaken}
 use Rattle.ring_queue.specs.Seats.{view}
 use Rattle.ring_queue.proofs.Takes.{takes_words}
 use Rattle.ring_queue.proofs.Calls.{Does, asks}
@@ -14,6 +14,6 @@ compare_exchange-was-requires g c =
     let words = q.laid.words in
     let has = c.requires.1.1.1.0 in
     let same : length g.taken ≡ c.args.count = ap length has.0 ∙ sym c.requires.1.1.1.1.0 in
-    let Raises : ℕ × ℕ → Type 0 = λ y. Does q.plan 16 (view s) (λ n. either (nat_eq n y.0) (y.0 + y.1) n) (FrontsTaken q.plan g.taken) in
+    let Raises : ℕ × ℕ → Type 0 = λ y. Does q.plan 16 (view s) (λ n. either (nat_eq n y.0) (y.0 + y.1) n) (pops (view s).number g.taken) (FrontsTaken q.plan g.taken) in
     asks q.plan q.table.shared.key q.table.shared.table_id s (λ y. FrontsTaken y g.taken) q.laid 16 (λ n. either (nat_eq n s.head) (s.head + c.args.count) n) sits (omega (arith, words))
     (subst Raises (λ i. (sym sits.head i, same i)) (λ ws seats r is. takes_words q.plan ws seats r (view s) is g.taken has.1 c.requires.1.1.0 has.2 (λ value. c.requires.1.0)))
