@@ -1,16 +1,17 @@
 //! What a queue of values does with a slot, about the one exchange at which its call has its effect.
 ghost use Rattle.std.specs.Prelude.{◌≡◌, true, Some, IfOk, IfErr, OnOk, IfSome, MatchOption};
+ghost use Rattle.line_table.specs.declared.lines.Line.TheVariants.{E9, D13};
 ghost use Rattle.step_machine.specs.Tables.{exchange_at};
 ghost use Rattle.node_arena.specs.Places as places;
 ghost use Rattle.node_arena.specs.Prologues.{Prologue};
 ghost use Rattle.node_arena.specs.Seats.{IsSeat, IsReady, HasNoSlot, carries_of};
-ghost use Rattle.node_arena.specs.Hands.{HasSlot, HasValue, KeepsKnown, SeesMoreDeeds};
-ghost use Rattle.slot_steps.specs.Steps.{MayPush, MayPop, PushedIt, PoppedIt};
+ghost use Rattle.node_arena.specs.Hands.{HasSlot, HasValue, FailedTries, KeepsKnown, SeesMoreDeeds};
+ghost use Rattle.slot_steps.specs.Steps.{MayPush, MayPop, PushedIt, PoppedIt, LostStep};
 
 use line_table::Line;
 use node_arena::{ArenaOf, Seat};
 
-/// Gets a slot for a value and puts it there; or the value comes back.
+/// Gets a slot for a value and puts it there; or the value comes back, where so many tries failed.
 pub fn load_slot<const B: u32, T>(
     arena: &ArenaOf<B, T>,
     seat: &mut Seat<T>,
@@ -25,6 +26,7 @@ pub fn load_slot<const B: u32, T>(
     ensures keeps { KeepsKnown seat.old seat.new }
     ensures loaded { IfOk result (λ slot. HasSlot arena.now seat.new slot (Some value)) }
     ensures back { IfErr result (λ back. (back ≡ value) × HasNoSlot seat.new) }
+    ensures failed { IfErr result (λ _. FailedTries arena.now seat.old node turns) }
 {
     let Ok(got) = arena.get_slot(seat, node, turns) else {
         return Err(value);
@@ -52,6 +54,8 @@ pub fn push_at_e9<const B: u32, T>(
     ensures pushed { OnOk result (PushedIt arena.now seat.old seat.new slot) }
     ensures back { IfErr result (λ back. HasSlot arena.now seat.old slot (Some back)) }
     ensures missed { IfErr result (λ _. SeesMoreDeeds seat.old seat.new) }
+    ensures lost { IfErr result
+        (λ _. LostStep arena.now seat.old seat.new prologue E9 old) }
 {
     match arena.exchange(seat, Line::E9, word, place, old, new) {
         Ok(_) => Ok(()),
@@ -82,6 +86,8 @@ pub fn pop_at_d13<const B: u32, T>(
     ensures none { HasNoSlot seat.new }
     ensures popped { IfSome result (PoppedIt seat.old seat.new) }
     ensures missed { MatchOption result (SeesMoreDeeds seat.old seat.new) (λ _. Unit {0}) }
+    ensures lost { MatchOption result
+        (LostStep arena.now seat.old seat.new prologue D13 old) (λ _. Unit {0}) }
 {
     match arena.exchange(seat, Line::D13, word, place, old, new) {
         Ok(_) => {

@@ -1,4 +1,4 @@
-use Rattle.std.proofs.Common.{arith}
+use Rattle.std.proofs.Common.{refl, arith}
 use Rattle.slot_steps.proofs.Handed.{popped_it, missed_it}
 use Rattle.slot_steps.proofs.hands.pop_at_d13.Goals as goal
 
@@ -13,3 +13,17 @@ returns-in-Err-clause-none g c = (missed_it c.args.arena.now c.args.seat.now g.p
 
 pub returns-in-Err-clause-missed : goal.returns-in-Err-clause-missed
 returns-in-Err-clause-missed g c = (missed_it c.args.arena.now c.args.seat.now g.prologue c.args.slot c.exchange.new.seat c.args.word c.args.old c.args.new c.in-Err.field-0 c.requires.1.1.1.0 c.requires.1.1.1.1.1.0 c.requires.1.1.1.1.0 c.in-Err.ensures.1 c.in-Err.ensures.0).1
+
+pub returns-in-Err-clause-lost : goal.returns-in-Err-clause-lost
+returns-in-Err-clause-lost g c =
+    record {
+      found = c.in-Err.field-0;
+      other = c.in-Err.ensures.0;
+      seat = c.exchange.new.seat;
+      did = c.in-Err.ensures.1;
+      keeps = record {
+        stored = record { number = refl; role = refl; keeps = refl; pocket = refl; failed = refl };
+        view = refl;
+        deeds = refl;
+      };
+    }
