@@ -7,8 +7,9 @@
  *
  * Each call is a macro over an inline function at the end of this header, which tells misuse that it sees: seats of two
  * queues that meet or close and, where MSQ_DEBUG is defined and the thread sanitizer isn't at work, two calls at one time on
- * one seat, at the price of a lock as a call begins and as it ends. Compiled for the thread sanitizer it tells that what calls order and which seat they use: two
- * calls at one time on one seat are reported, and objects that were handed over by a queue are not.
+ * one seat or on it and a copy, at the price of a lock as a call begins and as it ends. Compiled for the thread sanitizer it
+ * tells that what calls order and which seat they use: two calls at one time on one seat, or on it and a copy, are reported, and
+ * objects that were handed over by a queue are not. Compiled for the address sanitizer a copy of a seat that was dropped is reported.
  *
  * What the caller owes, and nothing here checks but for what MSQ_DEBUG tells:
  *  - An msq_seat is all zeros, or what the last call left in it. It is never copied beside the one that goes on in use.
@@ -57,7 +58,7 @@ enum msq_code {
     MSQ_WORN_TAIL = 38, /* Tail's count is at the limit: no push comes any more, and of MSQ_NON_BLOCKING no shut */
     MSQ_WORN_HEAD = 39, /* a pop: Head's count is at the limit: of MSQ_TWO_LOCK, no pop comes any more */
     MSQ_TWO_QUEUES = 40, /* misuse: the seats are of two queues */
-    MSQ_TWO_CALLS = 41, /* misuse, told with MSQ_DEBUG: another call uses the seat */
+    MSQ_TWO_CALLS = 41, /* misuse, told with MSQ_DEBUG: another call uses the seat, or a copy of it */
     MSQ_UNCOUNTED = 42  /* a length: of MSQ_TWO_LOCK, none can be told */
 };
 
@@ -276,12 +277,34 @@ MSQ_INLINE const char *msq_code_name(uint32_t code) {
 #endif
 #endif
 
-/* A call with these seats, of this queue where one is known; `older` is one that began before it. */
+#if defined(__SANITIZE_ADDRESS__)
+#define MSQ_ADDRESS_SANITIZER
+#elif defined(__has_feature)
+#if __has_feature(address_sanitizer)
+#define MSQ_ADDRESS_SANITIZER
+#endif
+#endif
+
+/* A call with these seats, of this queue where one is known, or with the seat of this block; `older` is one that began before it. */
 struct msq_call {
     const msq_seat *seats, *end;
     void *queue;
+    const void *block;
     struct msq_call *older;
 };
+
+/* Looks at the block of each full seat, where the address sanitizer is at work: it reports one that was dropped. */
+MSQ_INLINE void msq_touch(const msq_seat *seats, size_t seats_len) {
+#if defined(MSQ_ADDRESS_SANITIZER)
+    for (size_t k = 0; k < seats_len; k++) {
+        if (seats[k].full) {
+            (void)*(const volatile char *)seats[k].at;
+        }
+    }
+#else
+    (void)seats, (void)seats_len;
+#endif
+}
 
 /* The name of a full seat's queue: the first word of its block, which is a pointer to the queue; none of an empty one. */
 MSQ_INLINE void *msq_queue_of(const msq_seat *seat) {
@@ -297,6 +320,11 @@ void __tsan_write_range(void *at, long bytes);
 /* What was done before a call began is seen after each call of its queue that ends later: all accesses are SeqCst. */
 MSQ_INLINE bool msq_begin(struct msq_call *call, msq_seat *seats, size_t seats_len) {
     __tsan_write_range(seats, (long)(seats_len * sizeof *seats));
+    for (size_t k = 0; k < seats_len; k++) {
+        if (seats[k].full) {
+            __tsan_write_range(seats[k].at, 1);
+        }
+    }
     call->queue = seats_len > 0 ? msq_queue_of(seats) : NULL;
     if (call->queue != NULL) {
         __tsan_release(call->queue);
@@ -325,22 +353,42 @@ struct msq_calls {
 };
 __attribute__((weak)) struct msq_calls msq_running = {false, NULL};
 
+/* A call, up to this one, that uses one of these places; none, NULL. */
+MSQ_INLINE const struct msq_call *msq_call_at(const struct msq_call *newest, const msq_seat *seats, const msq_seat *end) {
+    while (newest != NULL && !(newest->seats < end && seats < newest->end)) {
+        newest = newest->older;
+    }
+    return newest;
+}
+
+/* One by the seat of this block, from another place; of no block none. */
+MSQ_INLINE const struct msq_call *msq_call_of(const struct msq_call *newest, const void *block) {
+    while (newest != NULL && (block == NULL || newest->block != block)) {
+        newest = newest->older;
+    }
+    return newest;
+}
+
 MSQ_INLINE bool msq_begin(struct msq_call *call, msq_seat *seats, size_t seats_len) {
     const struct msq_call *other;
     call->seats = seats;
     call->end = seats + seats_len;
+    call->block = NULL;
     while (__atomic_test_and_set(&msq_running.locked, __ATOMIC_ACQUIRE)) {
     }
-    for (other = msq_running.newest; other != NULL; other = other->older) {
-        if (other->seats < call->end && call->seats < other->end) {
-            break;
-        }
+    other = msq_call_at(msq_running.newest, call->seats, call->end);
+    for (size_t k = 0; other == NULL && k < seats_len; k++) {
+        other = msq_call_of(msq_running.newest, seats[k].full ? seats[k].at : NULL);
     }
     if (other == NULL) {
+        call->block = seats_len == 1 && seats->full ? seats->at : NULL;
         call->older = msq_running.newest;
         msq_running.newest = call;
     }
     __atomic_clear(&msq_running.locked, __ATOMIC_RELEASE);
+    if (other == NULL) {
+        msq_touch(seats, seats_len);
+    }
     return other == NULL;
 }
 
@@ -362,7 +410,8 @@ MSQ_INLINE void msq_last(struct msq_call *call) {
 #else
 
 MSQ_INLINE bool msq_begin(struct msq_call *call, msq_seat *seats, size_t seats_len) {
-    (void)call, (void)seats, (void)seats_len;
+    (void)call;
+    msq_touch(seats, seats_len);
     return true;
 }
 

@@ -1,7 +1,8 @@
 // A queue of values of any type for C++14 and later, over the queues of pointers of msq_queue.h and of words of msq_words.h.
 //
 // Any thread calls it, as often as it likes: no thread has a seat of its own. A value is moved in and moved out: one of up to 24
-// bytes that may be moved by its bytes, as a number, a pointer or a unique_ptr, lies in the queue itself; any other is in a box.
+// bytes that may be moved by its bytes, as a number, a pointer or a unique_ptr, lies in a non-blocking queue itself, and a number of
+// up to six bytes or a plain pointer in one of another kind; any other is in a box.
 // Values of one thread come out in its order, each once, and what is left is destroyed with the queue. Only tested, as all of
 // msq_queue.h.
 //
@@ -43,6 +44,10 @@ namespace detail {
 template <class T>
 struct lies_in_place : std::integral_constant<bool, is_trivially_relocatable<T>::value &&
                                                         sizeof(T) <= sizeof(msq_words) && alignof(T) <= alignof(msq_words)> {};
+
+// Whether a value's bytes are a number below 2^48, whatever it is.
+template <class T>
+struct is_number : std::integral_constant<bool, (std::is_arithmetic<T>::value || std::is_enum<T>::value) && sizeof(T) <= 6> {};
 
 // How long a push or a pop may sleep: none, or so many nanoseconds.
 struct patience {
@@ -104,6 +109,37 @@ private:
     }
 };
 
+// Values that pass as the number that their bytes are: of up to six of them, or addresses, which are below 2^48.
+template <class T> struct by_numbers {
+    static uint32_t open(msq_queue *home, uint32_t kind, uint32_t capacity, uint16_t threads) noexcept {
+        return msq_queue_open(home, kind, capacity, threads);
+    }
+
+    static uint32_t push(msq_queue *home, T &value, patience how) {
+        uintptr_t number = 0;
+        std::memcpy(&number, &value, sizeof value);
+        void *body = reinterpret_cast<void *>(number);
+        return how.waits ? msq_queue_push_wait_for(home, body, how.ns) : msq_queue_push(home, body);
+    }
+
+    template <class Use> static uint32_t pop(msq_queue *home, patience how, Use use) {
+        void *body = nullptr;
+        const uint32_t code = how.waits ? msq_queue_pop_wait_for(home, &body, how.ns) : msq_queue_pop(home, &body);
+        if (code == MSQ_OK) {
+            T value;
+            std::memcpy(&value, &body, sizeof value);
+            use(std::move(value));
+        }
+        return code;
+    }
+
+    static uint32_t shut(msq_queue *home) noexcept { return msq_queue_shut(home); }
+    static void destroy(msq_queue *home) noexcept { msq_destroy(home, nullptr, nullptr); }
+    static uint32_t emptiness(msq_queue *home) noexcept { return msq_queue_emptiness(home); }
+    static uint32_t len(msq_queue *home, msq_length *length) noexcept { return msq_queue_len(home, length); }
+    static uint32_t left(msq_queue *home, msq_remaining *left) noexcept { return msq_queue_left(home, left); }
+};
+
 // Values that pass in boxes, by their addresses.
 template <class T> struct by_boxes {
     static uint32_t open(msq_queue *home, uint32_t kind, uint32_t capacity, uint16_t threads) noexcept {
@@ -144,6 +180,24 @@ private:
     static void destroy_one(void *object, void *) noexcept { delete static_cast<T *>(object); }
 };
 
+// How values pass through a non-blocking queue, and through one of another kind. Queues of words are non-blocking.
+template <class T>
+using by_others = std::conditional_t<is_number<T>::value || std::is_pointer<T>::value, by_numbers<T>, by_boxes<T>>;
+template <class T>
+using by_non_blocking = std::conditional_t<is_number<T>::value, by_numbers<T>,
+                                    std::conditional_t<lies_in_place<T>::value, by_words<T>, by_boxes<T>>>;
+
+// A queue, and whether it is non-blocking.
+struct home {
+    msq_queue queue;
+    bool is_non_blocking;
+};
+
+// A call of a queue, in the way in which its values pass.
+template <class T, class Call> auto passed(home &home, Call call) {
+    return home.is_non_blocking ? call(by_non_blocking<T>(), &home.queue) : call(by_others<T>(), &home.queue);
+}
+
 } // namespace detail
 
 #if defined(__cpp_exceptions)
@@ -158,15 +212,17 @@ private:
 };
 #endif
 
-// A queue of values. It may be moved while no other call uses it. One whose values lie in it is non-blocking, and can't be looked
-// at: its looks answer MSQ_UNCOUNTED.
+// A queue of values. It may be moved while no other call uses it. One whose values pass as words can't be looked at:
+// its looks answer MSQ_UNCOUNTED. A queue of pointers that isn't non-blocking takes such below 2^48, else it answers MSQ_BAD_SIZE.
 template <class T> class queue {
-    using passed = std::conditional_t<detail::lies_in_place<T>::value, detail::by_words<T>, detail::by_boxes<T>>;
     using patience = detail::patience;
 
     struct ender {
-        void operator()(msq_queue *home) const noexcept {
-            passed::destroy(home);
+        void operator()(detail::home *home) const noexcept {
+            detail::passed<T>(*home, [](auto how, msq_queue *at) {
+                how.destroy(at);
+                return 0;
+            });
             delete home;
         }
     };
@@ -187,9 +243,12 @@ public:
                                              uint16_t threads = usual_threads) noexcept {
         queue made;
         auto code = MSQ_MEMORY;
-        made.home_.reset(new (std::nothrow) msq_queue{});
+        made.home_.reset(new (std::nothrow) detail::home{});
         if (made.home_ != nullptr) {
-            code = static_cast<msq_code>(passed::open(made.home_.get(), static_cast<uint32_t>(kind), capacity, threads));
+            made.home_->is_non_blocking = kind == kind::non_blocking;
+            code = made.call([&](auto how, msq_queue *at) {
+                return how.open(at, static_cast<uint32_t>(kind), capacity, threads);
+            });
         }
         return {code, code == MSQ_OK ? std::move(made) : queue()};
     }
@@ -248,20 +307,20 @@ public:
     // No value is pushed behind it, and what is in the queue stays to be popped; all that sleep are woken. MSQ_CLOSED where it
     // was closed before.
     msq_code close() noexcept {
-        return answer([&] { return passed::shut(home_.get()); });
+        return call([](auto how, msq_queue *at) { return how.shut(at); });
     }
 
     // MSQ_OK where the queue holds a value, else MSQ_EMPTY, MSQ_CLOSED or MSQ_BUSY.
     msq_code emptiness() noexcept {
-        return answer([&] { return passed::emptiness(home_.get()); });
+        return call([](auto how, msq_queue *at) { return how.emptiness(at); });
     }
     // The bounds are there exactly at MSQ_OK: MSQ_UNCOUNTED of the two-lock queue.
     msq_code len(msq_length &length) noexcept {
-        return answer([&] { return passed::len(home_.get(), &length); });
+        return call([&](auto how, msq_queue *at) { return how.len(at, &length); });
     }
-    // How many pushes are left, exactly at MSQ_OK.
+    // How many pushes are left, exactly at MSQ_OK: MSQ_UNCOUNTED where values pass as words.
     msq_code left(msq_remaining &left) noexcept {
-        return answer([&] { return passed::left(home_.get(), &left); });
+        return call([&](auto how, msq_queue *at) { return how.left(at, &left); });
     }
 
 #if defined(__cpp_exceptions)
@@ -329,14 +388,14 @@ public:
 #endif
 
 private:
-    template <class Call> msq_code answer(Call call) noexcept {
-        return home_ ? static_cast<msq_code>(call()) : MSQ_NO_SEAT;
+    template <class Call> msq_code call(Call call) const {
+        return home_ ? static_cast<msq_code>(detail::passed<T>(*home_, call)) : MSQ_NO_SEAT;
     }
-    msq_code give(T &value, patience how) {
-        return home_ ? static_cast<msq_code>(passed::push(home_.get(), value, how)) : MSQ_NO_SEAT;
+    msq_code give(T &value, patience time) {
+        return call([&](auto how, msq_queue *at) { return how.push(at, value, time); });
     }
-    template <class Use> msq_code take(patience how, Use use) {
-        return home_ ? static_cast<msq_code>(passed::pop(home_.get(), how, use)) : MSQ_NO_SEAT;
+    template <class Use> msq_code take(patience time, Use use) {
+        return call([&](auto how, msq_queue *at) { return how.pop(at, time, use); });
     }
     // Where others are in the way it tries again.
     template <class Use> msq_code consumed(Use &use) {
@@ -384,7 +443,7 @@ private:
     }
 #endif
 
-    std::unique_ptr<msq_queue, ender> home_;
+    std::unique_ptr<detail::home, ender> home_;
 };
 
 } // namespace msq

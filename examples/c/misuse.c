@@ -1,11 +1,15 @@
-/* Two calls at one time on one seat are told. With MSQ_DEBUG by a code: two threads push by one seat, and it prints how many
- * of their values came. Else the thread sanitizer reports two calls that nothing orders. */
+/* Two calls at one time on one seat, or on it and a copy, are told. With MSQ_DEBUG by a code: two threads push by one seat, and it
+ * prints how many of their values came. Else the thread sanitizer reports two calls that nothing orders, of a seat and of its copy.
+ *
+ *     misuse copy: the calls are of a seat and of its copy.
+ *     misuse stale: a copy of a seat that was dropped makes a call, which the address sanitizer reports. */
 #include "msq.h"
 
 #include <pthread.h>
 #include <sched.h>
 #include <stdatomic.h>
 #include <stdio.h>
+#include <string.h>
 
 #define VALUES 100000
 
@@ -23,6 +27,15 @@ static void expect(const char *what, uint64_t found, uint64_t due) {
 static void create(void) {
     const uint8_t roles[] = {MSQ_GIVER, MSQ_TAKER};
     expect("create", msq_create(MSQ_NON_BLOCKING, 1024, MSQ_MOST_COUNT, roles, 2, seats, 2), MSQ_OK);
+}
+
+/* A copy of a seat makes a call after that was dropped. */
+static int use_a_stale_copy(void) {
+    create();
+    msq_seat copy = seats[0];
+    msq_drop(&seats[0]);
+    expect("a push", msq_try_push(&copy, 1, 8), MSQ_OK);
+    return 0;
 }
 
 #ifdef MSQ_DEBUG
@@ -53,6 +66,25 @@ static void each_call_is_refused(void) {
     expect("the first seat", msq_try_pop(&seats[0], 8, &value), MSQ_NO_ROLE);
     msq_end(&call);
     expect("a meeting with itself", msq_meet(&seats[0], &seats[0]), MSQ_OK);
+}
+
+/* Each call by a copy of a seat that another call uses. */
+static void copies_are_refused(void) {
+    msq_seat copies[2] = {seats[0], seats[1]};
+    msq_value value = {7, 7};
+    msq_rest rest;
+    struct msq_call call;
+    expect("the other call", msq_begin(&call, &seats[0], 1), true);
+    expect("a push", msq_try_push(&copies[0], 1, 8), MSQ_TWO_CALLS);
+    expect("a look", msq_emptiness(&copies[0]), MSQ_TWO_CALLS);
+    expect("a meeting", msq_meet(&copies[1], &copies[0]), MSQ_TWO_CALLS);
+    expect("a close", msq_close(copies, 2, &value, 1, &rest), MSQ_TWO_CALLS);
+    msq_drop(&copies[0]);
+    expect("a drop", copies[0].full, true);
+    expect("another seat's copy", msq_try_pop(&copies[1], 8, &value), MSQ_EMPTY);
+    msq_end(&call);
+    expect("behind it", msq_try_push(&copies[0], 1, 8), MSQ_OK);
+    expect("and the seat", msq_try_pop(&seats[1], 8, &value), MSQ_OK);
 }
 
 /* Pushes by the one seat until so many values went; counts those that went, and the calls that were refused. */
@@ -91,9 +123,13 @@ static void threads_are_refused(void) {
     printf("%llu values of %d came, with %d calls refused\n", (unsigned long long)popped, 2 * VALUES, atomic_load(&others));
 }
 
-int main(void) {
+int main(int count, char **arguments) {
+    if (count == 2 && strcmp(arguments[1], "stale") == 0) {
+        return use_a_stale_copy();
+    }
     create();
     each_call_is_refused();
+    copies_are_refused();
     threads_are_refused();
     msq_drop(&seats[0]);
     msq_drop(&seats[1]);
@@ -102,20 +138,28 @@ int main(void) {
 
 #else
 
-/* One call of this seat each, one after the other, with nothing that orders them. */
+static msq_seat copy;
+
+/* One call of this seat, or of its copy, each, one after the other, with nothing that orders them. */
 static void *push_one(void *given) {
     while (atomic_load_explicit(&others, memory_order_relaxed) != *(const int *)given) {
         sched_yield();
     }
-    expect("a push", msq_try_push(&seats[0], 1, 8), MSQ_OK);
+    expect("a push", msq_try_push(*(const int *)given == 0 && copy.full ? &copy : &seats[0], 1, 8), MSQ_OK);
     atomic_fetch_add_explicit(&others, 1, memory_order_relaxed);
     return NULL;
 }
 
-int main(void) {
+int main(int count, char **arguments) {
     pthread_t ids[2];
     static int turns[2] = {0, 1};
+    if (count == 2 && strcmp(arguments[1], "stale") == 0) {
+        return use_a_stale_copy();
+    }
     create();
+    if (count == 2 && strcmp(arguments[1], "copy") == 0) {
+        copy = seats[0];
+    }
     for (unsigned k = 0; k < 2; k++) {
         pthread_create(&ids[k], NULL, push_one, &turns[k]);
     }

@@ -20,6 +20,8 @@ static void expect(const char *what, bool holds) {
 
 using std::chrono::milliseconds;
 
+static const msq::kind kinds[] = {msq::kind::non_blocking, msq::kind::two_lock, msq::kind::ring};
+
 // A number that owns memory: one that may be moved by its bytes, and one that may not.
 struct small {
     std::unique_ptr<int> at;
@@ -36,7 +38,7 @@ template <> struct is_trivially_relocatable<small> : std::true_type {};
 } // namespace msq
 
 template <class box> static void a_queue_answers(msq::kind kind) {
-    const bool in_place = msq::detail::lies_in_place<box>::value;
+    const bool as_words = msq::detail::lies_in_place<box>::value && kind == msq::kind::non_blocking;
     auto made = msq::queue<box>::create(2, kind, 1);
     expect("create", made.first == MSQ_OK && made.second);
     auto queue = std::move(made.second);
@@ -47,18 +49,18 @@ template <class box> static void a_queue_answers(msq::kind kind) {
     box value(7);
     msq_length length{9, 9};
     msq_remaining left{0, 0, 0, 0};
-    expect("it is empty", queue.emptiness() == (in_place ? MSQ_UNCOUNTED : MSQ_EMPTY));
+    expect("it is empty", queue.emptiness() == (as_words ? MSQ_UNCOUNTED : MSQ_EMPTY));
     expect("a pop of nothing", queue.try_pop(value) == MSQ_EMPTY && *value == 7);
     expect("a pop that waits for nothing", queue.pop_wait_for(value, milliseconds(1)) == MSQ_EMPTY && *value == 7);
     expect("a push", queue.try_push(box(1)) == MSQ_OK);
-    expect("it holds a value", queue.emptiness() == (in_place ? MSQ_UNCOUNTED : MSQ_OK));
+    expect("it holds a value", queue.emptiness() == (as_words ? MSQ_UNCOUNTED : MSQ_OK));
     expect("a push that waits", queue.push_wait(box(2)) == MSQ_OK);
-    if (in_place || kind == msq::kind::two_lock) {
+    if (as_words || kind == msq::kind::two_lock) {
         expect("no length", queue.len(length) == MSQ_UNCOUNTED && length.least == 9);
     } else {
         expect("two values", queue.len(length) == MSQ_OK && length.least == 2 && length.most == 2);
     }
-    expect("pushes are left", in_place ? queue.left(left) == MSQ_UNCOUNTED : queue.left(left) == MSQ_OK && left.pushes > 0);
+    expect("pushes are left", as_words ? queue.left(left) == MSQ_UNCOUNTED : queue.left(left) == MSQ_OK && left.pushes > 0);
     while (queue.try_push(box(3)) == MSQ_OK) {
     }
     expect("a push to a full queue", queue.try_push(std::move(value)) == MSQ_NO_NODE && *value == 7);
@@ -74,7 +76,7 @@ template <class box> static void a_queue_answers(msq::kind kind) {
     }
     expect("a pop of a closed queue", queue.try_pop(value) == MSQ_CLOSED && *value == 3);
     expect("one that waits", queue.pop_wait(value) == MSQ_CLOSED && *value == 3);
-    expect("it is closed and empty", queue.emptiness() == (in_place ? MSQ_UNCOUNTED : MSQ_CLOSED));
+    expect("it is closed and empty", queue.emptiness() == (as_words ? MSQ_UNCOUNTED : MSQ_CLOSED));
 }
 
 template <class box> static void no_queue_answers() {
@@ -94,25 +96,41 @@ template <class box> static void no_queue_answers() {
 }
 
 // Values lie in the queue by their size and what moves them, and come as they were, whatever their bytes are.
-template <class T> static bool comes(T value, const T &same) {
-    auto queue = msq::queue<T>::create(4).second;
-    T found{};
-    return queue.try_push(std::move(value)) == MSQ_OK && queue.try_pop(found) == MSQ_OK && found == same;
+template <class T> static bool comes(const T &value) {
+    for (auto kind : kinds) {
+        auto queue = msq::queue<T>::create(4, kind).second;
+        T found{};
+        if (queue.try_push(value) != MSQ_OK || queue.try_pop(found) != MSQ_OK || !(found == value)) {
+            return false;
+        }
+    }
+    return true;
 }
+
+enum class suit : uint16_t { hearts = 1, spades = 0xffff };
 
 static void small_values_pass() {
     using msq::detail::lies_in_place;
     expect("what lies in place", lies_in_place<uint64_t>::value && lies_in_place<std::unique_ptr<int>>::value &&
                                      lies_in_place<std::shared_ptr<int>>::value && lies_in_place<small>::value);
     expect("what doesn't", !lies_in_place<std::string>::value && !lies_in_place<large>::value);
-    expect("zeros", comes<uint64_t>(0, 0));
-    expect("ones", comes<uint64_t>(UINT64_MAX, UINT64_MAX));
-    expect("a byte", comes<char>('x', 'x'));
-    expect("a key of 64 bits", comes<uint64_t>(UINT64_C(0x123456789abcdef0), UINT64_C(0x123456789abcdef0)));
+    expect("zeros", comes<uint64_t>(0) && comes(0) && comes(false));
+    expect("ones", comes<uint64_t>(UINT64_MAX) && comes(UINT32_MAX) && comes(-1) && comes(true));
+    expect("a byte", comes('x'));
+    expect("numbers with fractions", comes(-0.5f) && comes(-0.5));
+    expect("a suit", comes(suit::spades));
+    expect("a key of 64 bits", comes(UINT64_C(0x123456789abcdef0)));
+    int object = 7;
+    expect("an address", comes(&object) && comes<int *>(nullptr));
     const auto shared = std::make_shared<int>(7);
-    expect("a shared pointer", comes(shared, shared) && shared.use_count() == 1);
-    msq::queue<std::shared_ptr<int>>::create(4).second.try_push(shared);
-    expect("what is left ends with its queue", shared.use_count() == 1);
+    expect("a shared pointer", comes(shared) && shared.use_count() == 1);
+    for (auto kind : kinds) {
+        msq::queue<std::shared_ptr<int>>::create(4, kind).second.try_push(shared);
+        expect("what is left ends with its queue", shared.use_count() == 1);
+    }
+    const auto high = reinterpret_cast<int *>(UINTPTR_MAX);
+    expect("no address", msq::queue<int *>::create(4, msq::kind::ring).second.try_push(high) == MSQ_BAD_SIZE);
+    expect("but of nodes", msq::queue<int *>::create(4).second.try_push(high) == MSQ_OK);
 }
 
 // A queue may be moved, and a call that sleeps is woken by a push of another thread.
@@ -178,7 +196,7 @@ static void optional_values_come() {
 
 // As boost::lockfree::queue has it.
 static void values_are_consumed() {
-    for (auto kind : {msq::kind::non_blocking, msq::kind::two_lock, msq::kind::ring}) {
+    for (auto kind : kinds) {
         auto queue = msq::queue<std::string>::create(8, kind, 2).second;
         std::string all;
         const auto use = [&](std::string &&text) { all += std::move(text); };
@@ -196,10 +214,10 @@ static void values_are_consumed() {
 }
 
 int main() {
-    a_queue_answers<small>(msq::kind::non_blocking);
-    a_queue_answers<large>(msq::kind::non_blocking);
-    a_queue_answers<large>(msq::kind::two_lock);
-    a_queue_answers<large>(msq::kind::ring);
+    for (auto kind : kinds) {
+        a_queue_answers<small>(kind);
+        a_queue_answers<large>(kind);
+    }
     no_queue_answers<small>();
     no_queue_answers<large>();
     small_values_pass();
