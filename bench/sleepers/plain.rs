@@ -1,7 +1,8 @@
 //! Values handed to a thread that sleeps for them, as `wake_stress` hands them, in plain Rust: through a channel of the standard
-//! library, without a bound or with one, or a `VecDeque` behind a lock with a condition variable.
+//! library, or of crossbeam-channel where that is there, without a bound or with one, or a `VecDeque` behind a lock with a condition
+//! variable.
 //!
-//! `plain mpsc|mpsc-bounded|mutex COUNT` prints how many nanoseconds each of so many values was under way.
+//! `plain mpsc|mpsc-bounded|crossbeam|crossbeam-bounded|mutex COUNT` prints how many nanoseconds each of so many values was under way.
 use std::collections::VecDeque;
 use std::sync::{Condvar, Mutex, mpsc};
 use std::thread;
@@ -70,7 +71,7 @@ impl Queue {
 fn main() {
     let words: Vec<String> = std::env::args().skip(1).collect();
     let [way, count] = &words[..] else {
-        eprintln!("plain mpsc|mpsc-bounded|mutex COUNT");
+        eprintln!("plain mpsc|mpsc-bounded|crossbeam|crossbeam-bounded|mutex COUNT");
         return;
     };
     let count = count.parse().unwrap();
@@ -81,6 +82,16 @@ fn main() {
         }
         "mpsc-bounded" => {
             let (sender, receiver) = mpsc::sync_channel(BOUND);
+            both(count, move |value| sender.send(value).unwrap(), move || receiver.recv().unwrap())
+        }
+        #[cfg(crossbeam)]
+        "crossbeam" => {
+            let (sender, receiver) = crossbeam_channel::unbounded();
+            both(count, move |value| sender.send(value).unwrap(), move || receiver.recv().unwrap())
+        }
+        #[cfg(crossbeam)]
+        "crossbeam-bounded" => {
+            let (sender, receiver) = crossbeam_channel::bounded(BOUND);
             both(count, move |value| sender.send(value).unwrap(), move || receiver.recv().unwrap())
         }
         _ => {

@@ -19,7 +19,7 @@ use Rattle.msq_c.specs.declared.own_seats.EndRoom.{EndRoom}
 use Rattle.msq_c.specs.declared.handles.MsqSeat.{MsqSeat}
 use Rattle.msq_c.specs.declared.troubles.Trouble.{Trouble}
 use Rattle.msq_c.specs.Queues.{Queue, SeatOf, EndOf, known_of, permits_of, EndsWith, IsEnough}
-use Rattle.msq_c.specs.Own.{Owned, owned_in, queue_in}
+use Rattle.msq_c.specs.Own.{Owned, owned_in}
 use Rattle.msq_c.specs.Seats.{is_full, own_at, known_at, queue_at}
 use Rattle.msq_c.specs.Ends.{AreFull, AreOfOne, KeepSeats, owned_at, HasAnyRoom, HasRoomOf, ClosesHandles}
 

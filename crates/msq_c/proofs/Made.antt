@@ -1,10 +1,9 @@
 -- Seats with their shares that were put into handles.
-use Rattle.std.proofs.Common.{◌≡◌, ℕ, ◌≤◌, ◌<◌, ◌^◌, List, map, length, refl, ap, ◌∙◌, sym, subst, Result, Ok, Err, IfOk}
+use Rattle.std.proofs.Common.{◌≡◌, ℕ, List, map, length, refl, ap, ◌∙◌, sym, subst, Result, Ok, Err, IfOk}
 use Rattle.std.specs.List.{All}
 use mathlib.Core.List.{map-map}
 use Rattle.std.proofs.lemmas.List.{length-map}
 use Rattle.line_table.specs.declared.lines.Kind.{Kind}
-use Rattle.history.specs.Seats.{Permit}
 use Rattle.history.specs.Openings.{AreNew}
 use Rattle.node_arena.specs.declared.roles.Role.{Role}
 use Rattle.node_arena.specs.declared.seats.Seat.{Seat}
@@ -28,7 +27,7 @@ use Rattle.msq_c.specs.declared.own_seats.OwnSeat.{OwnSeat}
 use Rattle.msq_c.specs.declared.handles.MsqSeat.{MsqSeat}
 use Rattle.msq_c.specs.Own.{Owned, owned_in}
 use Rattle.msq_c.specs.Seats.{own_at, known_at}
-use Rattle.msq_c.specs.Made.{IsNew, AreUnused, ArePut, AreAsked, count_for, plan_for, places_for, reserve, kind_number, role_number, ring_role_number, seat_at}
+use Rattle.msq_c.specs.Made.{IsNew, AreUnused, ArePut, AreAsked, plan_for, places_for, reserve, kind_number, role_number, ring_role_number, seat_at}
 
 -- a new queue of nodes, and its seats, as those of one of any kind
 module _ (kind nodes limit : ℕ) (numbers : List ℕ) (k : Kind) (roles : List Role) (kinds : kind_number k ≡ kind) (those : map role_number roles ≡ numbers)

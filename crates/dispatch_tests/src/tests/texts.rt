@@ -1,11 +1,11 @@
 //! Texts of jobs that are done over each queue, from any source to any sink.
-use any_queue::{AnyQueue, AnyQueueOf};
+use any_queue::AnyQueueOf;
 use either_queue::EitherQueue;
-use history::Refusal;
-use job_engine::work_text;
+use history::{Close, Refusal};
+use job_engine::{CrewSeats, JobQueue, work_text};
 use line_table::Kind;
 use queue_kinds::QueueKind;
-use ring_queue::RingQueue;
+use std::alloc::Global;
 use std::test::Fail;
 use text_io::{Script, Trouble};
 
@@ -50,20 +50,28 @@ const KINDS: [QueueKind; 3] = [
     QueueKind::Ring,
 ];
 
-/// The place of Head among the words of a queue.
-const HEAD: usize = 2;
-
-// Which kind of queue this is, and how many values were taken from it: the count of its Head. A ring doesn't tell.
-fn taken(queue: &EitherQueue<AnyQueue, RingQueue>) -> (QueueKind, Option<u64>) {
-    let (kind, head) = match queue {
-        EitherQueue::First(AnyQueueOf::NonBlocking(queue)) => (Kind::NonBlocking, queue.peek(HEAD)),
-        EitherQueue::First(AnyQueueOf::TwoLock(queue)) => (Kind::TwoLock, queue.peek(HEAD)),
-        EitherQueue::Second(_) => return (QueueKind::Ring, None),
+// Which kind of queue this is; how many values were taken from it, whether its seats did all that was done, and whether it was
+// shut, as it tells where all its seats close it.
+fn closed(alloc: Global, done: JobQueue) -> Result<(QueueKind, u64, bool, bool), Refusal> {
+    let (kind, rest) = match done.into_parts() {
+        (EitherQueue::First(queue), CrewSeats::Linked(seats)) => {
+            let kind = match &queue {
+                AnyQueueOf::NonBlocking(_) => Kind::NonBlocking,
+                AnyQueueOf::TwoLock(_) => Kind::TwoLock,
+            };
+            let (rest, _end) = queue.close(alloc, seats)?;
+            (QueueKind::Linked(kind), rest)
+        }
+        (EitherQueue::Second(queue), CrewSeats::Ring(seats)) => {
+            let (rest, _end) = queue.close(alloc, seats)?;
+            (QueueKind::Ring, rest)
+        }
+        _ => unreachable!(),
     };
-    (QueueKind::Linked(kind), head.map(|word| word >> 24))
+    Ok((kind, rest.taken(), rest.whole(), rest.was_shut()))
 }
 
-/// As many values as jobs were taken from the queue that is answered.
+/// As many values as jobs were taken from the queue that is answered, by its own seats, and it was shut.
 #[test]
 fn each_jobs_result_is_told_in_order(rt: HostRuntime) -> Result<(), Fail> {
     let rows: [(&[u8], &[u8], u64); 3] = [
@@ -77,10 +85,13 @@ fn each_jobs_result_is_told_in_order(rt: HostRuntime) -> Result<(), Fail> {
                 let mut reader = Script::reader(rt.alloc(), text, piece)?;
                 let mut writer = Script::writer(rt.alloc(), 1000, piece)?;
                 let answer = work_text(&rt, rt.alloc(), &mut reader, &mut writer, 2, kind, 5);
-                let known = (kind != QueueKind::Ring).then_some(*jobs);
+                let found = match answer {
+                    Ok(done) => closed(rt.alloc(), done),
+                    Err(refusal) => Err(refusal),
+                };
                 assert_eq!(rt;
-                    (answer.map(|done| taken(done.queue())), writer.written()),
-                    (Ok((kind, known)), *told),
+                    (found, writer.written()),
+                    (Ok((kind, *jobs, true, true)), *told),
                     "{piece} of {kind:?}"
                 );
             }
