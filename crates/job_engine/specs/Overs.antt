@@ -23,13 +23,13 @@ pub record IsOver {Q S : Type 0} (is_seat : Q → S → Type 0) (known : S → K
   pub taken : Came jobs (bodies_in known seats)
 
 -- the same of a queue of either kind
-abbrev pub WereOver : (workers jobs : ℕ) → EitherQueue AnyQueue RingQueue → CrewSeats → Type 0
+abbrev pub WereOver : (workers jobs : ℕ) → EitherQueue AnyQueue (RingQueue (Unit {0})) → CrewSeats → Type 0
 WereOver workers jobs (First q) (Linked seats) = IsOver IsAnySeat known_of q workers jobs seats.items
 WereOver workers jobs (Second q) (Ring seats) = IsOver IsQueueSeat ring_known_of q workers jobs seats.items
 WereOver workers jobs q seats = ⊥
 
 -- known bytes were the text of jobs, and these went over a queue
-pub record WentFor (given : Option (List ℕ)) (workers : ℕ) (queue : EitherQueue AnyQueue RingQueue) (seats : CrewSeats) : Type 0 where
+pub record WentFor (given : Option (List ℕ)) (workers : ℕ) (queue : EitherQueue AnyQueue (RingQueue (Unit {0}))) (seats : CrewSeats) : Type 0 where
   pub jobs : List Job
   pub text : IsTextOf given jobs
   pub over : WereOver workers (length jobs) queue seats

@@ -6,7 +6,7 @@ use Rattle.job_engine.specs.declared.crews.CrewSeats.{CrewSeats}
 use Rattle.job_engine.specs.declared.crews.JobQueue.{JobQueue}
 
 -- the queue itself
-abbrev pub queue_in : JobQueue → EitherQueue AnyQueue RingQueue
+abbrev pub queue_in : JobQueue → EitherQueue AnyQueue (RingQueue (Unit {0}))
 queue_in done = done.queue
 
 -- its seats

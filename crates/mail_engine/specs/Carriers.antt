@@ -45,8 +45,8 @@ pub record Carried (kind : Kind) (senders : ℕ) (letters : List SaidLetter) (ar
   pub carried : CarriedBy IsReady permits_of known_of senders letters arena seat
 
 -- a ring was made for these letters of so many senders, and its receiver's seat carried them
-pub record RingCarried (senders : ℕ) (letters : List SaidLetter) (queue : RingQueue) (seat : RingSeat) : Type 0 where
-  pub seats : List RingSeat
+pub record RingCarried (senders : ℕ) (letters : List SaidLetter) (queue : RingQueue (Unit {0})) (seat : RingSeat (Unit {0})) : Type 0 where
+  pub seats : List (RingSeat (Unit {0}))
   pub made : IsMailRing (length letters + senders + 2) senders queue seats
   pub carried : CarriedBy IsRingSeat permits_in ring_known senders letters queue seat
 

@@ -59,7 +59,7 @@ OpenRefused z _ = ⊥
 
 -- a ring was made for senders and their receiver: so many values make it full, each seat may have 32 places in reserve, its
 -- places go up to the greatest one of all, and these are its seats
-abbrev pub IsMailRing : (values senders : ℕ) → RingQueue → List RingSeat → Type 0
+abbrev pub IsMailRing : (values senders : ℕ) → RingQueue (Unit {0}) → List (RingSeat (Unit {0})) → Type 0
 IsMailRing values senders q seats = IsMade values 32 (2 ^ 62 - 1) (ring_roles senders) q seats
 
 -- a new ring is refused for this cause: a size is out of its range, or there was no memory

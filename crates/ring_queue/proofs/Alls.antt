@@ -62,24 +62,24 @@ all_below ns n x count apart below lt = go (search ns x)
     go (inr none) = absurd (let more : suc (length ns) ≤ n = length-le_from_distinct_below (x ∷ ns) n (none, distinct ns apart) (λ q e. from q e (search (x ∷ ns) q)) in omega (arith, more, count))
 
 -- the place of a seat's number
-abbrev place_of : Seat → ℕ
+abbrev place_of : {T : Type 0} → Seat T → ℕ
 place_of s = (view s).number - 1
 
 -- the seat at a place of the numbers' places
-seat_there : (seats : List Seat) (i x : ℕ) → slice_get (map place_of seats) i ≡ Some x → (s : Seat) × (slice_get seats i ≡ Some s) × (place_of s ≡ x)
+seat_there : {T : Type 0} (seats : List (Seat T)) (i x : ℕ) → slice_get (map place_of seats) i ≡ Some x → (s : Seat T) × (slice_get seats i ≡ Some s) × (place_of s ≡ x)
 seat_there [] i x e = absurd (none-some x e)
 seat_there (s ∷ ss) zero x e = (s, refl, same_Some (place_of s) x e)
 seat_there (s ∷ ss) (suc i) x e = seat_there ss i x e
 
 -- what a seat of a place knows stands at the same place
-known_there : (seats : List Seat) (i n : ℕ) (s : Seat) → slice_get seats i ≡ Some s → (view s).number ≡ n → IsSomeAnd (slice_get (map known_of seats) i) (λ k. k.number ≡ n)
+known_there : {T : Type 0} (seats : List (Seat T)) (i n : ℕ) (s : Seat T) → slice_get seats i ≡ Some s → (view s).number ≡ n → IsSomeAnd (slice_get (map known_of seats) i) (λ k. k.number ≡ n)
 known_there [] i n s e is = absurd (none-some s e)
-known_there (x ∷ xs) zero n s e is = ap (λ (y : Seat). (view y).number) (same_Some x s e) ∙ is
+known_there (x ∷ xs) zero n s e is = ap (λ (y : Seat _). (view y).number) (same_Some x s e) ∙ is
 known_there (x ∷ xs) (suc i) n s e is = known_there xs i n s e is
 
-module _ (z : Layout) (t : TableId) (seats : List Seat) (ready : All (IsReady z t) seats) (apart : (k l : ℕ) (a b : Seat) → slice_get seats k ≡ Some a → slice_get seats l ≡ Some b → (view a).number ≡ (view b).number → k ≡ l) where
+module _ {T : Type 0} (z : Layout) (t : TableId) (seats : List (Seat T)) (ready : All (IsReady z t) seats) (apart : (k l : ℕ) (a b : Seat T) → slice_get seats k ≡ Some a → slice_get seats l ≡ Some b → (view a).number ≡ (view b).number → k ≡ l) where
   -- the number of a seat that is handed in
-  in_range : (i : ℕ) (s : Seat) → slice_get seats i ≡ Some s → (1 ≤ (view s).number) × ((view s).number - 1 < length z.roles)
+  in_range : (i : ℕ) (s : Seat T) → slice_get seats i ≡ Some s → (1 ≤ (view s).number) × ((view s).number - 1 < length z.roles)
   in_range i s got =
       let sits = (at_place (IsReady z t) seats i s ready got).sits in
       let from = sits.from in

@@ -22,11 +22,12 @@ use Rattle.node_arena.specs.Riding.{Rides}
 use Rattle.node_arena.proofs.Slotting.{acquires, releases}
 use Rattle.node_arena.proofs.Riding.{rides_push, rides_pop, rides_shut, rides_same, runs_first}
 use Rattle.node_arena.proofs.Lifts.{map_set}
+use Rattle.node_arena.proofs.Loads.{runs_to_pop}
 use Rattle.node_arena.proofs.KnownValues.{all_on}
-use Rattle.ring_queue.specs.Plans.{Layout}
+use Rattle.ring_queue.specs.Plans.{Layout, words_of}
 use Rattle.ring_queue.specs.Seeing.{SeatView, View, seated, knows}
 use Rattle.ring_queue.specs.Rule.{Ring, Holds, put}
-use Rattle.ring_queue.specs.Beside.{Beside, plain_of, plain_state, hand_in, hand_at, words_of, Begins, Carried, HoldsValues, KnowsValues, Effect, IsReadyFor}
+use Rattle.ring_queue.specs.Beside.{Beside, plain_of, plain_state, hand_in, hand_at, Begins, Carried, HoldsValues, KnowsValues, Effect, IsReadyFor}
 use Rattle.ring_queue.proofs.Tables.{HoldsWith, Extends, its_seat, one_seat}
 use Rattle.ring_queue.proofs.Calls.{Does}
 
@@ -180,7 +181,7 @@ module _ {T : Type 0} (z : Layout) (s : State (Option T) (Beside T)) (H : HoldsV
 
   -- what the step tells, at the word that it found
   abbrev Told : (held : List (ℕ × Option T)) (k : ℕ) → Beside T × List (ℕ × Option T) → Type 0
-  Told held k o = (o.0.plain ≡ seated (knows o.0.plain)) × fact v k (knows o.0.plain) × ((fs : List Entry) × ((knows o.0.plain).mine ≡ v.mine ++ fs) × Effect v.number fs w held o.0 o.1)
+  Told held k o = (o.0.plain ≡ seated (knows o.0.plain)) × fact v k (knows o.0.plain) × ((fs : List Entry) × ((fs ≡ []) ⊎ (fs ≡ all)) × ((knows o.0.plain).mine ≡ v.mine ++ fs) × Effect v.number fs w held o.0 o.1)
 
   told0 : fact v (get_or s.words p 0) v'
   told0 = subst (λ (k : ℕ). fact v k v') (get_or-take m s.words p 0 within) done.4
@@ -198,6 +199,9 @@ module _ {T : Type 0} (z : Layout) (s : State (Option T) (Beside T)) (H : HoldsV
   abbrev At : List (Deed T) → maybe.Option ℕ → List (maybe.Option (Option T)) → List Entry → Type 0
   At d h homes' fs = (r : Rides (hist ++ fs) n (flag_at m words') (home_at homes') (hand_at (set s.views id (seat_after d h)))) × (r.deeds ≡ rides.deeds ++ d)
 
+  which : (fs : List Entry) → es ≡ fs → (fs ≡ []) ⊎ (fs ≡ all)
+  which fs is = ⊎_elim (λ (e : es ≡ []). inl (sym is ∙ e)) (λ (e : es ≡ all). inr (sym is ∙ e)) extends.which
+
   own : (fs : List Entry) → es ≡ fs → v'.mine ≡ v.mine ++ fs
   own fs is = extends.own ∙ ap (λ y. v.mine ++ y) is
 
@@ -205,7 +209,7 @@ module _ {T : Type 0} (z : Layout) (s : State (Option T) (Beside T)) (H : HoldsV
   stays_put : (held : List (ℕ × Option T)) (d : List (Deed T)) (fs : List Entry) → es ≡ fs → At d hd s.homes fs → Effect v.number fs w held (seat_after d hd) held → Result held
   stays_put held d fs is r effect =
       let r' = subst (At d hd s.homes) (sym is) r in
-      (seat_after d hd, keeps, tt, built d hd s.homes r'.0 r'.1, (refl, told0, (fs, own fs is, effect)))
+      (seat_after d hd, keeps, tt, built d hd s.homes r'.0 r'.1, (refl, told0, (fs, which fs is, own fs is, effect)))
 
   by_none : (held : List (ℕ × Option T)) → es ≡ [] → Result held
   by_none held is =
@@ -231,7 +235,7 @@ module _ {T : Type 0} (z : Layout) (s : State (Option T) (Beside T)) (H : HoldsV
         gives,
         tt,
         built d none homes' r'.0 r'.1,
-        (refl, told0, (Push v.number b ∷ [], own (Push v.number b ∷ []) is, (y, refl, refl, refl, (fit.rest, all_seen d (some_entry (Push v.number b) is))))),
+        (refl, told0, (Push v.number b ∷ [], which (Push v.number b ∷ []) is, own (Push v.number b ∷ []) is, (y, refl, refl, refl, (fit.rest, all_seen d (some_entry (Push v.number b) is))))),
       )
 
   by_pop : (t : Taken) (held : List (ℕ × Option T)) → es ≡ Pop v.number t ∷ [] → Result held
@@ -241,12 +245,14 @@ module _ {T : Type 0} (z : Layout) (s : State (Option T) (Beside T)) (H : HoldsV
       let d = popped v.number (item t.from it.0) ∷ [] in
       let homes' = set s.homes b none in
       let r = it.3 (flag_at m words') (home_at homes') (hand_at (set s.views id (seat_after d (some b)))) id flags (homes s.homes b none (let lt = it.1 in omega (arith, lt, count))) (hands d (some b)) in
+      let after = subst (λ (y : List (Deed T)). Runs [] false y (map item_of r.0.q) r.0.shut) (r.1 ∙ ap (λ y. y ++ d) fit.begins) r.0.runs in
+      let stood = runs_to_pop [] false (ds ++ fit.rest) [] v.number (item t.from it.0) (map item_of r.0.q) r.0.shut after in
       let r' = subst (At d (some b) homes') (sym is) r in (
         seat_after d (some b),
         takes b (Some it.0),
         it.2,
         built d (some b) homes' r'.0 r'.1,
-        (refl, told0, (Pop v.number t ∷ [], own (Pop v.number t ∷ []) is, (it.0, refl, refl, (fit.rest, all_seen d (some_entry (Pop v.number t) is))))),
+        (refl, told0, (Pop v.number t ∷ [], which (Pop v.number t ∷ []) is, own (Pop v.number t ∷ []) is, (it.0, refl, refl, (fit.rest, all_seen d (some_entry (Pop v.number t) is), stood)))),
       )
 
   -- whatever the line may add, the slots and the values go with it: a push gives the slot that the seat holds, a pop takes that of the
@@ -279,15 +285,15 @@ module _ {T : Type 0} (z : Layout) (s : State (Option T) (Beside T)) (H : HoldsV
 
 -- what a line tells of a seat of a table that carries values: what it tells of the numbers, what became of the slots and of the
 -- history of values, and that what the seat then knows of these is so
-abbrev pub TellsValues : {T : Type 0} (z : Layout) (v : SeatView) (w : Beside T) (held : List (ℕ × Option T)) → (SeatView → ℕ → SeatView → Type 0) → ℕ → Me (Option T) (Beside T) → Type 0
-TellsValues z v w held fact k o = ((o.0.plain ≡ seated (knows o.0.plain)) × fact v k (knows o.0.plain) × ((fs : List Entry) × ((knows o.0.plain).mine ≡ v.mine ++ fs) × Effect v.number fs w held o.0 o.1)) × KnowsValues z (knows o.0.plain).seen o.0
+abbrev pub TellsValues : {T : Type 0} (z : Layout) (v : SeatView) (w : Beside T) (held : List (ℕ × Option T)) (all : List Entry) → (SeatView → ℕ → SeatView → Type 0) → ℕ → Me (Option T) (Beside T) → Type 0
+TellsValues z v w held all fact k o = ((o.0.plain ≡ seated (knows o.0.plain)) × fact v k (knows o.0.plain) × ((fs : List Entry) × ((fs ≡ []) ⊎ (fs ≡ all)) × ((knows o.0.plain).mine ≡ v.mine ++ fs) × Effect v.number fs w held o.0 o.1)) × KnowsValues z (knows o.0.plain).seen o.0
 
 module _ {T : Type 0} (z : Layout) (id p : ℕ) (v : SeatView) (ds : List (Deed T)) (hd : maybe.Option ℕ) (os : List (List (Deed T))) (f : ℕ → ℕ) (all : List Entry) (fact : SeatView → ℕ → SeatView → Type 0) (line : Does z p v f all fact) (within : p < words_of z) where
   abbrev before : Beside T
   before = record { plain = seated v; deeds = ds; hand = hd; others = os }
 
   -- what a line asks of a table that carries values
-  pub allows_values : (held : List (ℕ × Option T)) → IsReadyFor z.slots v.number all before held → Allows {S = Option T} (HoldsValues z) z.slots id (before, held) p f (TellsValues z v before held fact)
+  pub allows_values : (held : List (ℕ × Option T)) → IsReadyFor z.slots v.number all before held → Allows {S = Option T} (HoldsValues z) z.slots id (before, held) p f (TellsValues z v before held all fact)
   allows_values held ready s H count mine small =
       let q = keeps_values z s H count id v ds hd os mine p f all fact line within held ready in
       (q.0, q.1, q.2, q.3, (q.4, q.5))

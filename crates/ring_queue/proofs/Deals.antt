@@ -1,5 +1,5 @@
 -- The opening keeps the rule, and so does a seat that is dealt.
-use Rattle.std.proofs.Common.{◌≡◌, ◌≢◌, ◌⊎◌, ℕ, ◌+◌, ◌-◌, ◌*◌, ◌/◌, ◌%◌, ◌^◌, ◌<◌, ◌≤◌, false, List, [], ◌∷◌, ◌++◌, zero, suc, length, get_or, set, Some, None, slice_get, sym, refl, ap, ◌∙◌, subst, ⊎_elim, inl, inr, arith}
+use Rattle.std.proofs.Common.{◌≡◌, ◌≢◌, ◌⊎◌, ℕ, ◌+◌, ◌-◌, ◌*◌, ◌/◌, ◌%◌, ◌^◌, ◌<◌, ◌≤◌, Bool, false, List, [], ◌∷◌, ◌++◌, zero, suc, length, get_or, set, Some, None, slice_get, sym, refl, ap, ◌∙◌, subst, ⊎_elim, inl, inr, arith}
 use Rattle.std.proofs.Math.Arith.{digits_div, digits_mod}
 use Rattle.std.proofs.lemmas.Option.{none-some}
 use Rattle.std.proofs.lemmas.List.Elements.{All-nil}
@@ -10,12 +10,10 @@ use Rattle.atomic_table.proofs.Lists.{at_set}
 use Rattle.history.specs.declared.operations.Entry.{Entry}
 use Rattle.history.specs.Seats.{IsNoted, IsPermitted, IsSound}
 use Rattle.atomic_table.specs.Seated.{TableId}
-use Rattle.atomic_table.specs.declared.shared.Seat.{Seat as Token}
 use Rattle.ring_queue.specs.declared.roles.Role.{Role}
 use Rattle.ring_queue.specs.declared.queue.RingQueue.{RingQueue}
 use Rattle.ring_queue.specs.declared.seats.Seat.{Seat}
-use Rattle.ring_queue.specs.declared.views.Knowing.{Knowing}
-use Rattle.ring_queue.specs.Making.{AreFirst, IsDealt, AreDealt, HasSlots, IsMade}
+use Rattle.ring_queue.specs.Making.{IsDealt, AreDealt, HasSlots, IsMade, IsMadeFor}
 use Rattle.ring_queue.specs.Steps.{Rests}
 use Rattle.ring_queue.specs.Words.{parity, slot_word}
 use Rattle.ring_queue.specs.Plans.{Layout, IsPlanned, IsTable, permits_of}
@@ -110,6 +108,12 @@ opens z words ring = record {
   undealt = λ n over. refl;
 }
 
+-- nothing was done in it
+pub opened : (z : Layout) (words : List ℕ) → IsPlanned z → length words ≡ 32 + 2 * z.slots → get_or words 0 0 ≡ z.slots → get_or words 16 0 ≡ z.slots
+    → ((i : ℕ) → i < z.slots → get_or words (slot_word i) 0 ≡ 0) → (h : Holds z (opening {S = ℕ} words [] (first_view z))) × (h.ring.history ≡ [])
+unfolding opens first_ring
+opened z words planned wide tail head blank = (opens z words (first_ring z words planned wide tail head blank), refl)
+
 -- a seat is dealt
 pub deals : (z : Layout) (es : List Entry) (id n : ℕ) → Splits {S = ℕ} (HoldsWith z es) id (keeper z.slots n) (dealt_left (keeper z.slots n)) (dealt_right (keeper z.slots n))
 deals z es id n s whole mine =
@@ -152,62 +156,39 @@ deals z es id n s whole mine =
       whole.1,
     )
 
--- the same at the names of a call
-pub deals_at : (z about : Layout) (id n : ℕ) (me : Me ℕ View) → about ≡ z → me ≡ (keeper z.slots n, []) → Splits {S = ℕ} (Holds about) id me.0 (dealt_left me.0) (dealt_right me.0)
-deals_at z about id n me same is = subst (λ (y : Layout × Me ℕ View). Splits {S = ℕ} (Holds y.0) id y.1.0 (dealt_left y.1.0) (dealt_right y.1.0)) (λ i. (sym same i, sym is i)) (λ s h a. (deals z h.ring.history id n s (h, refl) a).0)
-
 -- what a new seat knows is sound
 pub new_is_sound : (z : Layout) (n : ℕ) → IsSound (permits_of z) (known_by (new_seat z.slots n))
 new_is_sound z n = record { legal = (_, refl); permitted = All-nil (IsPermitted (permits_of z)); own = refl; noted = All-nil (IsNoted []) }
 
--- a seat with the token of a number that was dealt
-pub dealt : (z : Layout) (t : TableId) (n : ℕ) (role : Role) (k : Token ℕ Knowing) (place : ℕ) → IsPlanned z → place ≡ z.slots → 1 ≤ n → slice_get z.roles (n - 1) ≡ Some role → k.table_id ≡ t → k.me ≡ (seated (new_seat z.slots n), [])
-    → IsDealt z t n record { token = k; number = n; role = role; head = place; credits = 0 }
-dealt z t n role k place planned first least permits table me =
-    let is : knows k.me.0 ≡ new_seat z.slots n = ap (λ (y : Me ℕ View). knows y.0) me in
-    record {
-      ready = record {
-        sits = record {
-          table = table;
-          seat = me ∙ ap (λ v. (seated v, [])) (sym is);
-          number = sym (ap (λ v. v.number) is);
-          from = least;
-          role = permits;
-          head = first ∙ sym (ap (λ v. v.head) is);
-          below = let from = planned.from in let limit = planned.limited in omega (arith, first, from, limit);
-          credits = sym (ap (λ v. v.credits) is);
-          sound = subst (λ v. IsSound (permits_of z) (known_by v)) (sym is) (new_is_sound z n);
-        };
-        rests = subst (λ (v : SeatView). Rests v.stage) (sym is) tt;
-      };
-      view = is;
-    }
-
 -- a seat more that was just dealt
-pub one_more : (z : Layout) (t : TableId) (xs : List Seat) (n : ℕ) (s : Seat) → length xs ≡ n → AreDealt z t xs → IsDealt z t (n + 1) s → AreDealt z t (xs ++ s ∷ [])
-one_more z t xs n s len all new k y got = ⊎_elim (λ (h : slice_get xs k ≡ Some y). all k y h) (λ (h : (k ≡ length xs) × (s ≡ y)). subst (λ (q : ℕ × Seat). IsDealt z t (q.0 + 1) q.1) (λ i. (sym (h.0 ∙ len) i, h.1 i)) new) (got_snoc xs s y k got)
-
--- the rule holds of a new table
-pub opens_first : (z : Layout) (slots : ℕ) (words given : List ℕ) → IsPlanned z → slots ≡ z.slots → given ≡ words → AreFirst slots words → Holds z (opening {S = ℕ} given [] (first_view z))
-opens_first z slots words given planned same is first =
-    subst (λ ws. Holds z (opening {S = ℕ} ws [] (first_view z))) (sym is)
-    (opens z words (first_ring z words planned (first.wide ∙ ap (λ m. 32 + 2 * m) same) (first.tail ∙ same) (first.head ∙ same) (λ i lt. first.blank i (subst (λ m. i < m) (sym same) lt))))
-
--- it is laid out for its plan
-pub laid_first : (z about : Layout) (slots : ℕ) (t : TableId) (words given : List ℕ) → IsPlanned z → about ≡ z → slots ≡ z.slots → t.words ≡ length given → given ≡ words → AreFirst slots words → t.slots ≡ 0 → IsTable z about t
-laid_first z about slots t words given planned key same count is first none = record { planned = planned; key = key; words = count ∙ (ap length is ∙ (first.wide ∙ ap (λ m. 32 + 2 * m) same)); slots = none }
+pub one_more : {T : Type 0} (z : Layout) (t : TableId) (xs : List (Seat T)) (n : ℕ) (s : Seat T) → length xs ≡ n → AreDealt z t xs → IsDealt z t (n + 1) s → AreDealt z t (xs ++ s ∷ [])
+one_more {T} z t xs n s len all new k y got = ⊎_elim (λ (h : slice_get xs k ≡ Some y). all k y h) (λ (h : (k ≡ length xs) × (s ≡ y)). subst (λ (q : ℕ × (Seat T)). IsDealt z t (q.0 + 1) q.1) (λ i. (sym (h.0 ∙ len) i, h.1 i)) new) (got_snoc xs s y k got)
 
 -- what is built of a plan is a ring of its sizes
-pub made : (most credits limit slots : ℕ) (roles copied : List Role) (q : RingQueue) (seats : List Seat) → copied ≡ roles → HasSlots most credits roles slots
-    → q.plan ≡ record { slots = slots; most = most; credits = credits; limit = limit; roles = copied } → length seats ≡ length copied
-    → AreDealt record { slots = slots; most = most; credits = credits; limit = limit; roles = copied } q.table.shared.table_id seats → IsMade most credits limit roles q seats
-made most credits limit slots roles copied q seats same has is count dealt_all =
+pub made : {T : Type 0} (carries : Bool) (most credits limit slots : ℕ) (roles copied : List Role) (q : RingQueue T) (seats : List (Seat T)) → copied ≡ roles → HasSlots most credits roles slots
+    → q.plan ≡ record { slots = slots; most = most; credits = credits; limit = limit; roles = copied; carries = carries } → length seats ≡ length copied
+    → AreDealt record { slots = slots; most = most; credits = credits; limit = limit; roles = copied; carries = carries } q.table.shared.table_id seats → IsMadeFor carries most credits limit roles q seats
+made carries most credits limit slots roles copied q seats same has is count dealt_all =
     record {
       full_at = ap (λ (z : Layout). z.most) is;
       reserves = ap (λ (z : Layout). z.credits) is;
       goes_to = ap (λ (z : Layout). z.limit) is;
       deals = ap (λ (z : Layout). z.roles) is ∙ same;
+      values = ap (λ (z : Layout). z.carries) is;
       slots = subst (HasSlots most credits roles) (sym (ap (λ (z : Layout). z.slots) is)) has;
       count = count ∙ ap length same;
-      each = λ k s got. let d = subst (λ (z : Layout). IsDealt z q.table.shared.table_id (k + 1) s) (sym is) (dealt_all k s got) in record { ready = d.ready; view = d.view };
+      each = subst (λ (z : Layout). AreDealt z q.table.shared.table_id seats) (sym is) dealt_all;
     }
+
+-- one that carries no values is a ring of numbers
+pub made_numbers : {T : Type 0} (most credits limit : ℕ) (roles : List Role) (q : RingQueue T) (seats : List (Seat T)) → IsMadeFor false most credits limit roles q seats → IsMade most credits limit roles q seats
+made_numbers most credits limit roles q seats m = record {
+  full_at = m.full_at;
+  reserves = m.reserves;
+  goes_to = m.goes_to;
+  deals = m.deals;
+  numbers = m.values;
+  slots = m.slots;
+  count = m.count;
+  each = λ k s got. let d = m.each k s got in record { ready = record { numbers = m.values; ready = d.ready }; view = d.view };
+}

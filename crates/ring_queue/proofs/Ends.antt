@@ -1,5 +1,5 @@
 -- The end of a ring: with all its seats handed in each place that was claimed is filled.
-use Rattle.std.proofs.Common.{◌≡◌, ℕ, zero, suc, ◌+◌, ◌-◌, ◌/◌, ◌%◌, ◌^◌, ◌<◌, ◌≤◌, Bool, true, false, if◌then◌else◌, nat_le, IsTrue, IsSomeAnd, List, [], ◌∷◌, ◌++◌, length, map, Option, Some, None, slice_get, mod-lt, sym, refl, ap, ◌∙◌, subst, arith, ne_eqb}
+use Rattle.std.proofs.Common.{◌≡◌, ℕ, zero, suc, ◌+◌, ◌-◌, ◌/◌, ◌%◌, ◌^◌, ◌<◌, ◌≤◌, ◌↔◌, Bool, true, false, if◌then◌else◌, nat_le, IsTrue, IsSomeAnd, List, [], ◌∷◌, ◌++◌, length, map, Option, Some, None, slice_get, mod-lt, sym, refl, ap, ◌∙◌, subst, arith, ne_eqb}
 use Rattle.std.specs.List.{All, count_by}
 use mathlib.Core.Option.{some}
 use mathlib.Core.List.{IsPrefix}
@@ -12,10 +12,11 @@ use Rattle.atomic_table.specs.Table.{Final, Seen}
 use Rattle.history.specs.declared.operations.Taken.{Taken}
 use Rattle.history.specs.declared.rests.Rest.{Rest}
 use Rattle.history.specs.Entries.{own_entries, is_push, is_pop, is_shut, Leads}
-use Rattle.history.specs.Seats.{Known}
+use Rattle.history.specs.declared.operations.Entry.{Entry}
+use Rattle.history.specs.Seats.{Known, Permit, IsPermitted}
 use Rattle.history.specs.Rests.{left_of, taken_of, whole_of, was_shut_of}
 use Rattle.history.specs.Closing.{pushes_of, pops_of, shuts_of, AreAll, Closes}
-use Rattle.history.proofs.Sums.{AreApart, pushes-Leads, shut_by_one, made-all, closes}
+use Rattle.history.proofs.Sums.{AreApart, pushes-Leads, shut_by_one, made-all, made-le, theirs, closes}
 use Rattle.ring_queue.specs.declared.seats.Seat.{Seat}
 use Rattle.ring_queue.specs.Words.{payload, face, tail_word}
 use Rattle.ring_queue.specs.Plans.{Layout, permit_of, permits_of}
@@ -30,18 +31,18 @@ use Rattle.ring_queue.proofs.Keeps.{none_claimed, some_slot}
 use Rattle.ring_queue.proofs.Moments.{tail_is_in, small, room}
 
 -- at the end the words are those of a ring whose seats are those handed in, no two of one number
-pub record Ends (z : Layout) (seats : List Seat) (words : List ℕ) : Type 0 where
+pub record Ends {T : Type 0} (z : Layout) (seats : List (Seat T)) (words : List ℕ) : Type 0 where
   pub all : ℕ → SeatView
   pub ring : Ring z words all
-  pub fits : (k : ℕ) (s : Seat) → slice_get seats k ≡ Some s → all (view s).number ≡ view s
-  pub apart : (k l : ℕ) (s t : Seat) → slice_get seats k ≡ Some s → slice_get seats l ≡ Some t → (view s).number ≡ (view t).number → k ≡ l
+  pub fits : (k : ℕ) (s : Seat T) → slice_get seats k ≡ Some s → all (view s).number ≡ view s
+  pub apart : (k l : ℕ) (s t : Seat T) → slice_get seats k ≡ Some s → slice_get seats l ≡ Some t → (view s).number ≡ (view t).number → k ≡ l
 
-got_map : {A B : Type 0} (f : A → B) (xs : List A) (k : ℕ) (x : A) → slice_get xs k ≡ Some x → get_elem? (map f xs) k ≡ some (f x)
+pub got_map : {A B : Type 0} (f : A → B) (xs : List A) (k : ℕ) (x : A) → slice_get xs k ≡ Some x → get_elem? (map f xs) k ≡ some (f x)
 got_map f [] k x e = cc
 got_map f (y ∷ ys) zero x e = let same : y ≡ x = cc in ap (λ z. some (f z)) same
 got_map f (y ∷ ys) (suc k) x e = got_map f ys k x e
 
-ends_at : (z : Layout) (seats : List Seat) (id : ℕ) (words slots : List ℕ) → Final (Seen (Holds z) id (gathered (map view seats))) words slots → Ends z seats words
+pub ends_at : {T : Type 0} (z : Layout) (seats : List (Seat T)) (id : ℕ) (words slots : List ℕ) → Final (Seen (Holds z) id (gathered (map view seats))) words slots → Ends z seats words
 ends_at z seats id words slots t =
     let h : Holds z t.0 = t.1.0 in
     let u : View = gathered (map view seats) in
@@ -53,31 +54,49 @@ ends_at z seats id words slots t =
       apart = λ k l a b x y e. ap (λ (q : ℕ × ℕ). q.1) (sym (h.owned id k u (view a) at_id (got_map view seats k a x)).0 ∙ (ap h.owner e ∙ (h.owned id l u (view b) at_id (got_map view seats l b y)).0));
     }
 
--- the same at the names of a call
-pub ends : (z key : Layout) (seats : List Seat) (id : ℕ) (v : View) (words slots : List ℕ) → key ≡ z → v ≡ gathered (map view seats) → Final {S = ℕ} (Seen (Holds key) id v) words slots → Ends z seats words
-ends z key seats id v words slots same is t = ends_at z seats id words slots (subst (λ (y : Layout × View). Final {S = ℕ} (Seen (Holds y.0) id y.1) words slots) (λ i. (same i, is i)) t)
-
-seat_at : (seats : List Seat) (i : ℕ) (k : Known) → slice_get (map known_of seats) i ≡ Some k → (s : Seat) × (slice_get seats i ≡ Some s) × (known_of s ≡ k)
+seat_at : {T : Type 0} (seats : List (Seat T)) (i : ℕ) (k : Known) → slice_get (map known_of seats) i ≡ Some k → (s : Seat T) × (slice_get seats i ≡ Some s) × (known_of s ≡ k)
 seat_at [] i k e = absurd (none-some k e)
 seat_at (s ∷ ss) zero k e = (s, refl, same_Some (known_of s) k e)
 seat_at (s ∷ ss) (suc i) k e = seat_at ss i k e
 
 -- the seat of a number is among those handed in
-seat_with : (seats : List Seat) (i n : ℕ) → IsSomeAnd (slice_get (map known_of seats) i) (λ k. k.number ≡ n) → (s : Seat) × (slice_get seats i ≡ Some s) × ((view s).number ≡ n)
+seat_with : {T : Type 0} (seats : List (Seat T)) (i n : ℕ) → IsSomeAnd (slice_get (map known_of seats) i) (λ k. k.number ≡ n) → (s : Seat T) × (slice_get seats i ≡ Some s) × ((view s).number ≡ n)
 seat_with [] i n h = absurd h
 seat_with (s ∷ ss) zero n h = (s, refl, h)
 seat_with (s ∷ ss) (suc i) n h = seat_with ss i n h
 
 -- what holds of each seat that is handed in
-pub at_place : (P : Seat → Type 0) (seats : List Seat) (i : ℕ) (s : Seat) → All P seats → slice_get seats i ≡ Some s → P s
-at_place P seats i s all got = go seats i all got
+pub at_place : {T : Type 0} (P : (Seat T) → Type 0) (seats : List (Seat T)) (i : ℕ) (s : Seat T) → All P seats → slice_get seats i ≡ Some s → P s
+at_place {T} P seats i s all got = go seats i all got
   where
-    go : (xs : List Seat) (j : ℕ) → All P xs → slice_get xs j ≡ Some s → P s
+    go : (xs : List (Seat T)) (j : ℕ) → All P xs → slice_get xs j ≡ Some s → P s
     go [] j h e = absurd (none-some s e)
     go (x ∷ xs) zero h e = subst P (same_Some x s e) (h 0 s (omega arith))
     go (x ∷ xs) (suc j) h e = go xs j (λ k d lt. h (suc k) d (omega (arith, lt))) e
 
-module _ (z : Layout) (words : List ℕ) (seats : List Seat) (e : Ends z seats words) (at_rest : All (λ s. Rests (view s).stage) seats) (every : AreAll (permits_of z) (map known_of seats)) where
+-- what is told of a ring that is closed by seats, whose own history that is
+closes_in : (permits : List Permit) (ks : List Known) (rest : Rest) (es : List Entry) → Leads es (was_shut_of rest) (left_of rest) → All (IsPermitted permits) es → All (λ k. IsPrefix k.seen es) ks → All (λ k. own_entries k.number es ≡ k.mine) ks → AreApart ks → taken_of rest ≡ count_by is_pop es
+    → (IsTrue (whole_of rest) ↔ ((pops_of ks ≡ taken_of rest) × (pushes_of ks ≡ taken_of rest + length (left_of rest)) × (IsTrue (was_shut_of rest) → 1 ≤ shuts_of ks))) → (c : Closes permits ks rest) × (c.history ≡ es)
+closes_in permits ks rest es leads permitted begins own apart counted whole = (
+  record {
+    history = es;
+    leads = leads;
+    permitted = permitted;
+    begins = begins;
+    own = own;
+    counted = counted;
+    whole = whole;
+    theirs = λ t. let h = whole.0 t in theirs ks es apart own (h.0 ∙ counted) (let pushed = pushes-Leads es (was_shut_of rest) (left_of rest) leads in omega (arith, h.1, counted, pushed)) (one_shut (was_shut_of rest) _ _ (shut_by_one es (was_shut_of rest) (left_of rest) leads) (made-le ks es apart own is_shut) h.2);
+    all = (closes permits ks rest es leads permitted begins own apart counted whole).all;
+  },
+  refl,
+)
+  where
+    one_shut : (shut : Bool) (made all : ℕ) → all ≡ (if shut then 1 else 0) → made ≤ all → (IsTrue shut → 1 ≤ made) → made ≡ all
+    one_shut true made all e low one = omega (arith, e, low, one refl)
+    one_shut false made all e low one = omega (arith, e, low)
+
+module _ {T : Type 0} (z : Layout) (words : List ℕ) (seats : List (Seat T)) (e : Ends z seats words) (at_rest : All (λ s. Rests (view s).stage) seats) (every : AreAll (permits_of z) (map known_of seats)) where
   abbrev r : Ring z words e.all
   r = e.ring
 
@@ -136,27 +155,27 @@ module _ (z : Layout) (words : List ℕ) (seats : List Seat) (e : Ends z seats w
   tail_is : tail_in words ≡ r.tail
   tail_is = ap (λ t. t % 2 ^ 62) r.tail_is ∙ tail_is_in r.tail r.shut (small z words e.all r)
 
-  values_are : values_from z.slots words (head_in words) (tail_in words - head_in words) ≡ r.values
+  pub values_are : values_from z.slots words (head_in words) (tail_in words - head_in words) ≡ r.values
   values_are =
       let c = r.counted in
       ap (λ (y : ℕ × ℕ). values_from z.slots words y.0 (y.1 - y.0)) (λ i. (head_is i, tail_is i))
       ∙ told_from (r.tail - r.head) r.head r.values (omega (arith, c)) (omega arith) (omega (arith, c)) r.logged r.marked
 
-  shut_is : was_shut_in words ≡ r.shut
+  pub shut_is : was_shut_in words ≡ r.shut
   shut_is = ap (nat_le (2 ^ 62)) r.tail_is ∙ go r.shut
     where
       go : (b : Bool) → nat_le (2 ^ 62) (tail_word r.tail b) ≡ b
       go true = le-leb (2 ^ 62) (r.tail + 2 ^ 62) (omega arith)
       go false = lt-leb (2 ^ 62) r.tail (small z words e.all r)
 
-  own_each : (xs : List Seat) → ((k : ℕ) (s : Seat) → slice_get xs k ≡ Some s → e.all (view s).number ≡ view s) → All (λ k. own_entries k.number r.history ≡ k.mine) (map known_of xs)
+  own_each : {T : Type 0} (xs : List (Seat T)) → ((k : ℕ) (s : Seat T) → slice_get xs k ≡ Some s → e.all (view s).number ≡ view s) → All (λ k. own_entries k.number r.history ≡ k.mine) (map known_of xs)
   own_each [] f = All-nil (λ (k : Known). own_entries k.number r.history ≡ k.mine)
   own_each (s ∷ ss) f =
       let n : ℕ = (view s).number in
       All-cons (λ (k : Known). own_entries k.number r.history ≡ k.mine) (known_of s) (map known_of ss)
       ((r.each_seat n).own ∙ ap (λ (v : SeatView). v.mine) (f 0 s refl)) (own_each ss (λ k. f (suc k)))
 
-  begins_each : (xs : List Seat) → ((k : ℕ) (s : Seat) → slice_get xs k ≡ Some s → e.all (view s).number ≡ view s) → All (λ k. IsPrefix k.seen r.history) (map known_of xs)
+  begins_each : {T : Type 0} (xs : List (Seat T)) → ((k : ℕ) (s : Seat T) → slice_get xs k ≡ Some s → e.all (view s).number ≡ view s) → All (λ k. IsPrefix k.seen r.history) (map known_of xs)
   begins_each [] f = All-nil (λ (k : Known). IsPrefix k.seen r.history)
   begins_each (s ∷ ss) f =
       let seat = r.each_seat (view s).number in
@@ -173,9 +192,9 @@ module _ (z : Layout) (words : List ℕ) (seats : List Seat) (e : Ends z seats w
   some_shut true made is t = omega (arith, is)
   some_shut false made is t = absurd (let f : false ≡ true = t in cc)
 
-  -- the ring is closed
+  -- the ring is closed, by that history
   pub closes_all : (rest : Rest) → left_of rest ≡ values_from z.slots words (head_in words) (tail_in words - head_in words) → taken_of rest + z.slots ≡ head_in words → whole_of rest ≡ true → was_shut_of rest ≡ was_shut_in words
-      → Closes (permits_of z) (map known_of seats) rest
+      → (c : Closes (permits_of z) (map known_of seats) rest) × (c.history ≡ r.history)
   closes_all rest left taken whole shut =
       let ks : List Known = map known_of seats in
       let left_is : left_of rest ≡ r.values = left ∙ values_are in
@@ -187,14 +206,14 @@ module _ (z : Layout) (words : List ℕ) (seats : List Seat) (e : Ends z seats w
       let pushes : pushes_of ks ≡ count_by is_push r.history = made-all ks r.history numbers_apart own (permits_of z) r.permitted every is_push in
       let shuts : shuts_of ks ≡ count_by is_shut r.history = made-all ks r.history numbers_apart own (permits_of z) r.permitted every is_shut in
       let pushed = pushes-Leads r.history (was_shut_of rest) (left_of rest) leads in
-      closes (permits_of z) ks rest r.history leads r.permitted (begins_each seats e.fits) own numbers_apart counted (
+      closes_in (permits_of z) ks rest r.history leads r.permitted (begins_each seats e.fits) own numbers_apart counted (
         λ _. (pops ∙ sym counted, omega (arith, pushes, pushed, counted), some_shut (was_shut_of rest) (shuts_of ks) (shuts ∙ shut_by_one r.history (was_shut_of rest) (left_of rest) leads)),
         λ _. whole,
       )
 
   -- its words are those of a table with slots, and its values have room in a list with room for a value of each
   pub has_words : HasWords z.slots words
-  has_words = record { some = some_slot z words e.all r; wide = r.wide }
+  has_words = record { some = some_slot z words e.all r; wide = let wide = r.wide in omega (arith, wide) }
 
   pub head_is_low : z.slots ≤ head_in words
   head_is_low = let t = r.taken in omega (arith, head_is, t)

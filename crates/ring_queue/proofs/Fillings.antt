@@ -22,7 +22,7 @@ fillings_at shut n bodies i b lt is =
     drop_map (content shut n) bodies i lt ∙ (λ k. content shut n (value k) ∷ drop (next k) (contents shut n bodies))
 
 -- a seat's number lies in 15 bits
-pub number_small : (z : Layout) (t : TableId) (s : Seat) → IsPlanned z → Sits z t s → s.number < 2 ^ 15
+pub number_small : {T : Type 0} (z : Layout) (t : TableId) (s : Seat T) → IsPlanned z → Sits z t s → s.number < 2 ^ 15
 number_small z t s planned h =
     let lt : s.number - 1 < length z.roles = slice_get_within z.roles (s.number - 1) s.role h.role in
     let few = planned.few in

@@ -6,12 +6,8 @@ use mathlib.Core.List.{map-append}
 use lib.ListN.{get_elem?}
 use Rattle.atomic_table.specs.Table.{Me, Joins, Enters}
 use Rattle.atomic_table.specs.Seated.{TableId}
-use Rattle.atomic_table.specs.declared.shared.Seat.{Seat as Token}
 use Rattle.atomic_table.proofs.Lists.{at_set, set_else}
 use Rattle.history.specs.declared.operations.Entry.{Entry}
-use Rattle.ring_queue.specs.declared.queue.RingQueue.{RingQueue}
-use Rattle.ring_queue.specs.declared.seats.Seat.{Seat}
-use Rattle.ring_queue.specs.declared.views.Knowing.{Knowing}
 use Rattle.ring_queue.specs.Plans.{Layout}
 use Rattle.ring_queue.specs.Seeing.{SeatView, View, keeper, gathered, seated, spent, members, both_of}
 use Rattle.ring_queue.specs.Rule.{put, Holds, Opens}
@@ -69,22 +65,3 @@ enters_with key es slots word s whole empty fit =
     (λ (t : (j ≡ length s.views) × (gathered [] ≡ keeper m n)). let e = t.1 in cc)
     (at_end s.views (gathered []) (keeper m n) j a)) in
     (gathered [], (q.0, q.1 ∙ whole.1), refl)
-
-pub enters : (key : Layout) (slots word : ℕ) → Enters {S = ℕ} (Holds key) slots word (λ n w. Opens (w, []))
-enters key slots word s h empty fit = let q = enters_with key h.ring.history slots word s (h, refl) empty fit in (q.0, q.1.0, ap (λ w. (w, [])) q.2)
-
--- the same at the names of a call
-pub gathers_at : (key : Layout) (id other : ℕ) (vs : List SeatView) (me him : Me ℕ View) (w : SeatView) → me ≡ (gathered vs, []) → him ≡ (seated w, []) → Joins {S = ℕ} (Holds key) id me.0 other him.0 (both_of me.0 him.0) spent
-gathers_at key id other vs me him w is his = subst (λ (y : Me ℕ View × Me ℕ View). Joins {S = ℕ} (Holds key) id y.0.0 other y.1.0 (both_of y.0.0 y.1.0) spent) (λ i. (sym is i, sym his i)) (λ s h a n b. (gathers key h.ring.history id other vs w s (h, refl) a n b).0)
-
--- a token that took in one more
-pub took_in : (t : TableId) (k k' : Token ℕ Knowing) (seats : List Seat) (s : Seat) → HasGathered t k (map view seats) → HasToken t s → k'.table_id ≡ k.table_id → k'.me ≡ (both_of k.me.0 s.token.me.0, k.me.1) → HasGathered t k' (map view (seats ++ s ∷ []))
-took_in t k k' seats s g has same is =
-    record {
-      table = same ∙ g.table;
-      seat = is ∙ (λ i. (both_of (g.seat i).0 (has.seat i).0, (g.seat i).1)) ∙ ap (λ vs. (gathered vs, [])) (sym (map-append view seats (s ∷ [])));
-    }
-
--- each seat of a ring brings a token of its table
-pub have_tokens : (q : RingQueue) (seats : List Seat) → All (IsQueueSeat q) seats → All (HasToken q.table.shared.table_id) seats
-have_tokens q seats ready = λ k d lt. let h = ready k d lt in record { table = h.sits.table; seat = h.sits.seat }

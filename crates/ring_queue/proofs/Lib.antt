@@ -25,3 +25,10 @@ pub mod Moments
 pub mod WorkedRuns
 pub mod Carrying
 pub mod Lifts
+pub mod Asks
+pub mod Tokens
+pub mod KnownValues
+pub mod Moved
+pub mod Handing
+pub mod Vacant
+pub mod ValueEnds

@@ -14,10 +14,10 @@ use Rattle.node_arena.specs.Deeds.{Deed, Matches}
 use Rattle.node_arena.specs.Slots.{item_of}
 use Rattle.node_arena.proofs.Lifts.{map_set, take_full}
 use Rattle.node_arena.proofs.Riding.{rides_same}
-use Rattle.ring_queue.specs.Plans.{Layout}
+use Rattle.ring_queue.specs.Plans.{Layout, words_of}
 use Rattle.ring_queue.specs.Seeing.{SeatView, View, gathered, seated, paired, knows}
 use Rattle.ring_queue.specs.Rule.{Holds, Ring, put, first_view}
-use Rattle.ring_queue.specs.Beside.{Beside, words_of, plain_of, plain_state, hand_in, hand_at, Begins, Carried, CarriedBy, HoldsFor, HoldsValues, KnowsBy, KnowsValues, KnowsNow, GrowsBy, IsReadyBy, TellsBeside, MeetsBeside, alone, onward, first_beside}
+use Rattle.ring_queue.specs.Beside.{Beside, plain_of, plain_state, hand_in, hand_at, Begins, Carried, CarriedBy, HoldsFor, HoldsValues, KnowsBy, KnowsValues, KnowsNow, GrowsBy, IsReadyBy, TellsBeside, MeetsBeside, alone, onward, first_beside, first_beside_of, second_beside_of}
 use Rattle.ring_queue.specs.Meeting.{learned}
 use Rattle.ring_queue.proofs.Tables.{HoldsWith, its_seat, one_seat}
 use Rattle.ring_queue.proofs.Calls.{Does}
@@ -136,13 +136,6 @@ module _ {T : Type 0} (b : Bool) (z : Layout) where
   pub lift_final : (id : ℕ) (w : Beside T) (words : List ℕ) (slots : List (Option T)) → Final {S = Option T} (Seen (HoldsFor b z) id w) words slots → Final {S = ℕ} (Seen (Holds z) id w.plain) (take (words_of z) words) []
   lift_final id w words slots f = (plain_state (words_of z) f.0, (f.1.0.base, at_map plain_of f.0.views id w f.1.1), ap (take (words_of z)) f.2, refl, λ k y e. absurd (some-ne-none (some y) (sym e)))
 
--- a new table that carries no values
-pub lift_opens : (T : Type 0) (z : Layout) (words : List ℕ) → length words ≡ words_of z → Holds z (opening {S = ℕ} words [] (first_view z)) → HoldsFor false z (opening {S = Option T} words [] (first_beside z))
-lift_opens T z words long h = record {
-  base = (moved z h.ring.history words (take (words_of z) words) (first_view z ∷ []) (first_view z ∷ []) (take_full (words_of z) words long) refl (h, refl)).0;
-  values = tt;
-}
-
 -- a load of the first word by two seats that are one: both have seen the whole history, and that of the values
 module _ {T : Type 0} (key : Layout) (slots id : ℕ) (v u : SeatView) (ds : List (Deed T)) (hd : maybe.Option ℕ) (os : List (List (Deed T))) (held : List (ℕ × Option T)) where
   abbrev pair : Beside T
@@ -169,7 +162,7 @@ module _ {T : Type 0} (key : Layout) (slots id : ℕ) (v u : SeatView) (ds : Lis
           let es : List Entry = base.ring.history in
           let w' : Beside T = record { plain = paired (learned es v) (learned es u); deeds = ds; hand = hd; others = [] } in
           let n = moved key es (take m s.words) (take m words) (set (map plain_of s.views) id w'.plain) (map plain_of (set s.views id w')) (ap (take m) same_words) (map_set plain_of s.views id w') q.0 in
-          (w', keeps, tt, record { base = n.0; values = tt }, (q.1, refl, refl, tt, refl))
+          (w', keeps, tt, record { base = n.0; values = tt }, (q.1, refl, refl, ∣ tt ∣₁, ∣ tt ∣₁, refl))
       go true base c =
           let q = meets_now key (plain_state m s) base id v u (at_map plain_of s.views id pair mine) in
           let es : List Entry = base.ring.history in
@@ -198,7 +191,8 @@ module _ {T : Type 0} (key : Layout) (slots id : ℕ) (v u : SeatView) (ds : Lis
               q.1,
               refl,
               refl,
-              knows_first key es w' all [] (sym (append-nil all)) c.rides.matches (map item_of c.rides.q) c.rides.shut c.rides.runs (λ i k. (c.rides.slotted.out id i (ap hand_in mine ∙ k)).0),
+              ∣ knows_first key es (first_beside_of w') all [] (sym (append-nil all)) c.rides.matches (map item_of c.rides.q) c.rides.shut c.rides.runs (λ i k. (c.rides.slotted.out id i (ap hand_in mine ∙ k)).0) ∣₁,
+              ∣ knows_first key es (second_beside_of w') all [] (sym (append-nil all)) c.rides.matches (map item_of c.rides.q) c.rides.shut c.rides.runs (λ i k. absurd (some-ne-none i (sym k))) ∣₁,
               ((fit.rest, fit.begins), fit.others),
             ),
           )
@@ -208,20 +202,20 @@ module _ {T : Type 0} (z : Layout) (slots id p : ℕ) (v : SeatView) (ds : List 
   abbrev before : Me (Option T) (Beside T)
   before = (record { plain = seated v; deeds = ds; hand = hd; others = os }, held)
 
-  pub allows_beside : (b : Bool) → (b ≡ true → slots ≡ z.slots) → IsReadyBy b z.slots v.number all before → Allows {S = Option T} (HoldsFor b z) slots id before p f (λ n o. TellsBeside b z fact before n o)
+  pub allows_beside : (b : Bool) → (b ≡ true → slots ≡ z.slots) → IsReadyBy b z.slots v.number all before → Allows {S = Option T} (HoldsFor b z) slots id before p f (λ n o. TellsBeside b z all fact before n o)
   allows_beside b sized ready s h count mine small = go b sized ready h.base h.values
     where
       m : ℕ
       m = words_of z
 
       Out : (b : Bool) → Type 0
-      Out b = (w' : Beside T) × (a : Act (Option T)) × Valid s.homes held a × HoldsFor b z (stepped s p (f (get_or s.words p 0)) id held w' a) × TellsBeside b z fact before (get_or s.words p 0) (w', carried_after held a)
+      Out b = (w' : Beside T) × (a : Act (Option T)) × Valid s.homes held a × HoldsFor b z (stepped s p (f (get_or s.words p 0)) id held w' a) × TellsBeside b z all fact before (get_or s.words p 0) (w', carried_after held a)
 
       go : (b : Bool) → (b ≡ true → slots ≡ z.slots) → IsReadyBy b z.slots v.number all before → (base : Holds z (plain_state m s)) → CarriedBy b z base.ring.history s → Out b
       go true sized ready base c =
           let H : HoldsValues z s = record { base = base; values = c } in
           let q = allows_values z id p v ds hd os f all fact line within held ready s H (count ∙ sized refl) mine small in
-          (q.0, q.1, q.2, record { base = q.3.base; values = q.3.values }, ((ap (λ y. (y, [])) q.4.0.0, q.4.0.1), q.4.0.2, q.4.1))
+          (q.0, q.1, q.2, record { base = q.3.base; values = q.3.values }, (q.4.0.0, q.4.0.1, q.4.0.2, ∣ q.4.1 ∣₁))
       go false sized ready base c =
           let mine0 = at_map plain_of s.views id before.0 mine in
           let same : get_or (take m s.words) p 0 ≡ get_or s.words p 0 = get_or-take m s.words p 0 within in
@@ -235,5 +229,5 @@ module _ {T : Type 0} (z : Layout) (slots id p : ℕ) (v : SeatView) (ds : List 
             keeps,
             tt,
             record { base = n.0; values = tt },
-            ((refl, subst (λ (k : ℕ). fact v k q.0) same q.4), (q.3.added, q.3.own, (refl, refl, refl)), tt),
+            (refl, subst (λ (k : ℕ). fact v k q.0) same q.4, (q.3.added, q.3.which, q.3.own, (refl, refl, refl)), ∣ tt ∣₁),
           )

@@ -215,27 +215,3 @@ meets_now z s h id v w at_id =
       ),
       met z s.words h.seats r v w differ is_v is_w,
     )
-
--- a load by two seats that are one
-meets_paired : (z : Layout) (slots id : ℕ) (v w : SeatView) → Allows {S = ℕ} (Holds z) slots id (paired v w, []) 0 (λ n. n) (λ n m. Met z v w m)
-meets_paired z slots id v w s h none at_id small =
-    let q = meets_now z s h id v w at_id in
-    let both : View = paired (learned h.ring.history v) (learned h.ring.history w) in
-    (both, keeps, tt, subst (λ (ws : List ℕ). Holds z (record { words = ws; homes = s.homes; views = set s.views id both })) (sym (set-get_or s.words 0 0)) q.0.0, q.1)
-
--- the same at the names of calls
-pub spares_at : (key : Layout) (id : ℕ) (me : Me ℕ View) (v : SeatView) → me ≡ (seated v, []) → Splits {S = ℕ} (Holds key) id me.0 me.0 spent
-spares_at key id me v is = subst (λ (y : Me ℕ View). Splits {S = ℕ} (Holds key) id y.0 y.0 spent) (sym is) (λ s h a. (spares key h.ring.history id v s (h, refl) a).0)
-
-pub pairs_at : (key : Layout) (id other : ℕ) (me him : Me ℕ View) (v w : SeatView) → me ≡ (seated v, []) → him ≡ (seated w, []) → Joins {S = ℕ} (Holds key) id me.0 other him.0 (both_of me.0 him.0) spent
-pairs_at key id other me him v w is his = subst (λ (y : Me ℕ View × Me ℕ View). Joins {S = ℕ} (Holds key) id y.0.0 other y.1.0 (both_of y.0.0 y.1.0) spent) (λ i. (sym is i, sym his i)) (λ s h a n b. (pairs key h.ring.history id other v w s (h, refl) a n b).0)
-
-pub meets_at : (key : Layout) (slots id : ℕ) (me : Me ℕ View) (v w : SeatView) → me ≡ (paired v w, []) → Allows {S = ℕ} (Holds key) slots id me 0 (λ n. n) (λ n m. Met key (knows me.0) (knows_second me.0) m)
-meets_at key slots id me v w is = subst (λ (y : Me ℕ View). Allows {S = ℕ} (Holds key) slots id y 0 (λ n. n) (λ n m. Met key (knows y.0) (knows_second y.0) m)) (sym is) (meets_paired key slots id v w)
-
-pub parts_at : (key : Layout) (id : ℕ) (me : Me ℕ View) (v w : SeatView) → me ≡ (paired v w, []) → Splits {S = ℕ} (Holds key) id me.0 (first_of me.0) (second_of me.0)
-parts_at key id me v w is = subst (λ (y : Me ℕ View). Splits {S = ℕ} (Holds key) id y.0 (first_of y.0) (second_of y.0)) (sym is) (λ s h a. (parts key h.ring.history id v w s (h, refl) a).0)
-
--- the token that two others joined into
-pub joined_is : (j one tok : Me ℕ View) (v w : SeatView) → one ≡ (seated v, []) → tok ≡ (seated w, []) → j ≡ (both_of one.0 tok.0, one.1) → j ≡ (paired v w, [])
-joined_is j one tok v w a b e = e ∙ (λ i. (both_of (a i).0 (b i).0, (a i).1))

@@ -1,5 +1,5 @@
 -- The seats of a new ring, in words of queues.
-use Rattle.std.proofs.Common.{◌≡◌, ℕ, suc, ◌+◌, List, [], ◌∷◌, length, map, Option, Some, None, option_map, slice_get, refl, sym, ap, ◌∙◌}
+use Rattle.std.proofs.Common.{◌≡◌, ℕ, suc, ◌+◌, List, [], ◌∷◌, length, map, Option, Some, None, Result, Ok, Err, IfOk, option_map, slice_get, refl, sym, ap, ◌∙◌}
 use Rattle.std.specs.List.{All}
 use Rattle.std.proofs.lemmas.List.{length-map}
 use Rattle.std.proofs.lemmas.List.Elements.{All-nil, All-cons}
@@ -20,7 +20,12 @@ all_places : {A : Type 0} (P : A → Type 0) (xs : List A) → ((k : ℕ) (x : A
 all_places P [] h = All-nil P
 all_places P (x ∷ xs) h = All-cons P x xs (h 0 x refl) (all_places P xs (λ k y e. h (suc k) y e))
 
-module _ (most credits limit : ℕ) (roles : List Role) (q : RingQueue) (seats : List Seat) (m : IsMade most credits limit roles q seats) where
+-- what holds of an answer, and so another
+pub ok_on : {X E : Type 0} (P Q : X → Type 0) → ((x : X) → P x → Q x) → (out : Result X E) → IfOk out P → IfOk out Q
+ok_on P Q f (Ok x) h = f x h
+ok_on P Q f (Err e) h = tt
+
+module _ {T : Type 0} (most credits limit : ℕ) (roles : List Role) (q : RingQueue T) (seats : List (Seat T)) (m : IsMade most credits limit roles q seats) where
   -- each seat of a new ring may begin a call
   pub made_ready : All (IsQueueSeat q) seats
   made_ready = all_places (IsQueueSeat q) seats (λ k s e. (m.each k s e).ready)
@@ -29,7 +34,7 @@ module _ (most credits limit : ℕ) (roles : List Role) (q : RingQueue) (seats :
   pub made_permits : permits_in q ≡ permits_by roles
   made_permits = ap permits_by m.deals
 
-  new_at : (k : ℕ) (c : Known) (o : Option Seat) → slice_get seats k ≡ o → option_map known_of o ≡ Some c → c ≡ newcomer (k + 1)
+  new_at : (k : ℕ) (c : Known) (o : Option (Seat T)) → slice_get seats k ≡ o → option_map known_of o ≡ Some c → c ≡ newcomer (k + 1)
   new_at k c None e h = absurd (none-some c h)
   new_at k c (Some s) e h = sym (same_Some (known_of s) c h) ∙ ap known_by (m.each k s e).view
 

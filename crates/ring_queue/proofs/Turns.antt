@@ -40,11 +40,11 @@ pub is_ahead : (z : Layout) (old between seen : List Entry) (place : ℕ) → se
 is_ahead z old between seen place e h = record { between = between; rest = []; parts = e ∙ sym (append-nil (old ++ between)); ahead = subst (λ es. IsAhead z es place) e h }
 
 -- turns that failed since a step failed since any step before
-pub failed_since : (z : Layout) (first more old : List Entry) (from turns : ℕ) (t : Seat) → old ≡ first ++ more → HaveFailed z old from turns t → HaveFailed z first from turns t
+pub failed_since : {T : Type 0} (z : Layout) (first more old : List Entry) (from turns : ℕ) (t : Seat T) → old ≡ first ++ more → HaveFailed z old from turns t → HaveFailed z first from turns t
 failed_since z first more old from turns t e f = (f.0, ⊎_elim (λ (le : from + turns ≤ t.head). inl le) (λ (w : WasAhead z old (view t).seen from). inr (was_since z first more old (view t).seen from e w)) f.1)
 
 -- one turn more failed
-pub failed_more : (z : Layout) (old before : List Entry) (from turns : ℕ) (s t : Seat) → (view s).seen ≡ old ++ before → SeesMore (known_of s) (known_of t) → HaveFailed z old from turns s
+pub failed_more : {T : Type 0} (z : Layout) (old before : List Entry) (from turns : ℕ) (s t : Seat T) → (view s).seen ≡ old ++ before → SeesMore (known_of s) (known_of t) → HaveFailed z old from turns s
     → HaveFailed z (view s).seen s.head 1 t → HaveFailed z old from (turns + 1) t
 failed_more z old before from turns s t since more f late =
     let g = failed_since z old before (view s).seen s.head 1 t since late in
@@ -61,7 +61,7 @@ failed_more z old before from turns s t since more f late =
     )
 
 -- a turn of a pop after its seat saw more, and kept its head
-pub turn_after : (z : Layout) (s t u : Seat) (turn : Turn) → SeesMore (known_of s) (known_of t) → t.head ≡ s.head → TurnSays z t u turn → TurnSays z s u turn
+pub turn_after : {T : Type 0} (z : Layout) (s t u : Seat T) (turn : Turn) → SeesMore (known_of s) (known_of t) → t.head ≡ s.head → TurnSays z t u turn → TurnSays z s u turn
 turn_after z s t u (Took value) f same g = answers_then (known_of s) (known_of t) (known_of u) (Some value) f g
 turn_after z s t u Empty f same g = answers_then (known_of s) (known_of t) (known_of u) None f g
 turn_after z s t u Closed f same g = pop_refused_then (known_of s) (known_of t) (known_of u) IsClosed f g
@@ -69,14 +69,14 @@ turn_after z s t u Failed f same g =
     (sees_then (known_of s) (known_of t) (known_of u) f g.0, failed_since z (view s).seen f.between (view t).seen s.head 1 u f.seen (subst (λ h. HaveFailed z (view t).seen h 1 u) same g.1))
 
 -- a pop that found a place claimed, and then read Head
-pub end_failed : (z : Layout) (s t u : Seat) → EndSays z s t Ahead → SeesMore (known_of t) (known_of u) → t.head ≤ u.head → TurnSays z s u Failed
+pub end_failed : {T : Type 0} (z : Layout) (s t u : Seat T) → EndSays z s t Ahead → SeesMore (known_of t) (known_of u) → t.head ≤ u.head → TurnSays z s u Failed
 end_failed z s t u f more le =
     let same = f.2 in
     let then = is_ahead z (view s).seen f.0.between (view t).seen s.head f.0.seen f.1 in
     (sees_then (known_of s) (known_of t) (known_of u) f.0 more, (omega (arith, le, same), inr (was_ahead z (view s).seen (view t).seen more.between (view u).seen s.head s.head more.seen (omega arith) then)))
 
 -- a pop whose head was another's
-pub head_raised : (z : Layout) (s u : Seat) → SeesMore (known_of s) (known_of u) → s.head < u.head → TurnSays z s u Failed
+pub head_raised : {T : Type 0} (z : Layout) (s u : Seat T) → SeesMore (known_of s) (known_of u) → s.head < u.head → TurnSays z s u Failed
 head_raised z s u more lt = (more, (omega (arith, lt), inl (omega (arith, lt))))
 
 -- a push that is done after its seat saw more

@@ -1,5 +1,5 @@
 -- Worked runs of a ring of four slots, which two values make full: by computation.
-use Rattle.std.proofs.Common.{◌≡◌, true, [], ◌∷◌, Some, None, refl}
+use Rattle.std.proofs.Common.{false, ◌≡◌, true, [], ◌∷◌, Some, None, refl}
 use Rattle.history.specs.declared.operations.Entry.TheVariants.{Push, Pop, Shut}
 use Rattle.history.specs.declared.operations.Reply.TheVariants.{Done, Value, Empty, Refused}
 use Rattle.history.specs.declared.refusals.Refusal.TheVariants.{NoNode, Closed}
@@ -8,7 +8,7 @@ use Rattle.ring_queue.specs.Plans.{Layout}
 use Rattle.ring_queue.specs.Machine.{C1, C3, P1, P2, S10, Words, Actor, Stepped, play, begins, first_words, first_actor}
 
 abbrev z : Layout
-z = record { slots = 4; most = 2; credits = 1; limit = 100; roles = Both ∷ Both ∷ [] }
+z = record { slots = 4; most = 2; credits = 1; limit = 100; roles = Both ∷ Both ∷ []; carries = false }
 
 abbrev giver : Actor
 giver = record (first_actor 4 1) { body = 7 }

@@ -29,14 +29,14 @@ PopsSome k most before after k' zero = (after ≡ before) × FoundEmpty k k'
 PopsSome k most before after k' (suc n) = PoppedAll k most before after k' (suc n)
 
 -- what a turn of a pop of many says
-abbrev pub BatchSays : Layout → (s t : Seat) → (most : ℕ) → (before after : Vec Taken) → Batch → Type 0
+abbrev pub BatchSays : {T : Type 0} → Layout → (s t : Seat T) → (most : ℕ) → (before after : Vec Taken) → Batch → Type 0
 BatchSays z s t most before after (Took count) = PoppedAll (known_of s) most before.items after.items (known_of t) count
 BatchSays z s t most before after Empty = (after ≡ before) × FoundEmpty (known_of s) (known_of t)
 BatchSays z s t most before after Closed = (after ≡ before) × FoundShutEmpty (known_of s) (known_of t)
 BatchSays z s t most before after Failed = (after ≡ before) × SeesMore (known_of s) (known_of t) × HaveFailed z (view s).seen s.head 1 t
 
 -- a pop went on reading words of values, up to so many
-pub record GoesOn (s t : Seat) (words : List ℕ) (limit count : ℕ) : Type 0 where
+pub record GoesOn {T : Type 0} (s t : Seat T) (words : List ℕ) (limit count : ℕ) : Type 0 where
   pub sees : SeesMore (known_of s) (known_of t)
   pub head : t.head ≡ s.head
   pub found : (view t).stage ≡ found (take count words)

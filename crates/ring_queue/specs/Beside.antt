@@ -1,6 +1,6 @@
 -- What a seat of a ring knows beside its queue's numbers, and the rule of a table with slots: that of the numbers, and where values
 -- are carried, that each value in the queue lies in the slot that its number names.
-use Rattle.std.specs.Prelude.{◌≡◌, ℕ, ◌+◌, ◌*◌, ◌<◌, ◌≤◌, Bool, true, false, List, [], ◌∷◌, ◌++◌, length, map, take, Option, Some}
+use Rattle.std.specs.Prelude.{◌≡◌, ℕ, ◌+◌, ◌*◌, ◌<◌, ◌≤◌, ◌⊎◌, Bool, true, false, List, [], ◌∷◌, ◌++◌, length, map, take, Option, Some}
 use mathlib.Core.Option.{some, none}
 use mathlib.Core.Option as maybe
 use lib.ListN.{get_elem?}
@@ -11,9 +11,8 @@ use Rattle.node_arena.specs.Deeds.{Item, item, Deed, pushed, popped, closed, Run
 use Rattle.node_arena.specs.Beside.{AllBegin, flag_at, home_at, slots_in}
 use Rattle.node_arena.specs.Riding.{Rides}
 use Rattle.ring_queue.specs.Seeing.{SeatView, View, seated, paired, spent, dealt_left, dealt_right, both_of, first_of, second_of, knows, knows_second}
-use Rattle.ring_queue.specs.Plans.{Layout}
+use Rattle.ring_queue.specs.Plans.{Layout, words_of}
 use Rattle.ring_queue.specs.Rule.{Holds, Opens, first_view}
-use Rattle.ring_queue.specs.Steps.{Tells}
 use Rattle.ring_queue.specs.Meeting.{Met}
 
 -- what a seat knows of its queue, a beginning of the history of values, the slot that is out with it, and what seats that it
@@ -23,10 +22,6 @@ pub record Beside (T : Type 0) : Type 0 where
   pub deeds : List (Deed T)
   pub hand : maybe.Option ℕ
   pub others : List (List (Deed T))
-
--- the words of the queue, which lie first in the table, before a flag for each slot
-abbrev pub words_of : Layout → ℕ
-words_of z = 32 + 2 * z.slots
 
 module _ {T : Type 0} where
   -- what is known of the queue alone
@@ -80,12 +75,16 @@ pub record KnowsValues {T : Type 0} (z : Layout) (seen : List Entry) (w : Beside
   pub runs : Runs [] false w.deeds values shut
   pub there : (i : ℕ) → w.hand ≡ some i → i < z.slots
 
+-- deeds led to a queue with this value in front
+abbrev pub StoodFirst : {T : Type 0} → List (Deed T) → Item T → Type 0
+StoodFirst {T} deeds front = (rest : List (Item T)) × (shut : Bool) × Runs [] false deeds (front ∷ rest) shut
+
 module _ {T : Type 0} where
-  -- what became of the slots and of the history of values, by the entries that a step added
+  -- what became of the slots and of the history of values, by the entries that a step added; what a pop took stood in front
   abbrev pub Effect : (me : ℕ) (es : List Entry) (w : Beside T) (held : List (ℕ × Option T)) (w' : Beside T) (held' : List (ℕ × Option T)) → Type 0
   Effect me [] w held w' held' = (held' ≡ held) × (w'.hand ≡ w.hand) × ((between : List (Deed T)) × (w'.deeds ≡ w.deeds ++ between))
   Effect me (Push n b ∷ es) w held w' held' = (x : T) × (held ≡ (b, Some x) ∷ []) × (held' ≡ []) × (w'.hand ≡ none) × ((between : List (Deed T)) × (w'.deeds ≡ (w.deeds ++ between) ++ pushed me x ∷ []))
-  Effect me (Pop n t ∷ es) w held w' held' = (x : T) × (held' ≡ (t.body, Some x) ∷ held) × (w'.hand ≡ some t.body) × ((between : List (Deed T)) × (w'.deeds ≡ (w.deeds ++ between) ++ popped me (item t.from x) ∷ []))
+  Effect me (Pop n t ∷ es) w held w' held' = (x : T) × (held' ≡ (t.body, Some x) ∷ held) × (w'.hand ≡ some t.body) × ((between : List (Deed T)) × (w'.deeds ≡ (w.deeds ++ between) ++ popped me (item t.from x) ∷ []) × StoodFirst (w.deeds ++ between) (item t.from x))
   Effect me (Shut n ∷ es) w held w' held' = (held' ≡ held) × (w'.hand ≡ w.hand) × ((between : List (Deed T)) × (w'.deeds ≡ (w.deeds ++ between) ++ closed me ∷ []))
 
   -- the slots and the values are ready for what a step may add: the slot of what it pushes is out with the seat, with a value in it;
@@ -159,9 +158,9 @@ module _ {T : Type 0} where
   EffectBy true n es me me' = Effect n es me.0 me.1 me'.0 me'.1
   EffectBy false n es me me' = (me'.1 ≡ me.1) × (me'.0.hand ≡ me.0.hand) × (me'.0.deeds ≡ me.0.deeds)
 
-  -- a step moved the slots that belong to what it added to the seat's own entries
-  abbrev pub Moves : Bool → Me (Option T) (Beside T) → Me (Option T) (Beside T) → Type 0
-  Moves carries me me' = (es : List Entry) × ((knows me'.0.plain).mine ≡ (knows me.0.plain).mine ++ es) × EffectBy carries (knows me.0.plain).number es me me'
+  -- a step added nothing, or all of these, to the seat's own entries, and moved the slots that belong to what it added
+  abbrev pub Moves : Bool → (all : List Entry) → Me (Option T) (Beside T) → Me (Option T) (Beside T) → Type 0
+  Moves carries all me me' = (es : List Entry) × ((es ≡ []) ⊎ (es ≡ all)) × ((knows me'.0.plain).mine ≡ (knows me.0.plain).mine ++ es) × EffectBy carries (knows me.0.plain).number es me me'
 
   -- what a seat knows of values is so, by what it has then seen
   abbrev pub KnowsNow : Bool → Layout → Beside T → Type 0
@@ -178,12 +177,27 @@ module _ {T : Type 0} where
   IsReadyBy false slots n all me = Unit {0}
 
   -- what a step tells of the numbers, which slots moved, and that what the seat then knows of values is so
-  abbrev pub TellsBeside : Bool → Layout → (SeatView → ℕ → SeatView → Type 0) → Me (Option T) (Beside T) → ℕ → Me (Option T) (Beside T) → Type 0
-  TellsBeside carries z fact me n me' = Tells fact (plain_me me) n (plain_me me') × Moves carries me me' × KnowsNow carries z me'.0
+  abbrev pub TellsBeside : Bool → Layout → (all : List Entry) → (SeatView → ℕ → SeatView → Type 0) → Me (Option T) (Beside T) → ℕ → Me (Option T) (Beside T) → Type 0
+  TellsBeside carries z all fact me n me' = (me'.0.plain ≡ seated (knows me'.0.plain)) × fact (knows me.0.plain) n (knows me'.0.plain) × Moves carries all me me' × ∥ KnowsNow carries z me'.0 ∥₁
 
-  -- what two seats that are one are told when they meet
+  -- a step moved no slot, and what was seen of values goes on
+  pub record Stays (me me' : Me (Option T) (Beside T)) : Type 0 where
+    pub held : me'.1 ≡ me.1
+    pub hand : me'.0.hand ≡ me.0.hand
+    pub between : List (Deed T)
+    pub deeds : me'.0.deeds ≡ me.0.deeds ++ between
+
+  -- what a step tells that adds nothing
+  abbrev pub TellsQuiet : Bool → Layout → (SeatView → ℕ → SeatView → Type 0) → Me (Option T) (Beside T) → ℕ → Me (Option T) (Beside T) → Type 0
+  TellsQuiet carries z fact me n me' = (me'.0.plain ≡ seated (knows me'.0.plain)) × fact (knows me.0.plain) n (knows me'.0.plain) × Stays me me' × ∥ KnowsNow carries z me'.0 ∥₁
+
+  -- what two seats that are one are told when they meet: what each then knows of values is so
   abbrev pub MeetsBeside : Bool → Layout → Me (Option T) (Beside T) → Me (Option T) (Beside T) → Type 0
-  MeetsBeside carries z me me' = Met z (knows me.0.plain) (knows_second me.0.plain) (plain_me me') × (me'.1 ≡ me.1) × (me'.0.hand ≡ me.0.hand) × KnowsNow carries z me'.0 × GrowsBy carries me.0 me'.0
+  MeetsBeside carries z me me' = Met z (knows me.0.plain) (knows_second me.0.plain) (plain_me me') × (me'.1 ≡ me.1) × (me'.0.hand ≡ me.0.hand) × ∥ KnowsNow carries z (first_beside_of me'.0) ∥₁ × ∥ KnowsNow carries z (second_beside_of me'.0) ∥₁ × GrowsBy carries me.0 me'.0
+
+  -- a view that goes on, but with this slot out with its seat
+  abbrev pub with_hand : Beside T → maybe.Option ℕ → Beside T
+  with_hand w h = record { plain = w.plain; deeds = w.deeds; hand = h; others = w.others }
 
   -- a new token gathers, and has taken in none
   abbrev pub OpensBeside : Me (Option T) (Beside T) → Type 0
@@ -192,3 +206,7 @@ module _ {T : Type 0} where
   -- no slot is out with a seat
   abbrev pub HasNone : Me (Option T) (Beside T) → Type 0
   HasNone me = (length me.1 ≡ 0) × (slots_in me.0.hand ≡ 0)
+
+-- the rule of a table, by its plan
+abbrev pub HoldsBy : {T : Type 0} → Layout → State (Option T) (Beside T) → Type 0
+HoldsBy z s = HoldsFor z.carries z s

@@ -1,26 +1,54 @@
 -- The end of a ring: what its seats bring with them.
-use Rattle.std.specs.Prelude.{◌≡◌, ◌≤◌, ℕ, List, [], vec_capacity}
+use Rattle.std.specs.Prelude.{◌≡◌, ◌≤◌, false, IsTrue, List, [], length, map, Option, vec_capacity}
+use Rattle.std.specs.List.{All}
+use mathlib.Core.List.{IsPrefix}
 use Rattle.std.specs.Global.{Vec}
 use Rattle.atomic_table.specs.Seated.{TableId}
 use Rattle.atomic_table.specs.declared.shared.Seat.{Seat as Token}
-use Rattle.history.specs.declared.operations.Taken.{Taken}
+use Rattle.history.specs.declared.rests.Rest.{Rest}
+use Rattle.history.specs.Rests.{left_of, was_shut_of}
+use Rattle.history.specs.Closing.{Closes}
+use Rattle.node_arena.specs.Beside.{AllBegin}
+use Rattle.node_arena.specs.Deeds.{Deed, Runs, Matches}
+use Rattle.node_arena.specs.Lying.{values_of, all_lie}
 use Rattle.ring_queue.specs.declared.queue.RingQueue.{RingQueue}
 use Rattle.ring_queue.specs.declared.seats.Seat.{Seat}
-use Rattle.ring_queue.specs.declared.views.Knowing.{Knowing}
-use Rattle.ring_queue.specs.Seeing.{SeatView, gathered, seated}
-use Rattle.ring_queue.specs.Seats.{view}
+use Rattle.ring_queue.specs.Beside.{Beside, HasNone}
+use Rattle.ring_queue.specs.Seeing.{gathered, seated}
+use Rattle.ring_queue.specs.Seats.{deeds_of, known_of, view}
+use Rattle.ring_queue.specs.Queues.{permits_in}
 
--- a seat's token is one of a table, and knows what its seat knows
-pub record HasToken (t : TableId) (s : Seat) : Type 0 where
+-- a seat's token is one of a table, and knows what its seat knows; no slot is out with it
+pub record HasToken {T : Type 0} (t : TableId) (s : Seat T) : Type 0 where
   pub table : s.token.table_id ≡ t
-  pub seat : s.token.me ≡ (seated (view s), [])
+  pub seat : s.token.me.0.plain ≡ seated (view s)
+  pub none_out : HasNone s.token.me
 
--- a token of a table has taken in those of seats that knew this
-pub record HasGathered (t : TableId) (k : Token ℕ Knowing) (vs : List SeatView) : Type 0 where
+-- what each of these seats had seen of the values begins their history
+abbrev pub EachBegins : {T : Type 0} → List (Seat T) → List (Deed T) → Type 0
+EachBegins seats deeds = All (λ s. IsPrefix (deeds_of s) deeds) seats
+
+-- a token of a table has taken in those of these seats: a history that begins with all that it took in begins with what each of
+-- them had seen; no slot is out with it
+pub record HasGathered {T : Type 0} (t : TableId) (k : Token (Option T) (Beside T)) (seats : List (Seat T)) : Type 0 where
   pub table : k.table_id ≡ t
-  pub seat : k.me ≡ (gathered vs, [])
+  pub seat : k.me.0.plain ≡ gathered (map view seats)
+  pub held : k.me.1 ≡ []
+  pub others : (deeds : List (Deed T)) → AllBegin k.me.0.others deeds → EachBegins seats deeds
 
 -- a list is empty and has room for a value of each slot of a ring
-pub record HasRoomFor (q : RingQueue) (room : Vec Taken) : Type 0 where
+pub record HasRoomFor {T A : Type 0} (q : RingQueue T) (room : Vec A) : Type 0 where
   pub empty : room.items ≡ []
   pub enough : q.plan.slots ≤ vec_capacity room
+
+-- a ring that carries values was closed by these seats, with these numbers left, and what lies in each slot: of the numbers that
+-- says what it says of any queue. The history of the values goes one by one with that of the numbers, begins with what each seat had
+-- seen of it, and leads to the values that lie in the slots of the numbers left, of which there are no more than slots
+pub record ClosesValues {T : Type 0} (q : RingQueue T) (seats : List (Seat T)) (rest : Rest) (inside : List (Option T)) : Type 0 where
+  pub closes : Closes (permits_in q) (map known_of seats) rest
+  pub deeds : List (Deed T)
+  pub matches : Matches closes.history deeds
+  pub runs : Runs [] false deeds (values_of inside (left_of rest)) (was_shut_of rest)
+  pub begins : EachBegins seats deeds
+  pub few : length (left_of rest) ≤ q.plan.slots
+  pub lie : IsTrue (all_lie inside (left_of rest))

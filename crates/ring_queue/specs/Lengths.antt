@@ -82,11 +82,11 @@ pub record LeavesPushes (z : Layout) (k : Known) (left : ℕ) (k' : Known) : Typ
   pub exact : shut ≡ false → left ≡ pushes_left z now
 
 -- the places up to a seat's head are those of the first lap and of all pops that it has seen
-abbrev pub HeadCounts : Layout → Seat → Type 0
+abbrev pub HeadCounts : {T : Type 0} → Layout → Seat T → Type 0
 HeadCounts z t = t.head ≡ z.slots + count_by is_pop (view t).seen
 
 -- a place that wasn't filled was still at Head when that was read
-pub record StaysLate (z : Layout) (s t : Seat) : Type 0 where
+pub record StaysLate {T : Type 0} (z : Layout) (s t : Seat T) : Type 0 where
   pub now : List Entry
   pub more : WasMeanwhile (known_of s) now (known_of t)
   pub late : WasLate z now s.head
@@ -94,13 +94,13 @@ pub record StaysLate (z : Layout) (s t : Seat) : Type 0 where
   pub counts : HeadCounts z t
 
 -- what the place at a seat's head says, where it has found a word there and reads Head: the mark, a value, or that Head was raised
-abbrev pub FrontSays : Layout → (s t : Seat) → Emptiness → Type 0
+abbrev pub FrontSays : {T : Type 0} → Layout → (s t : Seat T) → Emptiness → Type 0
 FrontSays z s t ShutEmpty = SeesMore (known_of s) (known_of t) × Leads (view t).seen true []
 FrontSays z s t Holds = SeesMore (known_of s) (known_of t) × LeadsToSome (view t).seen
 FrontSays z s t Moved = SeesMore (known_of s) (known_of t) × (s.head < t.head) × HeadCounts z t
 FrontSays z s t _ = ⊥
 
 -- what it says of a ring that is shut, beside that it isn't filled
-abbrev pub ShutSays : Layout → (s t : Seat) → Emptiness → Type 0
+abbrev pub ShutSays : {T : Type 0} → Layout → (s t : Seat T) → Emptiness → Type 0
 ShutSays z s t Unfilled = StaysLate z s t
 ShutSays z s t e = FrontSays z s t e

@@ -20,3 +20,4 @@ pub mod Laid
 pub mod Queues
 pub mod OneProof
 pub mod Beside
+pub mod Hands

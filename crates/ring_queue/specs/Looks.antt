@@ -12,24 +12,24 @@ use Rattle.ring_queue.specs.Steps.{IsFull, IsWorn, IsAhead}
 use Rattle.ring_queue.specs.Seats.{known_of, view}
 
 -- what a look at Tail says
-abbrev pub TailSays : Layout → (s t : Seat) → TailLook → Type 0
+abbrev pub TailSays : {T : Type 0} → Layout → (s t : Seat T) → TailLook → Type 0
 TailSays z s t Shut = FoundShut (known_of s) (known_of t)
 TailSays z s t Worn = SeesMore (known_of s) (known_of t) × IsWorn z (view t).seen
 TailSays z s t Room = SeesMore (known_of s) (known_of t) × (t.credits ≡ z.credits)
 TailSays z s t (Full n) = SeesMore (known_of s) (known_of t) × ((view t).stage ≡ saw n) × (t.head + z.most ≤ n) × (t.head ≡ s.head)
 
 -- what a look at Head says to a push that read so many places in Tail: the queue is full, or Head was raised
-abbrev pub HeadSays : Layout → (s t : Seat) → (full : Bool) → Type 0
+abbrev pub HeadSays : {T : Type 0} → Layout → (s t : Seat T) → (full : Bool) → Type 0
 HeadSays z s t true = SeesMore (known_of s) (known_of t) × IsFull z (view t).seen
 HeadSays z s t false = SeesMore (known_of s) (known_of t) × (s.head < t.head)
 
 -- what a look at Head says to a pop that found the mark
-abbrev pub MarkSays : (s t : Seat) → (closed : Bool) → Type 0
+abbrev pub MarkSays : {T : Type 0} (s t : Seat T) → (closed : Bool) → Type 0
 MarkSays s t true = FoundShutEmpty (known_of s) (known_of t)
 MarkSays s t false = SeesMore (known_of s) (known_of t) × (s.head < t.head)
 
 -- what a look at Tail says to a pop that found its place not filled
-abbrev pub EndSays : Layout → (s t : Seat) → EndLook → Type 0
+abbrev pub EndSays : {T : Type 0} → Layout → (s t : Seat T) → EndLook → Type 0
 EndSays z s t Empty = FoundEmpty (known_of s) (known_of t)
 EndSays z s t Closed = FoundShutEmpty (known_of s) (known_of t)
 EndSays z s t Ahead = SeesMore (known_of s) (known_of t) × IsAhead z (view t).seen s.head × (t.head ≡ s.head)

@@ -1,5 +1,5 @@
 -- What a new ring is, and why it is refused.
-use Rattle.std.specs.Prelude.{◌≡◌, ◌⊎◌, ℕ, ◌+◌, ◌*◌, ◌^◌, ◌<◌, ◌≤◌, List, [], length, Some, slice_get, slice_index_or}
+use Rattle.std.specs.Prelude.{◌≡◌, ◌⊎◌, ℕ, ◌+◌, ◌*◌, ◌^◌, ◌<◌, ◌≤◌, Bool, false, List, [], length, Option, Some, slice_get, slice_index_or}
 use Rattle.atomic_table.specs.Seated.{TableId}
 use Rattle.atomic_table.specs.declared.shared.Seat.{Seat as Token}
 use Rattle.history.specs.declared.refusals.Refusal.{Refusal}
@@ -7,33 +7,37 @@ use Rattle.history.specs.declared.refusals.Refusal.TheVariants.{Memory, BadSize}
 use Rattle.ring_queue.specs.declared.roles.Role.{Role}
 use Rattle.ring_queue.specs.declared.queue.RingQueue.{RingQueue}
 use Rattle.ring_queue.specs.declared.seats.Seat.{Seat}
-use Rattle.ring_queue.specs.declared.views.Knowing.{Knowing}
+use Rattle.ring_queue.specs.Beside.{Beside}
 use Rattle.ring_queue.specs.Words.{slot_word}
 use Rattle.ring_queue.specs.Plans.{Layout}
 use Rattle.ring_queue.specs.Seeing.{keeper, new_seat}
-use Rattle.ring_queue.specs.Seats.{IsReady, view}
+use Rattle.ring_queue.specs.Seats.{IsReady, HasNoSlot, deeds_of, view}
 use Rattle.ring_queue.specs.Queues.{IsQueueSeat}
 
--- the words at the start
-pub record AreFirst (slots : ℕ) (words : List ℕ) : Type 0 where
-  pub wide : length words ≡ 32 + 2 * slots
+-- the words at the start, with so many flags behind those of the queue
+pub record AreFirst (slots flags : ℕ) (words : List ℕ) : Type 0 where
+  pub wide : length words ≡ 32 + 2 * slots + flags
   pub tail : slice_index_or words 0 0 ≡ slots
   pub head : slice_index_or words 16 0 ≡ slots
   pub blank : (i : ℕ) → i < slots → slice_index_or words (slot_word i) 0 ≡ 0
+  pub down : (i : ℕ) → slice_index_or words (32 + 2 * slots + i) 0 ≡ 0
 
 -- the ring's own token, which deals this number next
-pub record IsKeeper (z : Layout) (t : TableId) (k : Token ℕ Knowing) (n : ℕ) : Type 0 where
+pub record IsKeeper {T : Type 0} (z : Layout) (t : TableId) (k : Token (Option T) (Beside T)) (n : ℕ) : Type 0 where
   pub table : k.table_id ≡ t
-  pub seat : k.me ≡ (keeper z.slots n, [])
+  pub seat : k.me.0.plain ≡ keeper z.slots n
+  pub held : k.me.1 ≡ []
 
--- a seat that was just dealt: it is in no call, and knows nothing
-pub record IsDealt (z : Layout) (t : TableId) (n : ℕ) (s : Seat) : Type 0 where
+-- a seat that was just dealt: it is in no call, and knows nothing, of values neither; no slot is out with it
+pub record IsDealt {T : Type 0} (z : Layout) (t : TableId) (n : ℕ) (s : Seat T) : Type 0 where
   pub ready : IsReady z t s
   pub view : view s ≡ new_seat z.slots n
+  pub none_done : deeds_of s ≡ []
+  pub none_out : HasNoSlot s
 
 -- seats that were just dealt, numbered from 1
-abbrev pub AreDealt : Layout → TableId → List Seat → Type 0
-AreDealt z t seats = (k : ℕ) (s : Seat) → slice_get seats k ≡ Some s → IsDealt z t (k + 1) s
+abbrev pub AreDealt : {T : Type 0} → Layout → TableId → List (Seat T) → Type 0
+AreDealt z t seats = (k : ℕ) (s : Seat _) → slice_get seats k ≡ Some s → IsDealt z t (k + 1) s
 
 -- the least power of two that is no less than a number
 pub record IsLeastPower (least n : ℕ) : Type 0 where
@@ -43,7 +47,7 @@ pub record IsLeastPower (least n : ℕ) : Type 0 where
   pub close : n < 2 * least
 
 -- a new seat of a ring: it may begin a call, and knows nothing
-pub record IsNewSeat (q : RingQueue) (n : ℕ) (s : Seat) : Type 0 where
+pub record IsNewSeat {T : Type 0} (q : RingQueue T) (n : ℕ) (s : Seat T) : Type 0 where
   pub ready : IsQueueSeat q s
   pub view : view s ≡ new_seat q.plan.slots n
 
@@ -52,14 +56,26 @@ abbrev pub HasSlots : (most credits : ℕ) → List Role → (slots : ℕ) → T
 HasSlots most credits roles slots = IsLeastPower (most + credits * length roles) slots
 
 -- a new ring of these sizes, with a new seat for each role, numbered from 1
-pub record IsMade (most credits limit : ℕ) (roles : List Role) (q : RingQueue) (seats : List Seat) : Type 0 where
+pub record IsMade {T : Type 0} (most credits limit : ℕ) (roles : List Role) (q : RingQueue T) (seats : List (Seat T)) : Type 0 where
   pub full_at : q.plan.most ≡ most
   pub reserves : q.plan.credits ≡ credits
   pub goes_to : q.plan.limit ≡ limit
   pub deals : q.plan.roles ≡ roles
+  pub numbers : q.plan.carries ≡ false
   pub slots : HasSlots most credits roles q.plan.slots
   pub count : length seats ≡ length roles
-  pub each : (k : ℕ) (s : Seat) → slice_get seats k ≡ Some s → IsNewSeat q (k + 1) s
+  pub each : (k : ℕ) (s : Seat T) → slice_get seats k ≡ Some s → IsNewSeat q (k + 1) s
+
+-- a new ring of these sizes, which carries values or doesn't, with a new seat for each role, numbered from 1
+pub record IsMadeFor {T : Type 0} (carries : Bool) (most credits limit : ℕ) (roles : List Role) (q : RingQueue T) (seats : List (Seat T)) : Type 0 where
+  pub full_at : q.plan.most ≡ most
+  pub reserves : q.plan.credits ≡ credits
+  pub goes_to : q.plan.limit ≡ limit
+  pub deals : q.plan.roles ≡ roles
+  pub values : q.plan.carries ≡ carries
+  pub slots : HasSlots most credits roles q.plan.slots
+  pub count : length seats ≡ length roles
+  pub each : AreDealt q.plan q.table.shared.table_id seats
 
 -- the sizes of a ring are in their ranges
 pub record IsSized (most credits limit : ℕ) (roles : List Role) : Type 0 where

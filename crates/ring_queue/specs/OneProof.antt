@@ -14,7 +14,7 @@ use Rattle.ring_queue.specs.declared.seats.Seat.{Seat}
 use Rattle.ring_queue.specs.Plans.{Layout}
 use Rattle.ring_queue.specs.Seeing.{Stage, rests, saw, claimed, found, SeatView, View}
 use Rattle.ring_queue.specs.Steps.{Rests}
-use Rattle.ring_queue.specs.Seats.{Sits}
+use Rattle.ring_queue.specs.Seats.{Sits, IsReady}
 use Rattle.ring_queue.specs.Queues.{IsQueueSeat}
 
 Role-set : IsSet Role
@@ -38,9 +38,13 @@ Rests-prop (saw t) = hlevel props
 Rests-prop (claimed p xs) = hlevel props
 Rests-prop (found ws) = hlevel props
 
-Sits-prop : (z : Layout) (t : TableId) (s : Seat) → IsProp (Sits z t s)
+Sits-prop : {T : Type 0} (z : Layout) (t : TableId) (s : Seat T) → IsProp (Sits z t s)
 Sits-prop z t s = hlevel (props, TableId-set, View-set, Role-set, IsSound-prop)
 
+-- a seat of a table is in no call
+pub IsReady-prop : {T : Type 0} (z : Layout) (t : TableId) (s : Seat T) → IsProp (IsReady z t s)
+IsReady-prop z t s = hlevel (props, Sits-prop, Rests-prop)
+
 -- a seat is a ring's, in no call
-pub IsQueueSeat-prop : (q : RingQueue) (s : Seat) → IsProp (IsQueueSeat q s)
+pub IsQueueSeat-prop : {T : Type 0} (q : RingQueue T) (s : Seat T) → IsProp (IsQueueSeat q s)
 IsQueueSeat-prop q s = hlevel (props, Sits-prop, Rests-prop)

@@ -1,5 +1,5 @@
 -- What a ring is made for.
-use Rattle.std.specs.Prelude.{◌≡◌, ℕ, ◌+◌, ◌*◌, ◌^◌, ◌<◌, ◌≤◌, Bool, true, false, List, length, map}
+use Rattle.std.specs.Prelude.{◌≡◌, ℕ, ◌+◌, ◌*◌, ◌^◌, ◌<◌, ◌≤◌, if◌then◌else◌, Bool, true, false, List, length, map}
 use Rattle.atomic_table.specs.Seated.{TableId}
 use Rattle.history.specs.Seats.{Permit}
 use Rattle.ring_queue.specs.declared.roles.Role.{Role}
@@ -26,13 +26,15 @@ abbrev pub permits_by : List Role → List Permit
 permits_by roles = map permit_of roles
 
 -- the plan of a ring: how many slots it has, how many values make it full, how many places a seat may have in reserve, up to
--- which place it goes, and the role of each seat, from number 1 on
+-- which place it goes, the role of each seat, from number 1 on, and whether it carries values: each number pushed is then that of
+-- the slot in which its value lies
 pub record Layout : Type 0 where
   pub slots : ℕ
   pub most : ℕ
   pub credits : ℕ
   pub limit : ℕ
   pub roles : List Role
+  pub carries : Bool
 
 -- what each seat may do
 abbrev pub permits_of : Layout → List Permit
@@ -50,11 +52,20 @@ pub record IsPlanned (z : Layout) : Type 0 where
   pub room : z.most + reserve z ≤ z.slots
   pub from : z.slots ≤ z.limit
   pub limited : z.limit < 2 ^ 62
+  pub seated : 1 ≤ length z.roles
   pub few : length z.roles < 2 ^ 15
+
+-- the words of the queue, which lie first in the table, before a flag for each slot
+abbrev pub words_of : Layout → ℕ
+words_of z = 32 + 2 * z.slots
+
+-- how many slots its table has: one for each of a ring's, where values are carried
+abbrev pub slots_of : Layout → ℕ
+slots_of z = if z.carries then z.slots else 0
 
 -- a table, made about a plan, is laid out for it
 pub record IsTable (z about : Layout) (t : TableId) : Type 0 where
   pub planned : IsPlanned z
   pub key : about ≡ z
-  pub words : t.words ≡ 32 + 2 * z.slots
-  pub slots : t.slots ≡ 0
+  pub words : t.words ≡ words_of z + slots_of z
+  pub slots : t.slots ≡ slots_of z

@@ -18,7 +18,7 @@ values_from slots words place (suc k) =
 abbrev pub was_shut_in : List ℕ → Bool
 was_shut_in words = nat_le (2 ^ 62) (slice_index_or words 0 0)
 
--- the words of a table with so many slots, one at least
+-- the words of a table with so many slots, one at least, and flags behind them or not
 pub record HasWords (slots : ℕ) (words : List ℕ) : Type 0 where
   pub some : 1 ≤ slots
-  pub wide : length words ≡ 32 + 2 * slots
+  pub wide : 32 + 2 * slots ≤ length words

@@ -1,29 +1,46 @@
 -- What clauses say of a ring's seats.
-use Rattle.std.specs.Prelude.{◌≡◌, ℕ, ◌-◌, ◌^◌, ◌<◌, ◌≤◌, [], Some, slice_get}
+use Rattle.std.specs.Prelude.{◌≡◌, ℕ, ◌-◌, ◌^◌, ◌<◌, ◌≤◌, false, Some, slice_get, List}
 use Rattle.atomic_table.specs.Seated.{TableId}
 use Rattle.history.specs.Seats.{Known, IsSound}
+use Rattle.ring_queue.specs.declared.roles.Role.{Role}
 use Rattle.ring_queue.specs.declared.seats.Seat.{Seat}
 use Rattle.ring_queue.specs.Plans.{Layout, permits_of}
 use Rattle.ring_queue.specs.Seeing.{SeatView, seated, knows, known_by}
 use Rattle.ring_queue.specs.Steps.{Rests}
+use Rattle.node_arena.specs.Deeds.{Deed}
+use Rattle.ring_queue.specs.Beside.{HasNone, KnowsNow, Stays}
 
 -- what a seat knows
-abbrev pub view : Seat → SeatView
-view s = knows s.token.me.0
+abbrev pub view : {T : Type 0} → Seat T → SeatView
+view s = knows s.token.me.0.plain
 
 -- what a seat knows of its queue
-abbrev pub known_of : Seat → Known
+abbrev pub known_of : {T : Type 0} → Seat T → Known
 known_of s = known_by (view s)
 
 -- how many places a seat has in reserve
-abbrev pub reserve_of : Seat → ℕ
+abbrev pub reserve_of : {T : Type 0} → Seat T → ℕ
 reserve_of s = s.credits
 
+-- what a seat may do
+abbrev pub role_of : {T : Type 0} → Seat T → Role
+role_of s = s.role
+
+-- what a seat has seen of the history of values
+abbrev pub deeds_of : {T : Type 0} → Seat T → List (Deed T)
+deeds_of s = s.token.me.0.deeds
+
+-- no slot is out with a seat
+abbrev pub HasNoSlot : {T : Type 0} → Seat T → Type 0
+HasNoSlot s = HasNone s.token.me
+
 -- a seat of a table: it has its number and its role, stores its head and how many places it has in reserve, and what it knows
--- is sound
-pub record Sits (z : Layout) (t : TableId) (s : Seat) : Type 0 where
+-- is sound, of values too; which values isn't said, so that this has at most one proof. Where no values are carried no slot is
+-- out with it
+pub record Sits {T : Type 0} (z : Layout) (t : TableId) (s : Seat T) : Type 0 where
   pub table : s.token.table_id ≡ t
-  pub seat : s.token.me ≡ (seated (view s), [])
+  pub seat : s.token.me.0.plain ≡ seated (view s)
+  pub none_out : z.carries ≡ false → HasNone s.token.me
   pub number : s.number ≡ (view s).number
   pub from : 1 ≤ s.number
   pub role : slice_get z.roles (s.number - 1) ≡ Some s.role
@@ -31,19 +48,24 @@ pub record Sits (z : Layout) (t : TableId) (s : Seat) : Type 0 where
   pub below : s.head < 2 ^ 62
   pub credits : s.credits ≡ (view s).credits
   pub sound : IsSound (permits_of z) (known_of s)
+  pub valued : ∥ KnowsNow z.carries z s.token.me.0 ∥₁
 
 -- a seat in no call
-pub record IsReady (z : Layout) (t : TableId) (s : Seat) : Type 0 where
+pub record IsReady {T : Type 0} (z : Layout) (t : TableId) (s : Seat T) : Type 0 where
   pub sits : Sits z t s
   pub rests : Rests (view s).stage
 
 -- a seat stays the same one, with as many places in reserve
-pub record KeepsStored (s t : Seat) : Type 0 where
+pub record KeepsStored {T : Type 0} (s t : Seat T) : Type 0 where
   pub number : t.number ≡ s.number
   pub role : t.role ≡ s.role
   pub reserve : reserve_of t ≡ reserve_of s
 
 -- a seat is the same one by its number and its role
-pub record KeepsName (s t : Seat) : Type 0 where
+pub record KeepsName {T : Type 0} (s t : Seat T) : Type 0 where
   pub number : t.number ≡ s.number
   pub role : t.role ≡ s.role
+
+-- no slot moved, and what a seat has seen of values goes on
+abbrev pub KeepsSlots : {T : Type 0} → Seat T → Seat T → Type 0
+KeepsSlots s t = Stays s.token.me t.token.me

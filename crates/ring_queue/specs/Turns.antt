@@ -11,11 +11,11 @@ use Rattle.ring_queue.specs.Seats.{known_of, view}
 
 -- so many turns failed of a seat that had seen so much and whose head was there: in each Head was raised, or at some step since
 -- then a place from there on had been claimed
-abbrev pub HaveFailed : Layout → (old : List Entry) → (from turns : ℕ) → Seat → Type 0
+abbrev pub HaveFailed : {T : Type 0} → Layout → (old : List Entry) → (from turns : ℕ) → Seat T → Type 0
 HaveFailed z old from turns t = (from ≤ t.head) × ((from + turns ≤ t.head) ⊎ WasAhead z old (view t).seen from)
 
 -- what a turn of a pop says
-abbrev pub TurnSays : Layout → (s t : Seat) → Turn → Type 0
+abbrev pub TurnSays : {T : Type 0} → Layout → (s t : Seat T) → Turn → Type 0
 TurnSays z s t (Took value) = Popped (known_of s) value (known_of t)
 TurnSays z s t Empty = FoundEmpty (known_of s) (known_of t)
 TurnSays z s t Closed = FoundShutEmpty (known_of s) (known_of t)

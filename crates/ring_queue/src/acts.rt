@@ -1,13 +1,16 @@
 //! The lines that write.
-ghost use Rattle.std.specs.Prelude.{◌≡◌, ℕ, ◌+◌, ◌%◌, ◌^◌, ◌<◌, ◌≤◌, List, [], ◌∷◌, length, Option, OnOk, IfErr, MatchOption};
+ghost use Rattle.std.specs.Prelude.{◌≡◌, ℕ, ◌+◌, ◌%◌, ◌^◌, ◌<◌, ◌≤◌, List, [], ◌∷◌, length, Option, OnOk, IfErr, MatchOption, true, false};
 ghost use Rattle.history.specs.declared.operations.Taken.{Taken as TheTaken};
 ghost use Rattle.history.specs.Seats.{MayPush, MayPop};
 ghost use Rattle.history.specs.Answers.{Pushed, Popped, DidShut, FoundShut, SeesMore};
 ghost use Rattle.ring_queue.specs.Words as words;
 ghost use Rattle.ring_queue.specs.Plans.{permits_of};
+ghost use Rattle.ring_queue.specs.Queues.{IsRingSeat, permits_in};
 ghost use Rattle.ring_queue.specs.Seeing.{claimed, found, standing};
-ghost use Rattle.ring_queue.specs.Steps.{taken_in, next_stage, content, contents, PushedAll, AreSmall, AreValues, PlacesClaimed, FrontsTaken};
-ghost use Rattle.ring_queue.specs.Seats.{Sits, IsReady, KeepsName, known_of, reserve_of, view};
+ghost use Rattle.ring_queue.specs.Beside.{IsReadyBy, Moves};
+ghost use Rattle.ring_queue.specs.Hands.{GivesSlot, PopMoves};
+ghost use Rattle.ring_queue.specs.Steps.{pops, pushes, taken_in, next_stage, content, contents, PushedAll, AreSmall, AreValues, PlacesClaimed, FrontsTaken};
+ghost use Rattle.ring_queue.specs.Seats.{Sits, IsReady, KeepsName, KeepsSlots, known_of, reserve_of, view};
 
 use crate::places::{HEAD, SHUT, SLOTS, TAIL};
 use crate::queue::RingQueue;
@@ -51,14 +54,15 @@ fn read_all(bodies: &[Body])
     }
 }
 
-impl RingQueue {
+impl<T> RingQueue<T> {
     /// A push fills the first of the places that it claimed.
-    fn fill(&self, seat: &mut Seat, place: u64, payload: u64)
+    fn fill(&self, seat: &mut Seat<T>, place: u64, payload: u64)
         requires sits { Sits self.now.plan self.now.table.shared.table_id seat.old }
         requires claimed { (x : Option TheTaken) × (xs : List (Option TheTaken))
             × ((view seat.old).stage ≡ claimed place (x ∷ xs)) × (payload ≡ words.payload x) }
         requires small { payload < 2 ^ 63 }
         ensures seat { Sits self.now.plan self.now.table.shared.table_id seat.new }
+        ensures slots { KeepsSlots seat.old seat.new }
         ensures name { KeepsName seat.old seat.new }
         ensures reserve { reserve_of seat.new ≡ reserve_of seat.old }
         ensures stage { (view seat.new).stage ≡ next_stage (view seat.old).stage }
@@ -73,17 +77,21 @@ impl RingQueue {
 
     /// A push claims the next places, one for each of these bodies, which are so many: the word of Tail as it was. What it will
     /// push is for the caller's pick alone.
-    fn claim(&self, seat: &mut Seat, bodies: &[Body], count: u64) -> u64
+    fn claim(&self, seat: &mut Seat<T>, bodies: &[Body], count: u64) -> u64
         ghost pushed: { List ℕ }
         requires ready { IsReady self.now.plan self.now.table.shared.table_id seat.old }
         requires role { MayPush (permits_of self.now.plan) (known_of seat.old).number }
         requires reserve { length bodies.now ≤ seat.old.credits }
         requires count { count ≡ length bodies.now }
         requires bodies { (pushed ≡ bodies.now) × (1 ≤ length pushed) × AreSmall pushed }
+        requires loaded { IsReadyBy self.now.plan.carries self.now.plan.slots
+            (view seat.old).number (pushes (view seat.old).number pushed) seat.old.token.me }
         ensures seat { Sits self.now.plan self.now.table.shared.table_id seat.new }
         ensures name { KeepsName seat.old seat.new }
         ensures reserve { seat.new.credits + length bodies.now ≡ seat.old.credits }
         ensures told { PlacesClaimed self.now.plan pushed (view seat.old) result (view seat.new) }
+        ensures moves { Moves self.now.plan.carries (pushes (view seat.old).number pushed)
+            seat.old.token.me seat.new.token.me }
     {
         let _ = bodies;
         let tail = self
@@ -95,15 +103,19 @@ impl RingQueue {
     }
 
     /// A push that has a place in reserve claims the next one, and fills it.
-    pub(crate) fn put(&self, seat: &mut Seat, body: Body) -> Result<(), Refusal>
+    pub(crate) fn put(&self, seat: &mut Seat<T>, body: Body) -> Result<(), Refusal>
         requires ready { IsReady self.now.plan self.now.table.shared.table_id seat.old }
         requires role { MayPush (permits_of self.now.plan) (known_of seat.old).number }
         requires reserve { 1 ≤ seat.old.credits }
+        requires loaded { IsReadyBy self.now.plan.carries self.now.plan.slots (view seat.old).number
+            (pushes (view seat.old).number (body ∷ [])) seat.old.token.me }
         ensures seat { IsReady self.now.plan self.now.table.shared.table_id seat.new }
         ensures name { KeepsName seat.old seat.new }
         ensures pushed { OnOk result (Pushed (known_of seat.old) body (known_of seat.new)) }
         ensures shut { IfErr result
             (λ refusal. (refusal ≡ Refusal.Closed) × FoundShut (known_of seat.old) (known_of seat.new)) }
+        ensures gives { OnOk result (GivesSlot self.now.plan body seat.old seat.new) }
+        ensures kept { IfErr result (λ _. KeepsSlots seat.old seat.new) }
     {
         let number = body.number();
         let tail = self.claim(seat, &[body], 1);
@@ -118,7 +130,7 @@ impl RingQueue {
     }
 
     // Fills the places that a push claimed from one on for these bodies; with marks behind the shut.
-    fn fill_all(&self, seat: &mut Seat, place: u64, bodies: &[Body], shut: bool)
+    fn fill_all(&self, seat: &mut Seat<T>, place: u64, bodies: &[Body], shut: bool)
         requires sits { Sits self.now.plan self.now.table.shared.table_id seat.old }
         requires claimed { (view seat.old).stage
             ≡ standing place (contents shut (known_of seat.old).number bodies.now) }
@@ -135,11 +147,13 @@ impl RingQueue {
     }
 
     /// A push that has a place in reserve for each of these bodies, one at least, claims as many at one step, and fills them.
-    pub(crate) fn put_all(&self, seat: &mut Seat, bodies: &[Body]) -> Result<(), Refusal>
+    pub(crate) fn put_all(&self, seat: &mut Seat<T>, bodies: &[Body]) -> Result<(), Refusal>
         requires ready { IsReady self.now.plan self.now.table.shared.table_id seat.old }
         requires role { MayPush (permits_of self.now.plan) (known_of seat.old).number }
         requires reserve { length bodies.now ≤ seat.old.credits }
         requires some { 1 ≤ length bodies.now }
+        requires loaded { IsReadyBy self.now.plan.carries self.now.plan.slots (view seat.old).number
+            (pushes (view seat.old).number bodies.now) seat.old.token.me }
         ensures seat { IsReady self.now.plan self.now.table.shared.table_id seat.new }
         ensures name { KeepsName seat.old seat.new }
         ensures reserve { seat.new.credits + length bodies.now ≡ seat.old.credits }
@@ -160,16 +174,19 @@ impl RingQueue {
 
     /// A pop that found these words, so many, at its places raises Head: the word of Head as it was. What it found is for the
     /// caller's pick alone.
-    pub(crate) fn raise_head(&self, seat: &mut Seat, words: &[u64], count: u64) -> u64
+    pub(crate) fn raise_head(&self, seat: &mut Seat<T>, words: &[u64], count: u64) -> u64
         ghost taken: { List ℕ }
         requires ready { IsReady self.now.plan self.now.table.shared.table_id seat.old }
         requires role { MayPop (permits_of self.now.plan) (known_of seat.old).number }
         requires found { (view seat.old).stage ≡ found taken }
         requires words { (taken ≡ words.now) × (1 ≤ length taken) × AreValues taken }
         requires count { (count ≡ length words.now) × (count ≤ 2 ^ 32) }
+        requires one { self.now.plan.carries ≡ true → length taken ≡ 1 }
         ensures seat { IsReady self.now.plan self.now.table.shared.table_id seat.new }
         ensures name { KeepsName seat.old seat.new }
         ensures told { FrontsTaken self.now.plan taken (view seat.old) result (view seat.new) }
+        ensures moves { Moves self.now.plan.carries (pops (view seat.old).number taken)
+            seat.old.token.me seat.new.token.me }
     {
         let _ = words;
         let head = seat.head;
@@ -182,7 +199,7 @@ impl RingQueue {
     }
 
     /// A pop that found this word at its place takes its value; none where another took it.
-    pub(crate) fn take_front(&self, seat: &mut Seat, word: u64) -> Option<Taken>
+    pub(crate) fn take_front(&self, seat: &mut Seat<T>, word: u64) -> Option<Taken>
         requires ready { IsReady self.now.plan self.now.table.shared.table_id seat.old }
         requires role { MayPop (permits_of self.now.plan) (known_of seat.old).number }
         requires found { (view seat.old).stage ≡ found (word ∷ []) }
@@ -192,6 +209,7 @@ impl RingQueue {
         ensures taken { MatchOption result
             (SeesMore (known_of seat.old) (known_of seat.new) × (seat.old.head < seat.new.head))
             (λ value. Popped (known_of seat.old) value (known_of seat.new)) }
+        ensures moves { PopMoves self.now.plan seat.old seat.new result }
     {
         let head = seat.head;
         if self.raise_head(seat, &[word], 1) == head {
@@ -201,11 +219,15 @@ impl RingQueue {
         }
     }
 
-    /// Sets the bit of the shut: whether it wasn't set.
-    pub(crate) fn set_shut(&self, seat: &mut Seat) -> Result<(), Refusal>
-        requires ready { IsReady self.now.plan self.now.table.shared.table_id seat.old }
-        requires role { MayPush (permits_of self.now.plan) (known_of seat.old).number }
-        ensures seat { IsReady self.now.plan self.now.table.shared.table_id seat.new }
+    /// Sets the bit of the shut: whether it wasn't set. It moves no slot.
+    ///
+    /// Refusals: those of `try_shut`. Takes no memory and doesn't wait.
+    pub fn set_shut(&self, seat: &mut Seat<T>) -> Result<(), Refusal>
+        requires ready { IsRingSeat self.now seat.old }
+        requires role { MayPush (permits_in self.now) (known_of seat.old).number }
+        ensures seat { IsRingSeat self.now seat.new }
+        //= ring/shut_slots: A shut moves no slot.
+        ensures slots { KeepsSlots seat.old seat.new }
         ensures name { KeepsName seat.old seat.new }
         ensures shut { OnOk result (DidShut (known_of seat.old) (known_of seat.new)) }
         ensures was { IfErr result

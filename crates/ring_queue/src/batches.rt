@@ -1,5 +1,5 @@
 //! The pop of many values at one step.
-ghost use Rattle.std.specs.Prelude.{◌≡◌, ◌+◌, ◌≤◌, [], ◌∷◌, length, take, get_or, vec_len, vec_capacity, IfOk, IfErr};
+ghost use Rattle.std.specs.Prelude.{◌≡◌, ◌+◌, ◌≤◌, [], ◌∷◌, length, take, get_or, vec_len, vec_capacity, IfOk, IfErr, false};
 ghost use Rattle.history.specs.Seats.{MayPop};
 ghost use Rattle.history.specs.Answers.{PopRefused as RefusedPop, StopsPop};
 ghost use Rattle.ring_queue.specs.Plans.{permits_of};
@@ -32,10 +32,10 @@ pub(crate) enum Batch {
 /// How many values a pop of many takes at the most.
 pub const MOST_AT_ONCE: usize = 32;
 
-impl RingQueue {
+impl<T> RingQueue<T> {
     // A pop that found these words at its places takes their values, and puts them into a list that has room for them; whether no
     // other had raised Head.
-    fn take_fronts(&self, seat: &mut Seat, words: &[u64], into: &mut Vec<Taken>) -> bool
+    fn take_fronts(&self, seat: &mut Seat<T>, words: &[u64], into: &mut Vec<Taken>) -> bool
         requires ready { IsReady self.now.plan self.now.table.shared.table_id seat.old }
         requires role { MayPop (permits_of self.now.plan) (known_of seat.old).number }
         requires found { (view seat.old).stage ≡ found words.now }
@@ -43,6 +43,7 @@ impl RingQueue {
         requires some { 1 ≤ length words.now }
         requires few { length words.now ≤ 32 }
         requires room { vec_len into.old + length words.now ≤ vec_capacity into.old }
+        requires numbers { self.now.plan.carries ≡ false }
         ensures seat { IsReady self.now.plan self.now.table.shared.table_id seat.new }
         ensures name { KeepsName seat.old seat.new }
         ensures taken { TakenAll seat.old seat.new into.old into.new words.now result }
@@ -58,7 +59,7 @@ impl RingQueue {
     }
 
     // A pop that found the first of these words at its place reads the next ones, up to so many in all: how many have values.
-    fn look_on(&self, seat: &mut Seat, words: &mut [u64; MOST_AT_ONCE], limit: usize) -> usize
+    fn look_on(&self, seat: &mut Seat<T>, words: &mut [u64; MOST_AT_ONCE], limit: usize) -> usize
         requires ready { IsReady self.now.plan self.now.table.shared.table_id seat.old }
         requires found { (view seat.old).stage ≡ found (take 1 words.old) }
         requires value { AreValues (take 1 words.old) }
@@ -79,11 +80,12 @@ impl RingQueue {
     }
 
     // One turn of a pop of many: no more than `most`, for which the list has room.
-    fn batch_turn(&self, seat: &mut Seat, most: usize, into: &mut Vec<Taken>) -> Batch
+    fn batch_turn(&self, seat: &mut Seat<T>, most: usize, into: &mut Vec<Taken>) -> Batch
         requires ready { IsReady self.now.plan self.now.table.shared.table_id seat.old }
         requires role { MayPop (permits_of self.now.plan) (known_of seat.old).number }
         requires most { 1 ≤ most }
         requires room { vec_len into.old + most ≤ vec_capacity into.old }
+        requires numbers { self.now.plan.carries ≡ false }
         ensures seat { IsReady self.now.plan self.now.table.shared.table_id seat.new }
         ensures name { KeepsName seat.old seat.new }
         ensures says { BatchSays self.now.plan seat.old seat.new most into.old into.new result }
@@ -127,7 +129,7 @@ impl RingQueue {
     /// ```
     pub fn try_pop_up_to(
         &self,
-        seat: &mut Seat,
+        seat: &mut Seat<T>,
         most: usize,
         into: &mut Vec<Taken>,
         turns: u32,

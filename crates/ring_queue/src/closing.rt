@@ -1,24 +1,24 @@
 //! The end of a ring.
-ghost use Rattle.std.specs.Prelude.{◌≡◌, ◌<◌, [], length, map, IfOk, IfErr};
+ghost use Rattle.std.specs.Prelude.{◌≡◌, ◌<◌, [], true, length, map, IfOk, IfErr};
 ghost use Rattle.std.specs.List.{All};
 ghost use Rattle.history.specs.Closing.{Closes};
-ghost use Rattle.ring_queue.specs.Closing.{HasToken, HasGathered, HasRoomFor};
-ghost use Rattle.ring_queue.specs.Queues.{IsQueueSeat, permits_in};
-ghost use Rattle.ring_queue.specs.Seats.{known_of, view};
+ghost use Rattle.ring_queue.specs.Closing.{HasToken, HasGathered, HasRoomFor, ClosesValues};
+ghost use Rattle.ring_queue.specs.Queues.{IsQueueSeat, IsRingSeat, permits_in};
+ghost use Rattle.ring_queue.specs.Seats.{HasNoSlot, known_of};
 
 use crate::queue::RingQueue;
-use crate::remains::rest_of;
+use crate::remains::{rest_of, take_all};
 use crate::seats::Seat;
 use crate::views::{Gather, Open, SeatToken, WordTable};
 use history::{Close, Refusal, Rest, Taken};
 use std::alloc::Global;
 
 // The token takes in those of the seats.
-fn gather(table: &WordTable, gatherer: &mut SeatToken, seats: Vec<Seat>)
+fn gather<T>(table: &WordTable<T>, gatherer: &mut SeatToken<T>, seats: Vec<Seat<T>>)
     requires words { 0 < table.now.shared.table_id.words }
     requires gatherer { HasGathered table.now.shared.table_id gatherer.old [] }
     requires seats { All (HasToken table.now.shared.table_id) seats.items }
-    ensures { HasGathered table.now.shared.table_id gatherer.new (map view seats.items) }
+    ensures { HasGathered table.now.shared.table_id gatherer.new seats.items }
 {
     for seat in seats {
         let Seat {
@@ -27,6 +27,7 @@ fn gather(table: &WordTable, gatherer: &mut SeatToken, seats: Vec<Seat>)
             role: _,
             head: _,
             credits: _,
+            near: _,
         } = seat;
         let shared = &table.shared;
         shared.join_seat::<Gather>(gatherer, token);
@@ -34,14 +35,6 @@ fn gather(table: &WordTable, gatherer: &mut SeatToken, seats: Vec<Seat>)
 }
 
 impl RingQueue {
-    /// How many seats the ring was made with. Takes no memory and doesn't wait.
-    pub fn seat_count(&self) -> usize
-        //= ring/seat_count: A ring tells how many seats it was made with.
-        ensures { result ≡ length (permits_in self.now) }
-    {
-        self.sizes().roles.len()
-    }
-
     // Memory for the values left, of which there are no more than slots. Or Memory.
     fn end_room(&self, alloc: Global) -> Result<Vec<Taken>, Refusal>
         ensures room { IfOk result (HasRoomFor self.now) }
@@ -68,6 +61,69 @@ impl RingQueue {
         let rest = rest_of(&closed, plan.slots, room);
         closed.free();
         rest
+    }
+}
+
+impl<T> RingQueue<T> {
+    /// How many seats the ring was made with. Takes no memory and doesn't wait.
+    pub fn seat_count(&self) -> usize
+        //= ring/seat_count: A ring tells how many seats it was made with.
+        ensures { result ≡ length (permits_in self.now) }
+    {
+        self.sizes().roles.len()
+    }
+
+    /// Memory for the numbers left in a ring that carries values, and for what lies in its slots.
+    ///
+    /// Refused by `Memory` alone. Takes that memory, and doesn't wait.
+    pub fn rooms(&self, alloc: Global) -> Result<(Vec<Taken>, Vec<Option<T>>), Refusal>
+        //= ring/rooms (numbers, slots, only_memory): Room for the rest of a ring that carries values is room for a number of
+        //=   each slot, and for what lies in each. Or Memory.
+        ensures numbers { IfOk result (λ r. HasRoomFor self.now r.0) }
+        ensures slots { IfOk result (λ r. HasRoomFor self.now r.1) }
+        ensures only_memory { IfErr result (λ refusal. refusal ≡ Refusal.Memory) }
+    {
+        let slots = self.sizes().slots as usize;
+        let Ok(numbers) = Vec::with_capacity(alloc, slots) else {
+            return Err(Refusal::Memory);
+        };
+        let Ok(inside) = Vec::with_capacity(alloc, slots) else {
+            return Err(Refusal::Memory);
+        };
+        Ok((numbers, inside))
+    }
+
+    /// Ends a ring that carries values with all its seats, each in no call and without a slot: the numbers left, each that of the
+    /// slot in which its value lies, and all that `close_with` tells; and what lies in each slot, in order.
+    ///
+    /// Takes no memory and doesn't wait.
+    pub fn close_values(
+        self,
+        numbers: Vec<Taken>,
+        slots: Vec<Option<T>>,
+        seats: Vec<Seat<T>>,
+    ) -> (Rest, Vec<Option<T>>)
+        requires numbers { HasRoomFor self numbers }
+        requires slots { HasRoomFor self slots }
+        requires seats { All (IsRingSeat self) seats.items }
+        requires apart { All HasNoSlot seats.items }
+        requires carries { self.plan.carries ≡ true }
+        requires all { length seats.items ≡ length (permits_in self) }
+        //= ring/values_left: The values left in a closed ring that carries them lie in the slots that the numbers left name, and
+        //=   are those to which the history of its values leads, in order, each of the seat that pushed it; no more than slots.
+        //=   That history begins with what each seat had seen of it, and goes one by one with that of the numbers, of which it
+        //=   tells what it does of any queue.
+        ensures { ClosesValues self seats.items result.0 result.1.items }
+    {
+        let RingQueue { table, plan } = self;
+        let shared = &table.shared;
+        let mut token = shared.load_new_seat::<Open>(0).1;
+        gather(&table, &mut token, seats);
+        let mut closed = table.close_with(token);
+        let slots = take_all(&mut closed, slots);
+        let rest = rest_of(&closed, plan.slots, numbers);
+        closed.free();
+        (rest, slots)
     }
 }
 

@@ -1,5 +1,5 @@
 //! Seats are split off the ring's own token.
-ghost use Rattle.std.specs.Prelude.{◌≡◌, ◌+◌, ◌-◌, ◌≤◌, IfOk, Some, length, slice_get};
+ghost use Rattle.std.specs.Prelude.{◌≡◌, ◌+◌, ◌-◌, ◌≤◌, [], Some, length, slice_get, vec_capacity};
 ghost use Rattle.ring_queue.specs.Plans.{IsTable};
 ghost use Rattle.ring_queue.specs.Making.{IsKeeper, IsDealt, AreDealt};
 
@@ -7,10 +7,18 @@ use crate::plans::Plan;
 use crate::roles::Role;
 use crate::seats::Seat;
 use crate::views::{Deal, SeatToken, WordTable};
-use std::alloc::{AllocError, Global};
+
+// How many slots apart the seats begin to look for one.
+const APART: u64 = 64;
 
 // The seat of a number.
-fn deal(table: &WordTable, keeper: &mut SeatToken, plan: &Plan, number: u16, role: Role) -> Seat
+fn deal<T>(
+    table: &WordTable<T>,
+    keeper: &mut SeatToken<T>,
+    plan: &Plan,
+    number: u16,
+    role: Role,
+) -> Seat<T>
     requires table { IsTable plan.now table.now.shared.key table.now.shared.table_id }
     requires keeper { IsKeeper plan.now table.now.shared.table_id keeper.old number }
     requires number { 1 ≤ number }
@@ -25,26 +33,28 @@ fn deal(table: &WordTable, keeper: &mut SeatToken, plan: &Plan, number: u16, rol
         role,
         head: plan.slots,
         credits: 0,
+        near: u64::from(number) * APART,
     }
 }
 
-/// A seat for each role, numbered from 1.
-pub(crate) fn deal_all(
-    alloc: Global,
-    table: &WordTable,
-    keeper: &mut SeatToken,
+/// A seat for each role, numbered from 1, put into an empty list that has room for them.
+pub(crate) fn deal_all<T>(
+    table: &WordTable<T>,
+    keeper: &mut SeatToken<T>,
     plan: &Plan,
-) -> Result<Vec<Seat>, AllocError>
+    mut seats: Vec<Seat<T>>,
+) -> Vec<Seat<T>>
     requires table { IsTable plan.now table.now.shared.key table.now.shared.table_id }
     requires keeper { IsKeeper plan.now table.now.shared.table_id keeper.old 1 }
-    ensures count { IfOk result (λ v. length v.items ≡ length plan.now.roles) }
-    ensures seats { IfOk result (λ v. AreDealt plan.now table.now.shared.table_id v.items) }
+    requires room { length plan.now.roles ≤ vec_capacity seats }
+    requires empty { seats.items ≡ [] }
+    ensures count { length result.items ≡ length plan.now.roles }
+    ensures seats { AreDealt plan.now table.now.shared.table_id result.items }
 {
     let count = plan.roles.len();
-    let mut seats = Vec::with_capacity(alloc, count)?;
     for i in 0..count {
         let seat = deal(table, keeper, plan, i as u16 + 1, plan.roles[i]);
-        seats.push(seat)?;
+        seats.push(seat).unwrap();
     }
-    Ok(seats)
+    seats
 }

@@ -34,7 +34,7 @@ impl Fifo for RingQueue {
 
     ghost shut_cause = { shut_causes };
 
-    ghost sound = { λ q s h. h.sits.sound };
+    ghost sound = { λ q s h. h.ready.sits.sound };
 
     ghost closed_alike = { λ _ _ _ _ cause. cause };
 

@@ -42,9 +42,9 @@ fn spare(tail: u64, reserve: u64) -> u64
     if tail < SHUT { 0 } else { reserve }
 }
 
-impl RingQueue {
+impl<T> RingQueue<T> {
     // A seat that found this word at its place reads Head.
-    fn look_behind(&self, seat: &mut Seat, word: u64) -> Emptiness
+    fn look_behind(&self, seat: &mut Seat<T>, word: u64) -> Emptiness
         requires ready { IsReady self.now.plan self.now.table.shared.table_id seat.old }
         requires found { (view seat.old).stage ≡ found (word ∷ []) }
         ensures seat { IsReady self.now.plan self.now.table.shared.table_id seat.new }
@@ -64,7 +64,7 @@ impl RingQueue {
     }
 
     // Whether a ring that is shut is empty, where a place was claimed.
-    fn shut_emptiness(&self, seat: &mut Seat) -> Emptiness
+    fn shut_emptiness(&self, seat: &mut Seat<T>) -> Emptiness
         requires { IsReady self.now.plan self.now.table.shared.table_id seat.old }
         ensures seat { IsReady self.now.plan self.now.table.shared.table_id seat.new }
         ensures stored { KeepsStored seat.old seat.new }
@@ -95,7 +95,7 @@ impl RingQueue {
     ///     Emptiness::Moved | Emptiness::Unfilled => backoff.snooze(),
     /// }
     /// ```
-    pub fn emptiness(&self, seat: &mut Seat) -> Emptiness
+    pub fn emptiness(&self, seat: &mut Seat<T>) -> Emptiness
         requires { IsQueueSeat self.now seat.old }
         ensures seat { IsQueueSeat self.now seat.new }
         ensures stored { KeepsStored seat.old seat.new }
@@ -134,7 +134,7 @@ impl RingQueue {
     ///     start_another_worker();
     /// }
     /// ```
-    pub fn len(&self, seat: &mut Seat) -> Len
+    pub fn len(&self, seat: &mut Seat<T>) -> Len
         requires { IsQueueSeat self.now seat.old }
         ensures seat { IsQueueSeat self.now seat.new }
         ensures stored { KeepsStored seat.old seat.new }
@@ -164,7 +164,7 @@ impl RingQueue {
     ///     make_another_queue();
     /// }
     /// ```
-    pub fn left(&self, seat: &mut Seat) -> u64
+    pub fn left(&self, seat: &mut Seat<T>) -> u64
         requires { IsQueueSeat self.now seat.old }
         ensures seat { IsQueueSeat self.now seat.new }
         ensures stored { KeepsStored seat.old seat.new }

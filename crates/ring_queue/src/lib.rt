@@ -19,6 +19,7 @@ mod queue;
 mod remains;
 mod roles;
 mod seats;
+mod slots;
 mod views;
 
 pub use batches::MOST_AT_ONCE;
@@ -27,3 +28,4 @@ pub use making::MOST_SEATS;
 pub use queue::RingQueue;
 pub use roles::Role;
 pub use seats::Seat;
+pub use slots::Got;

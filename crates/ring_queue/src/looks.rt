@@ -4,7 +4,7 @@ ghost use Rattle.history.specs.Answers.{SeesMore};
 ghost use Rattle.ring_queue.specs.Seeing.{saw, found};
 ghost use Rattle.ring_queue.specs.Steps.{HoldsSoMany, WasLate};
 ghost use Rattle.ring_queue.specs.Lengths.{HeadCounts};
-ghost use Rattle.ring_queue.specs.Seats.{IsReady, KeepsName, known_of, reserve_of, view};
+ghost use Rattle.ring_queue.specs.Seats.{IsReady, KeepsName, KeepsSlots, known_of, reserve_of, view};
 ghost use Rattle.ring_queue.specs.Looks.{NextSays, TailSays, HeadSays, MarkSays, EndSays};
 
 use crate::acts::PARITY;
@@ -35,11 +35,12 @@ pub(crate) enum EndLook {
     Ahead,
 }
 
-impl RingQueue {
+impl<T> RingQueue<T> {
     /// A push reads Tail.
-    pub(crate) fn look_at_tail(&self, seat: &mut Seat) -> TailLook
+    pub(crate) fn look_at_tail(&self, seat: &mut Seat<T>) -> TailLook
         requires { IsReady self.now.plan self.now.table.shared.table_id seat.old }
         ensures seat { IsReady self.now.plan self.now.table.shared.table_id seat.new }
+        ensures slots { KeepsSlots seat.old seat.new }
         ensures name { KeepsName seat.old seat.new }
         ensures says { TailSays self.now.plan seat.old seat.new result }
     {
@@ -59,11 +60,12 @@ impl RingQueue {
     }
 
     /// A push that read so many places in Tail reads Head: whether the queue is full.
-    pub(crate) fn finds_full(&self, seat: &mut Seat, tail: u64) -> bool
+    pub(crate) fn finds_full(&self, seat: &mut Seat<T>, tail: u64) -> bool
         requires ready { IsReady self.now.plan self.now.table.shared.table_id seat.old }
         requires saw { (view seat.old).stage ≡ saw tail }
         requires behind { seat.old.head + self.now.plan.most ≤ tail }
         ensures seat { IsReady self.now.plan self.now.table.shared.table_id seat.new }
+        ensures slots { KeepsSlots seat.old seat.new }
         ensures name { KeepsName seat.old seat.new }
         ensures says { HeadSays self.now.plan seat.old seat.new result }
     {
@@ -74,7 +76,7 @@ impl RingQueue {
     }
 
     /// A seat that looks how many values there are reads Tail.
-    pub(crate) fn see_tail(&self, seat: &mut Seat) -> u64
+    pub(crate) fn see_tail(&self, seat: &mut Seat<T>) -> u64
         requires { IsReady self.now.plan self.now.table.shared.table_id seat.old }
         ensures seat { IsReady self.now.plan self.now.table.shared.table_id seat.new }
         ensures name { KeepsName seat.old seat.new }
@@ -87,9 +89,10 @@ impl RingQueue {
     }
 
     /// A seat reads Head.
-    pub(crate) fn look_at_head(&self, seat: &mut Seat)
+    pub(crate) fn look_at_head(&self, seat: &mut Seat<T>)
         requires { IsReady self.now.plan self.now.table.shared.table_id seat.old }
         ensures seat { IsReady self.now.plan self.now.table.shared.table_id seat.new }
+        ensures slots { KeepsSlots seat.old seat.new }
         ensures name { KeepsName seat.old seat.new }
         ensures sees { SeesMore (known_of seat.old) (known_of seat.new) }
         ensures more { seat.old.head ≤ seat.new.head }
@@ -100,11 +103,12 @@ impl RingQueue {
     }
 
     /// A pop that found the mark at its place reads Head: whether the queue is shut and empty.
-    pub(crate) fn finds_closed(&self, seat: &mut Seat, word: u64) -> bool
+    pub(crate) fn finds_closed(&self, seat: &mut Seat<T>, word: u64) -> bool
         requires ready { IsReady self.now.plan self.now.table.shared.table_id seat.old }
         requires found { (view seat.old).stage ≡ found (word ∷ []) }
         requires mark { word % 2 ^ 63 ≡ 0 }
         ensures seat { IsReady self.now.plan self.now.table.shared.table_id seat.new }
+        ensures slots { KeepsSlots seat.old seat.new }
         ensures name { KeepsName seat.old seat.new }
         ensures says { MarkSays seat.old seat.new result }
     {
@@ -115,9 +119,10 @@ impl RingQueue {
     }
 
     /// A pop reads the word at its place, if this is filled.
-    pub(crate) fn look_at_front(&self, seat: &mut Seat) -> Option<u64>
+    pub(crate) fn look_at_front(&self, seat: &mut Seat<T>) -> Option<u64>
         requires { IsReady self.now.plan self.now.table.shared.table_id seat.old }
         ensures seat { IsReady self.now.plan self.now.table.shared.table_id seat.new }
+        ensures slots { KeepsSlots seat.old seat.new }
         ensures name { KeepsName seat.old seat.new }
         ensures sees { SeesMore (known_of seat.old) (known_of seat.new) }
         ensures head { seat.new.head ≡ seat.old.head }
@@ -138,7 +143,7 @@ impl RingQueue {
     }
 
     /// A pop that found these words, so many, at its places reads the next one, if this has a value.
-    pub(crate) fn look_next(&self, seat: &mut Seat, words: &[u64], count: u64) -> Option<u64>
+    pub(crate) fn look_next(&self, seat: &mut Seat<T>, words: &[u64], count: u64) -> Option<u64>
         ghost before: { List ℕ }
         requires ready { IsReady self.now.plan self.now.table.shared.table_id seat.old }
         requires found { (view seat.old).stage ≡ found before }
@@ -166,9 +171,10 @@ impl RingQueue {
     }
 
     /// A pop that found its place not filled reads Tail.
-    pub(crate) fn look_at_end(&self, seat: &mut Seat) -> EndLook
+    pub(crate) fn look_at_end(&self, seat: &mut Seat<T>) -> EndLook
         requires { IsReady self.now.plan self.now.table.shared.table_id seat.old }
         ensures seat { IsReady self.now.plan self.now.table.shared.table_id seat.new }
+        ensures slots { KeepsSlots seat.old seat.new }
         ensures name { KeepsName seat.old seat.new }
         ensures says { EndSays self.now.plan seat.old seat.new result }
     {

@@ -18,7 +18,7 @@ pub(crate) const SLOTS: usize = 32;
 /// The bit of Tail that says that the queue is shut.
 pub(crate) const SHUT: u64 = 1 << 62;
 
-impl RingQueue {
+impl<T> RingQueue<T> {
     /// What it was made for.
     #[inline(always)]
     pub(crate) fn sizes(&self) -> &Plan

@@ -3,7 +3,7 @@ use crate::roles::Role;
 use std::marker::Model;
 
 /// How many slots a ring has, how many values make it full, how many places a seat may have in reserve, up to which place it
-/// goes, and the role of each seat.
+/// goes, the role of each seat, and whether it carries values.
 #[derive(Drop)]
 pub struct Plan {
     pub(crate) slots: u64,
@@ -11,6 +11,7 @@ pub struct Plan {
     pub(crate) credits: u64,
     pub(crate) limit: u64,
     pub(crate) roles: Vec<Role>,
+    pub(crate) carries: bool,
 }
 
 impl Model for Plan {
@@ -18,5 +19,5 @@ impl Model for Plan {
 
     ghost Value = { Layout };
 
-    ghost view = { λ p. record { slots = p.slots; most = p.most; credits = p.credits; limit = p.limit; roles = p.roles.items } };
+    ghost view = { λ p. record { slots = p.slots; most = p.most; credits = p.credits; limit = p.limit; roles = p.roles.items; carries = p.carries } };
 }

@@ -3,9 +3,11 @@ ghost use Rattle.std.specs.Prelude.{[], ◌∷◌, ◌≡◌, ◌≤◌, IfOk, I
 ghost use Rattle.history.specs.Seats.{MayPop};
 ghost use Rattle.history.specs.Answers.{PopAnswers, PopRefused as RefusedPop, SeesMore, StopsPop};
 ghost use Rattle.ring_queue.specs.Plans.{permits_of};
-ghost use Rattle.ring_queue.specs.Seats.{IsReady, KeepsName, known_of, view};
+ghost use Rattle.ring_queue.specs.Seats.{IsReady, KeepsName, KeepsSlots, known_of, view};
 ghost use Rattle.ring_queue.specs.Seeing.{found};
+ghost use Rattle.ring_queue.specs.Queues.{IsRingSeat, permits_in};
 ghost use Rattle.ring_queue.specs.Causes.{PopRefused};
+ghost use Rattle.ring_queue.specs.Hands.{PopMoves, TurnMoves};
 ghost use Rattle.ring_queue.specs.Turns.{TurnSays};
 
 use crate::looks::EndLook;
@@ -32,13 +34,14 @@ const PAYLOAD: u64 = (1 << 63) - 1;
 // How often a pop pauses before it looks again at a place that isn't filled.
 const PAUSES: u32 = 64;
 
-impl RingQueue {
+impl<T> RingQueue<T> {
     /// A turn of a pop that found its place not filled.
-    fn turn_at_end(&self, seat: &mut Seat) -> Turn
+    fn turn_at_end(&self, seat: &mut Seat<T>) -> Turn
         requires { IsReady self.now.plan self.now.table.shared.table_id seat.old }
         ensures seat { IsReady self.now.plan self.now.table.shared.table_id seat.new }
         ensures name { KeepsName seat.old seat.new }
         ensures says { TurnSays self.now.plan seat.old seat.new result }
+        ensures moves { TurnMoves self.now.plan seat.old seat.new result }
     {
         match self.look_at_end(seat) {
             EndLook::Empty => Turn::Empty,
@@ -52,9 +55,10 @@ impl RingQueue {
 
     /// A pop reads the word at its place, and where this isn't filled once more after a pause: without it a pop chases the
     /// push that fills its place.
-    pub(crate) fn look_twice_at_front(&self, seat: &mut Seat) -> Option<u64>
+    pub(crate) fn look_twice_at_front(&self, seat: &mut Seat<T>) -> Option<u64>
         requires { IsReady self.now.plan self.now.table.shared.table_id seat.old }
         ensures seat { IsReady self.now.plan self.now.table.shared.table_id seat.new }
+        ensures slots { KeepsSlots seat.old seat.new }
         ensures name { KeepsName seat.old seat.new }
         ensures sees { SeesMore (known_of seat.old) (known_of seat.new) }
         ensures head { seat.new.head ≡ seat.old.head }
@@ -70,12 +74,13 @@ impl RingQueue {
     }
 
     /// One turn of a pop.
-    fn pop_turn(&self, seat: &mut Seat) -> Turn
+    fn pop_turn(&self, seat: &mut Seat<T>) -> Turn
         requires ready { IsReady self.now.plan self.now.table.shared.table_id seat.old }
         requires role { MayPop (permits_of self.now.plan) (known_of seat.old).number }
         ensures seat { IsReady self.now.plan self.now.table.shared.table_id seat.new }
         ensures name { KeepsName seat.old seat.new }
         ensures says { TurnSays self.now.plan seat.old seat.new result }
+        ensures moves { TurnMoves self.now.plan seat.old seat.new result }
     {
         let Some(word) = self.look_twice_at_front(seat) else {
             return self.turn_at_end(seat);
@@ -92,17 +97,25 @@ impl RingQueue {
         }
     }
 
-    /// Takes the value at the front, in so many turns at most.
-    pub(crate) fn pop_in(&self, seat: &mut Seat, turns: u32) -> Result<Option<Taken>, Refusal>
-        requires ready { IsReady self.now.plan self.now.table.shared.table_id seat.old }
-        requires role { MayPop (permits_of self.now.plan) (known_of seat.old).number }
-        ensures seat { IsReady self.now.plan self.now.table.shared.table_id seat.new }
+    /// Takes the value at the front, in so many turns at most. Where the ring carries values, the value popped is the number of the
+    /// slot that comes out with it, with its value in it.
+    ///
+    /// Refusals: those of `try_pop`. Takes no memory and doesn't wait.
+    pub fn pop_in(&self, seat: &mut Seat<T>, turns: u32) -> Result<Option<Taken>, Refusal>
+        requires ready { IsRingSeat self.now seat.old }
+        requires role { MayPop (permits_in self.now) (known_of seat.old).number }
+        ensures seat { IsRingSeat self.now seat.new }
         ensures name { KeepsName seat.old seat.new }
         ensures answer { IfOk result (λ taken. PopAnswers (known_of seat.old) taken (known_of seat.new)) }
         ensures refused { IfErr result
             (λ refusal. RefusedPop (known_of seat.old) refusal (known_of seat.new)) }
         ensures refusal { IfErr result StopsPop }
         ensures caused { IfErr result (PopRefused self.now.plan seat.old seat.new turns) }
+        //= ring/takes (moves, kept): A pop of a ring that carries values takes the slot that its number names, with the value that
+        //=   was pushed there: its pop of that value is the last that its seat has seen, and what this had then seen leads to a
+        //=   queue with that value in front. One that answers none, or is refused, moves no slot.
+        ensures moves { IfOk result (PopMoves self.now.plan seat.old seat.new) }
+        ensures kept { IfErr result (λ _. KeepsSlots seat.old seat.new) }
     {
         for _ in 0..turns {
             match self.pop_turn(seat) {

@@ -1,11 +1,12 @@
 //! The push of a ring.
-ghost use Rattle.std.specs.Prelude.{◌≡◌, ◌≤◌, min, length, take, OnOk, IfOk, IfErr};
+ghost use Rattle.std.specs.Prelude.{◌≡◌, ◌≤◌, min, length, take, OnOk, IfOk, IfErr, false};
 ghost use Rattle.history.specs.Seats.{MayPush};
 ghost use Rattle.history.specs.Answers.{Pushed, FoundShut, PushRefused as RefusedPush, StopsPush};
 ghost use Rattle.ring_queue.specs.Plans.{permits_of};
-ghost use Rattle.ring_queue.specs.Seats.{reserve_of, IsReady, KeepsName, known_of};
+ghost use Rattle.ring_queue.specs.Seats.{reserve_of, IsReady, KeepsName, KeepsSlots, known_of};
+ghost use Rattle.ring_queue.specs.Hands.{GivesSlot, IsLoaded};
 ghost use Rattle.ring_queue.specs.Steps.{PushedAll};
-ghost use Rattle.ring_queue.specs.Queues.{IsQueueSeat, permits_in};
+ghost use Rattle.ring_queue.specs.Queues.{IsQueueSeat, IsRingSeat, permits_in};
 ghost use Rattle.ring_queue.specs.Causes.{PushRefused};
 ghost use Rattle.ring_queue.specs.Many.{reserve_for, Refilled};
 
@@ -14,14 +15,14 @@ use crate::queue::RingQueue;
 use crate::seats::Seat;
 use history::{Body, Refusal, WornWord};
 
-impl RingQueue {
+impl<T> RingQueue<T> {
     /// How many places the seat has in reserve: so many pushes need no look at Tail. Takes no memory and doesn't wait.
     ///
     /// ```rust
     /// // The next push of this seat ends in two steps.
     /// let is_quick = queue.reserve(&giver) > 0;
     /// ```
-    pub fn reserve(&self, seat: &Seat) -> u64
+    pub fn reserve(&self, seat: &Seat<T>) -> u64
         //= ring/reserve: A seat is told how many places it has in reserve.
         ensures { result ≡ reserve_of seat.now }
     {
@@ -30,10 +31,11 @@ impl RingQueue {
     }
 
     // A seat with no place in reserve fills its reserve, in so many turns at most.
-    fn refill(&self, seat: &mut Seat, turns: u32) -> Result<(), Refusal>
+    fn refill(&self, seat: &mut Seat<T>, turns: u32) -> Result<(), Refusal>
         requires ready { IsReady self.now.plan self.now.table.shared.table_id seat.old }
         requires none { reserve_of seat.old ≡ 0 }
         ensures seat { IsReady self.now.plan self.now.table.shared.table_id seat.new }
+        ensures slots { KeepsSlots seat.old seat.new }
         ensures name { KeepsName seat.old seat.new }
         ensures done { OnOk result (Refilled self.now.plan seat.old seat.new) }
         ensures refused { IfErr result
@@ -56,17 +58,25 @@ impl RingQueue {
         Err(Refusal::Busy)
     }
 
-    /// Pushes a body at the back: in two steps where the seat has a place in reserve, else in so many turns at most.
-    pub(crate) fn push_in(&self, seat: &mut Seat, body: Body, turns: u32) -> Result<(), Refusal>
-        requires ready { IsReady self.now.plan self.now.table.shared.table_id seat.old }
-        requires role { MayPush (permits_of self.now.plan) (known_of seat.old).number }
-        ensures seat { IsReady self.now.plan self.now.table.shared.table_id seat.new }
+    /// Pushes a body at the back: in two steps where the seat has a place in reserve, else in so many turns at most. Where the ring
+    /// carries values, the body is the number of the slot that is out with the seat, with a value in it, and the push gives it away.
+    ///
+    /// Refusals: those of `try_push`. Takes no memory and doesn't wait.
+    pub fn push_in(&self, seat: &mut Seat<T>, body: Body, turns: u32) -> Result<(), Refusal>
+        requires ready { IsRingSeat self.now seat.old }
+        requires role { MayPush (permits_in self.now) (known_of seat.old).number }
+        requires loaded { IsLoaded self.now.plan body seat.old }
+        ensures seat { IsRingSeat self.now seat.new }
         ensures name { KeepsName seat.old seat.new }
         ensures pushed { OnOk result (Pushed (known_of seat.old) body (known_of seat.new)) }
         ensures refused { IfErr result
             (λ refusal. RefusedPush (known_of seat.old) refusal (known_of seat.new)) }
         ensures refusal { IfErr result StopsPush }
         ensures caused { IfErr result (PushRefused self.now.plan seat.old seat.new turns) }
+        //= ring/gives (gives, kept): A push of a ring that carries values gives away the slot that it is to push, with the value in
+        //=   it: its push of that value is the last that its seat has seen. One that is refused moves no slot.
+        ensures gives { OnOk result (GivesSlot self.now.plan body seat.old seat.new) }
+        ensures kept { IfErr result (λ _. KeepsSlots seat.old seat.new) }
     {
         if seat.credits > 0 {
             return self.put(seat, body);
@@ -76,11 +86,12 @@ impl RingQueue {
     }
 
     // A seat with places in reserve pushes the first of these bodies, one at least: as many as it has places.
-    fn put_first(&self, seat: &mut Seat, bodies: &[Body]) -> Result<usize, Refusal>
+    fn put_first(&self, seat: &mut Seat<T>, bodies: &[Body]) -> Result<usize, Refusal>
         requires ready { IsReady self.now.plan self.now.table.shared.table_id seat.old }
         requires role { MayPush (permits_of self.now.plan) (known_of seat.old).number }
         requires reserve { 1 ≤ seat.old.credits }
         requires some { 1 ≤ length bodies.now }
+        requires numbers { self.now.plan.carries ≡ false }
         ensures seat { IsReady self.now.plan self.now.table.shared.table_id seat.new }
         ensures name { KeepsName seat.old seat.new }
         ensures count { IfOk result (λ count. count ≡ min (length bodies.now) (reserve_of seat.old)) }
@@ -113,7 +124,7 @@ impl RingQueue {
     /// ```
     pub fn try_push_all(
         &self,
-        seat: &mut Seat,
+        seat: &mut Seat<T>,
         bodies: &[Body],
         turns: u32,
     ) -> Result<usize, Refusal>

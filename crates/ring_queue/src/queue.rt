@@ -7,8 +7,8 @@ use crate::views::WordTable;
 
 /// A bounded queue on a ring of words. Threads share it by reference, each with a seat of its own.
 #[derive(Drop)]
-pub struct RingQueue {
-    pub(crate) table: WordTable,
+pub struct RingQueue<T = ()> {
+    pub(crate) table: WordTable<T>,
     pub(crate) plan: Plan,
     ghost laid: { IsTable plan table.shared.key table.shared.table_id } by { IsTable-prop plan table.shared.key table.shared.table_id },
 }

@@ -1,7 +1,7 @@
 //! What is left in a ring, by the words of its closed table.
-ghost use Rattle.std.specs.Prelude.{◌≡◌, ◌+◌, ◌-◌, ◌*◌, ◌%◌, ◌^◌, ◌<◌, ◌≤◌, [], length, true};
+ghost use Rattle.std.specs.Prelude.{◌≡◌, ℕ, ◌+◌, ◌-◌, ◌*◌, ◌%◌, ◌^◌, ◌<◌, ◌≤◌, [], length, true, false};
 ghost use Rattle.std.specs.Prelude.{slice_index_or, vec_capacity};
-ghost use Rattle.std.specs.Slots.{slots_items, IsFull};
+ghost use Rattle.std.specs.Slots.{slots_items, slots_filled, slots_len, IsFull};
 ghost use Rattle.history.specs.Rests.{left_of, taken_of, whole_of, was_shut_of};
 ghost use Rattle.ring_queue.specs.Remains.{values_from, HasWords, was_shut_in};
 ghost use Rattle.ring_queue.specs.Moments.{head_in, tail_in};
@@ -13,10 +13,10 @@ use history::{Rest, Taken};
 use std::alloc::Global;
 
 /// The table of a ring, once no thread shares it any more.
-pub(crate) type ClosedTable = Closed<u8, Global>;
+pub(crate) type ClosedTable<T = ()> = Closed<Option<T>, Global>;
 
 // The word with an index.
-fn word_at(closed: &ClosedTable, index: usize) -> u64
+fn word_at<T>(closed: &ClosedTable<T>, index: usize) -> u64
     requires full { IsFull closed.now.words }
     requires there { index < length (slots_items closed.now.words) }
     ensures { result ≡ slice_index_or (slots_items closed.now.words) index 0 }
@@ -25,8 +25,8 @@ fn word_at(closed: &ClosedTable, index: usize) -> u64
 }
 
 // The values from a place on, up to the mark or to Tail, put into an empty list that has room for them.
-fn values_left(
-    closed: &ClosedTable,
+fn values_left<T>(
+    closed: &ClosedTable<T>,
     slots: u64,
     head: u64,
     tail: u64,
@@ -50,7 +50,7 @@ fn values_left(
 
 /// What is left in a ring of so many slots in which each place that was claimed is filled, how many values were taken from it,
 /// and whether it was shut. The list is an empty one with room for the values left.
-pub(crate) fn rest_of(closed: &ClosedTable, slots: u64, room: Vec<Taken>) -> Rest
+pub(crate) fn rest_of<T>(closed: &ClosedTable<T>, slots: u64, room: Vec<Taken>) -> Rest
     requires full { IsFull closed.now.words }
     requires words { HasWords slots (slots_items closed.now.words) }
     requires low { slots ≤ head_in (slots_items closed.now.words) }
@@ -68,4 +68,20 @@ pub(crate) fn rest_of(closed: &ClosedTable, slots: u64, room: Vec<Taken>) -> Res
     let head = word_at(closed, HEAD);
     let values = values_left(closed, slots, head, tail % SHUT, room);
     Rest::of(values, head - slots, true, tail >= SHUT)
+}
+
+/// What lay in each slot, in order, put into an empty list that has room for it.
+pub(crate) fn take_all<T>(closed: &mut ClosedTable<T>, mut room: Vec<Option<T>>) -> Vec<Option<T>>
+    requires full { IsFull closed.old.slots }
+    requires room { slots_len closed.old.slots ≤ vec_capacity room }
+    requires empty { room.items ≡ [] }
+    ensures items { result.items ≡ slots_items closed.old.slots }
+    ensures words { closed.new.words ≡ closed.old.words }
+    ensures none { (k : ℕ) → k < slots_len closed.new.slots →
+        slice_index_or (slots_filled closed.new.slots) k false ≡ false }
+{
+    for i in 0..closed.slot_count() {
+        room.push(closed.take(i)).unwrap();
+    }
+    room
 }

@@ -2,92 +2,93 @@
 use crate::plans::Plan;
 use atomic_table::{Join, Play, Seat, Split, Table, TableRule};
 use std::alloc::Global;
-use std::marker::{Brand, Model};
+use std::marker::{Brand, Model, PhantomData};
 
-/// What a seat knows. No value of it is made.
-pub struct Knowing {
-    unused: u8,
+/// What a seat knows, of its queue and of the values that this carries. No value of it is made.
+pub struct Knowing<T> {
+    unused: PhantomData<T>,
 }
 
-impl Model for Knowing {
-    ghost use Rattle.ring_queue.specs.Seeing.{View, spent};
+impl<T> Model for Knowing<T> {
+    ghost use Rattle.ring_queue.specs.Beside.{Beside, knows_nothing};
 
-    ghost Value = { View };
+    ghost Value = { Beside T };
 
-    ghost view = { λ _. spent };
+    ghost view = { λ _. knows_nothing };
 }
 
-/// The rule: words and seats are those of a queue, which a history leads to.
+/// The rule: words and seats are those of a queue, which a history leads to, and where values are carried, each in the queue lies
+/// in its slot.
 pub struct WordRule;
 
-impl TableRule<u8, Knowing, Plan> for WordRule {
-    ghost use Rattle.ring_queue.specs.Rule.{Holds, first_view};
+impl<T> TableRule<Option<T>, Knowing<T>, Plan> for WordRule {
+    ghost use Rattle.ring_queue.specs.Beside.{HoldsBy, first_beside};
 
-    ghost holds = { Holds };
+    ghost holds = { HoldsBy };
 
-    ghost first = { first_view };
+    ghost first = { first_beside };
 }
 
-/// The table of the words.
-pub type WordTable = Table<u8, Knowing, Plan, WordRule, Global>;
+/// The table of the words, and of the slots.
+pub type WordTable<T = ()> = Table<Option<T>, Knowing<T>, Plan, WordRule, Global>;
 
 /// What a seat steps with.
-pub type SeatToken = Seat<u8, Knowing>;
+pub type SeatToken<T = ()> = Seat<Option<T>, Knowing<T>>;
 
 // Each call picks what its step tells.
-impl Play<u8, Knowing> for Brand {
+impl<T> Play<Option<T>, Knowing<T>> for Brand {
     ghost then = { λ _ _ _ _. Unit {0} };
 }
 
 /// The ring's own token deals the next number.
 pub(crate) struct Deal;
 
-impl Split<Knowing> for Deal {
-    ghost use Rattle.ring_queue.specs.Seeing.{dealt_left, dealt_right};
+impl<T> Split<Knowing<T>> for Deal {
+    ghost use Rattle.ring_queue.specs.Beside.{left_dealt, right_dealt};
 
-    ghost left = { dealt_left };
+    ghost left = { left_dealt };
 
-    ghost right = { dealt_right };
+    ghost right = { right_dealt };
 }
 
 /// A spare token, which knows nothing.
 pub(crate) struct Spare;
 
-impl Split<Knowing> for Spare {
-    ghost use Rattle.ring_queue.specs.Seeing.{itself, spent};
+impl<T> Split<Knowing<T>> for Spare {
+    ghost use Rattle.ring_queue.specs.Beside.{left_as_it_is, knows_nothing};
 
-    ghost left = { itself };
+    ghost left = { left_as_it_is };
 
-    ghost right = { λ _. spent };
+    ghost right = { λ _. knows_nothing };
 }
 
 /// A new token, which gathers those of seats that are closed.
 pub(crate) struct Open;
 
-impl Play<u8, Knowing> for Open {
-    ghost use Rattle.ring_queue.specs.Rule.{Opens};
+impl<T> Play<Option<T>, Knowing<T>> for Open {
+    ghost use Rattle.ring_queue.specs.Beside.{OpensBeside};
 
-    ghost then = { λ _ _ _ me. Opens me };
+    ghost then = { λ _ _ _ me. OpensBeside me };
 }
 
 /// Two seats become one, or a token that gathers takes in one of a seat that is closed.
 pub(crate) struct Gather;
 
-impl Join<Knowing> for Gather {
-    ghost use Rattle.ring_queue.specs.Seeing.{both_of, spent};
+impl<T> Join<Knowing<T>> for Gather {
+    ghost use Rattle.ring_queue.specs.Beside.{both_beside, knows_nothing};
 
-    ghost both = { both_of };
+    ghost both = { both_beside };
 
-    ghost spent = { spent };
+    ghost spent = { knows_nothing };
 }
 
 /// Two seats that were one.
 pub(crate) struct Part;
 
-impl Split<Knowing> for Part {
-    ghost use Rattle.ring_queue.specs.Seeing.{first_of, second_of};
+impl<T> Split<Knowing<T>> for Part {
+    ghost use Rattle.ring_queue.specs.Beside.{first_beside_of, second_beside_of};
 
-    ghost left = { first_of };
+    ghost left = { first_beside_of };
 
-    ghost right = { second_of };
+    ghost right = { second_beside_of };
 }

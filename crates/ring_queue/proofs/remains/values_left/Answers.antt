@@ -6,12 +6,12 @@ use Rattle.ring_queue.proofs.Lefts.{one_read, mark_read}
 use Rattle.ring_queue.proofs.remains.values_left.Goals as goal
 
 pub returns-then-word-eq0 : goal.returns-then-word-eq0
-returns-then-word-eq0 c =
+returns-then-word-eq0 g c =
     sym (mark_read c.args.slots (slots_items c.args.closed.now.words) _ c.loop-place.values.items c.loop-place.place c.args.tail c.loop-place.invariant.told c.loop-place-test.true
     (ap (λ w. w % 2 ^ 63) (sym c.word_at-word.ensures) ∙ c.if-word-eq0.true))
 
 pub loop-place-preserved : goal.loop-place-preserved
-loop-place-preserved c =
+loop-place-preserved g c =
     let pushed = rw c.unwrap.ensures at c.push.ensures.items in
     let longer = rw c.unwrap.ensures at c.push.ensures.len in
     let more = c.push.ensures.capacity in

@@ -4,7 +4,7 @@ use Rattle.ring_queue.specs.Remains.{values_from}
 use Rattle.ring_queue.proofs.remains.values_left.Given as goal
 
 abbrev pub invariant-loop-place : goal.invariant-loop-place
-invariant-loop-place l = record {
+invariant-loop-place g l = record {
   told : values_from l.slots (slots_items l.closed.words) l.head (l.tail - l.head) ≡ l.values.items ++ values_from l.slots (slots_items l.closed.words) l.place (l.tail - l.place);
   len : vec_len l.values + l.head ≡ l.place;
   room : l.tail - l.head ≤ vec_capacity l.values;

@@ -9,13 +9,13 @@ use Rattle.ring_queue.proofs.Batching.{popped_after}
 use Rattle.ring_queue.proofs.queue.RingQueue.batch_turn.Goals as goal
 
 pub returns-in-Ahead-clause-says : goal.returns-in-Ahead-clause-says
-returns-in-Ahead-clause-says c =
+returns-in-Ahead-clause-says g c =
     let t = turn_after c.args.self.now.plan c.args.seat.now c.look_twice_at_front.new.seat c.look_at_head.new.seat Failed c.look_twice_at_front.ensures.sees c.look_twice_at_front.ensures.head
     (end_failed c.args.self.now.plan c.look_twice_at_front.new.seat c.look_at_end.new.seat c.look_at_head.new.seat c.in-Ahead.ensures.says c.look_at_head.ensures.sees c.look_at_head.ensures.more) in
     (refl, t.0, t.1)
 
 pub returns-then-take_fronts-clause-says : goal.returns-then-take_fronts-clause-says
-returns-then-take_fronts-clause-says c =
+returns-then-take_fronts-clause-says g c =
     let on = c.look_on-count.ensures.on in
     let taken = c.if-take_fronts.ensures.taken in
     let few = on.few in

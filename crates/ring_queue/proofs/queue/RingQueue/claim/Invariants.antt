@@ -1,5 +1,7 @@
-use Rattle.ring_queue.specs.Steps.{Tells, PlacesClaimed}
+use Rattle.ring_queue.specs.Seeing.{knows}
+use Rattle.ring_queue.specs.Beside.{TellsBeside}
+use Rattle.ring_queue.specs.Steps.{pushes, PlacesClaimed}
 use Rattle.ring_queue.proofs.queue.RingQueue.claim.Given as goal
 
 abbrev pub ghosts-fetch_add : goal.ghosts-fetch_add
-ghosts-fetch_add g a = record { then = λ _. Tells (PlacesClaimed a.self.now.key g.pushed) }
+ghosts-fetch_add g a = record { then = λ _ me. TellsBeside a.self.now.key.carries a.self.now.key (pushes (knows me.0.plain).number g.pushed) (PlacesClaimed a.self.now.key g.pushed) me }

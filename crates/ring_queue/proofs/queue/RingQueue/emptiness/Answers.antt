@@ -4,21 +4,21 @@ use Rattle.ring_queue.proofs.Bounds.{empty_found, shut_empty_found, holds_found,
 use Rattle.ring_queue.proofs.queue.RingQueue.emptiness.Goals as goal
 
 pub returns-then-tail-seat-clause-found : goal.returns-then-tail-seat-clause-found
-returns-then-tail-seat-clause-found c =
+returns-then-tail-seat-clause-found g c =
     let first = c.look_at_head.ensures in
     let tail = c.see_tail-tail.ensures in
     empty_found c.args.self.now.plan (known_of c.args.seat.now) (known_of c.look_at_head.new.seat) (known_of c.see_tail-tail.new.seat) c.see_tail-tail.result c.look_at_head.new.seat.head
     first.sees first.counts tail.sees tail.holds first.seat.sits.below (c.if-tail-seat.true ∙ tail.head)
 
 pub returns-then-tail-seat-2-clause-found : goal.returns-then-tail-seat-2-clause-found
-returns-then-tail-seat-2-clause-found c =
+returns-then-tail-seat-2-clause-found g c =
     let first = c.look_at_head.ensures in
     let tail = c.see_tail-tail.ensures in
     shut_empty_found c.args.self.now.plan (known_of c.args.seat.now) (known_of c.look_at_head.new.seat) (known_of c.see_tail-tail.new.seat) c.see_tail-tail.result c.look_at_head.new.seat.head
     first.sees first.counts tail.sees tail.holds (c.if-tail-seat-2.true ∙ ap (λ h. h + 2 ^ 62) tail.head)
 
 pub returns-then-tail-ge-SHUT-clause-found : goal.returns-then-tail-ge-SHUT-clause-found
-returns-then-tail-ge-SHUT-clause-found c =
+returns-then-tail-ge-SHUT-clause-found g c =
     let first = c.look_at_head.ensures in
     let tail = c.see_tail-tail.ensures in
     shut_found c.args.self.now.plan (known_of c.args.seat.now) (known_of c.look_at_head.new.seat) (known_of c.see_tail-tail.new.seat) c.see_tail-tail.result c.look_at_head.new.seat.head
@@ -26,7 +26,7 @@ returns-then-tail-ge-SHUT-clause-found c =
     (λ e. c.if-tail-seat-2.false (e ∙ ap (λ h. h + 2 ^ 62) (sym tail.head))) c.shut_emptiness.ensures.says
 
 pub returns-clause-found : goal.returns-clause-found
-returns-clause-found c =
+returns-clause-found g c =
     let first = c.look_at_head.ensures in
     let tail = c.see_tail-tail.ensures in
     let last = c.look_at_head-2.ensures in

@@ -1,11 +1,12 @@
 use Rattle.std.proofs.Common.{◌+◌, ◌*◌, ◌^◌, ap, arith}
 use Rattle.ring_queue.specs.Steps.{PlaceFilled}
 use Rattle.ring_queue.specs.Seats.{view}
-use Rattle.ring_queue.proofs.Calls.{asks, fills_there}
+use Rattle.ring_queue.proofs.Calls.{fills_there}
+use Rattle.ring_queue.proofs.Asks.{asks}
 use Rattle.ring_queue.proofs.queue.RingQueue.fill.Goals as goal
 
 pub store-requires : goal.store-requires
-store-requires c =
+store-requires g c =
     let q = c.args.self.now in
     let s = c.args.seat.now in
     let sits = c.requires.sits in

@@ -1,5 +1,6 @@
-use Rattle.ring_queue.specs.Steps.{Tells, PlaceFilled}
+use Rattle.ring_queue.specs.Beside.{TellsQuiet}
+use Rattle.ring_queue.specs.Steps.{PlaceFilled}
 use Rattle.ring_queue.proofs.queue.RingQueue.fill.Given as goal
 
 abbrev pub ghosts-store : goal.ghosts-store
-ghosts-store a = record { then = λ _. Tells (λ v n v'. PlaceFilled v v') }
+ghosts-store g a = record { then = λ _. TellsQuiet a.self.now.key.carries a.self.now.key (λ v n v'. PlaceFilled v v') }

@@ -7,10 +7,10 @@ use Rattle.ring_queue.proofs.Fillings.{fillings_at, number_small}
 use Rattle.ring_queue.proofs.queue.RingQueue.fill_all.Goals as goal
 
 pub payload_of-payload-requires : goal.payload_of-payload-requires
-payload_of-payload-requires c = number_small c.args.self.now.plan c.args.self.now.table.shared.table_id c.loop-i.seat c.args.self.now.laid.planned c.loop-i.invariant.sits
+payload_of-payload-requires g c = number_small c.args.self.now.plan c.args.self.now.table.shared.table_id c.loop-i.seat c.args.self.now.laid.planned c.loop-i.invariant.sits
 
 pub fill-requires-clause-claimed : goal.fill-requires-clause-claimed
-fill-requires-clause-claimed c =
+fill-requires-clause-claimed g c =
     let n = (known_of c.args.seat.now).number in
     let sits = c.loop-i.invariant.sits in
     let its : c.loop-i.seat.number ≡ n = sits.number ∙ ap (λ k. k.number) c.loop-i.invariant.known in (
@@ -21,7 +21,7 @@ fill-requires-clause-claimed c =
     )
 
 pub loop-i-preserved : goal.loop-i-preserved
-loop-i-preserved c =
+loop-i-preserved g c =
     let n = (known_of c.args.seat.now).number in
     let before = c.loop-i.invariant.name in
     let name = c.fill.ensures.name in

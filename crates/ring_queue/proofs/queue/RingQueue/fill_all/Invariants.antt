@@ -5,7 +5,7 @@ use Rattle.ring_queue.specs.Seats.{Sits, KeepsName, known_of, reserve_of, view}
 use Rattle.ring_queue.proofs.queue.RingQueue.fill_all.Given as goal
 
 abbrev pub invariant-loop-i : goal.invariant-loop-i
-invariant-loop-i l = record {
+invariant-loop-i g l = record {
   sits : Sits l.self.plan l.self.table.shared.table_id l.seat;
   name : KeepsName l.fn.seat l.seat;
   reserve : reserve_of l.seat ≡ reserve_of l.fn.seat;

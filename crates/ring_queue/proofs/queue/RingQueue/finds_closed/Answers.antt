@@ -2,11 +2,12 @@ use Rattle.std.proofs.Common.{arith}
 use Rattle.ring_queue.specs.Steps.{MarkFound}
 use Rattle.ring_queue.specs.Seats.{view}
 use Rattle.ring_queue.proofs.Lines.{checks_mark}
-use Rattle.ring_queue.proofs.Calls.{reads, asks}
+use Rattle.ring_queue.proofs.Calls.{reads}
+use Rattle.ring_queue.proofs.Asks.{asks}
 use Rattle.ring_queue.proofs.queue.RingQueue.finds_closed.Goals as goal
 
 pub load-head-requires : goal.load-head-requires
-load-head-requires c =
+load-head-requires g c =
     let q = c.args.self.now in
     let sits = c.requires.ready.sits in
     let words = q.laid.words in

@@ -5,7 +5,7 @@ use Rattle.ring_queue.proofs.Bounds.{left_by_tail}
 use Rattle.ring_queue.proofs.queue.RingQueue.left.Goals as goal
 
 pub returns-clause-left : goal.returns-clause-left
-returns-clause-left c =
+returns-clause-left g c =
     let tail : ℕ = c.see_tail-places.result in
     let z : Layout = c.args.self.now.plan in
     let limit : c.plan.inside.limit ≡ z.limit = search rules in

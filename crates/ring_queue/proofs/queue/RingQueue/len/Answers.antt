@@ -4,7 +4,7 @@ use Rattle.ring_queue.proofs.Bounds.{so_long}
 use Rattle.ring_queue.proofs.queue.RingQueue.len.Goals as goal
 
 pub returns-clause-long : goal.returns-clause-long
-returns-clause-long c =
+returns-clause-long g c =
     let first = c.look_at_head.ensures in
     let tail = c.see_tail-tail.ensures in
     let last = c.look_at_head-2.ensures in

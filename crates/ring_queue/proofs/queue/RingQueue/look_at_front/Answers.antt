@@ -1,11 +1,12 @@
 use Rattle.std.proofs.Common.{◌+◌, ◌*◌, ◌%◌, ap, ◌∙◌, arith}
 use Rattle.ring_queue.specs.Steps.{FrontFound}
 use Rattle.ring_queue.specs.Seats.{view}
-use Rattle.ring_queue.proofs.Calls.{asks, fronts_there}
+use Rattle.ring_queue.proofs.Calls.{fronts_there}
+use Rattle.ring_queue.proofs.Asks.{asks}
 use Rattle.ring_queue.proofs.queue.RingQueue.look_at_front.Goals as goal
 
 pub load-word-requires : goal.load-word-requires
-load-word-requires c =
+load-word-requires g c =
     let q = c.args.self.now in
     let s = c.args.seat.now in
     let sits = c.requires.sits in

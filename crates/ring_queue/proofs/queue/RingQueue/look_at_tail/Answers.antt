@@ -2,11 +2,12 @@ use Rattle.std.proofs.Common.{arith}
 use Rattle.ring_queue.specs.Steps.{TailFound}
 use Rattle.ring_queue.specs.Seats.{view}
 use Rattle.ring_queue.proofs.Lines.{reads_tail}
-use Rattle.ring_queue.proofs.Calls.{reads, asks}
+use Rattle.ring_queue.proofs.Calls.{reads}
+use Rattle.ring_queue.proofs.Asks.{asks}
 use Rattle.ring_queue.proofs.queue.RingQueue.look_at_tail.Goals as goal
 
 pub load-tail-requires : goal.load-tail-requires
-load-tail-requires c =
+load-tail-requires g c =
     let q = c.args.self.now in
     let sits = c.requires.sits in
     let words = q.laid.words in

@@ -1,20 +1,21 @@
 use Rattle.std.proofs.Common.{◌+◌, ◌*◌, ◌%◌, length, ap, ◌∙◌, sym, arith}
 use Rattle.ring_queue.specs.Steps.{NextFound}
 use Rattle.ring_queue.specs.Seats.{view}
-use Rattle.ring_queue.proofs.Calls.{asks, nexts_there}
+use Rattle.ring_queue.proofs.Calls.{nexts_there}
+use Rattle.ring_queue.proofs.Asks.{asks}
 use Rattle.ring_queue.proofs.queue.RingQueue.look_next.Goals as goal
 
 pub load-word-requires : goal.load-word-requires
 load-word-requires g c =
     let q = c.args.self.now in
     let s = c.args.seat.now in
-    let sits = c.requires.0.sits in
+    let sits = c.requires.1.0.sits in
     let words = q.laid.words in
     let slot = c.slot_of-slot.ensures in
     let within = slot.within in
-    let same = c.requires.1.1.0 in
-    let counted = c.requires.1.1.1.0 in
-    let few = c.requires.1.1.1.1 in
+    let same = c.requires.1.1.1.0 in
+    let counted = c.requires.1.1.1.1.0 in
+    let few = c.requires.1.1.1.1.1 in
     asks q.plan q.table.shared.key q.table.shared.table_id s (λ y. NextFound y g.before) q.laid (32 + 2 * c.slot_of-slot.result) (λ n. n) sits (omega (arith, words, within))
-    (nexts_there q.plan (view s) _ g.before c.requires.0.rests c.requires.1.0 (omega (arith, few, counted, ap length same))
+    (nexts_there q.plan (view s) _ g.before c.requires.1.0.rests c.requires.1.1.0 (omega (arith, few, counted, ap length same))
     (ap (λ k. 32 + 2 * k) (slot.value ∙ ap (λ h. h % q.plan.slots) (λ i. sits.head i + (counted ∙ sym (ap length same)) i))))

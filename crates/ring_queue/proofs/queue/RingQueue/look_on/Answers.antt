@@ -6,7 +6,7 @@ use Rattle.ring_queue.proofs.Batching.{take_set, values_more}
 use Rattle.ring_queue.proofs.queue.RingQueue.look_on.Goals as goal
 
 pub loop-count-preserved : goal.loop-count-preserved
-loop-count-preserved c =
+loop-count-preserved g c =
     let inv = c.loop-count.invariant in
     let next = c.in-Some.ensures in
     let before = inv.name in

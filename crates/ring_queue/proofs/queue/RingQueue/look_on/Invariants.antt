@@ -6,10 +6,10 @@ use Rattle.ring_queue.specs.Steps.{AreValues}
 use Rattle.ring_queue.proofs.queue.RingQueue.look_on.Given as goal
 
 abbrev pub ghost-look_next : goal.ghost-look_next
-ghost-look_next a = a.words.now
+ghost-look_next g a = a.words.now
 
 abbrev pub invariant-loop-count : goal.invariant-loop-count
-invariant-loop-count l = record {
+invariant-loop-count g l = record {
   seat : IsReady l.self.plan l.self.table.shared.table_id l.seat;
   name : KeepsName l.fn.seat l.seat;
   sees : SeesMore (known_of l.fn.seat) (known_of l.seat);
@@ -22,4 +22,4 @@ invariant-loop-count l = record {
 }
 
 abbrev pub decreases-loop-count : goal.decreases-loop-count
-decreases-loop-count l = l.limit - l.count
+decreases-loop-count g l = l.limit - l.count

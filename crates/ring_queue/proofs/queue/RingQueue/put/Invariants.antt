@@ -1,4 +1,4 @@
 use Rattle.ring_queue.proofs.queue.RingQueue.put.Given as goal
 
 abbrev pub ghost-claim : goal.ghost-claim
-ghost-claim a = a.bodies.now
+ghost-claim g a = a.bodies.now

@@ -3,17 +3,20 @@ use prog.Atomic.{either}
 use Rattle.ring_queue.specs.Steps.{pops, FrontsTaken}
 use Rattle.ring_queue.specs.Seats.{view}
 use Rattle.ring_queue.proofs.Takes.{takes_words}
-use Rattle.ring_queue.proofs.Calls.{Does, asks}
+use Rattle.ring_queue.proofs.Calls.{Does}
+use Rattle.ring_queue.proofs.Asks.{asks_all}
+use Rattle.ring_queue.proofs.Moved.{ready_pop}
 use Rattle.ring_queue.proofs.queue.RingQueue.raise_head.Goals as goal
 
 pub compare_exchange-was-requires : goal.compare_exchange-was-requires
 compare_exchange-was-requires g c =
     let q = c.args.self.now in
     let s = c.args.seat.now in
-    let sits = c.requires.0.sits in
+    let sits = c.requires.1.0.sits in
     let words = q.laid.words in
-    let has = c.requires.1.1.1.0 in
-    let same : length g.taken ≡ c.args.count = ap length has.0 ∙ sym c.requires.1.1.1.1.0 in
+    let has = c.requires.1.1.1.1.0 in
+    let same : length g.taken ≡ c.args.count = ap length has.0 ∙ sym c.requires.1.1.1.1.1.0.0 in
     let Raises : ℕ × ℕ → Type 0 = λ y. Does q.plan 16 (view s) (λ n. either (nat_eq n y.0) (y.0 + y.1) n) (pops (view s).number g.taken) (FrontsTaken q.plan g.taken) in
-    asks q.plan q.table.shared.key q.table.shared.table_id s (λ y. FrontsTaken y g.taken) q.laid 16 (λ n. either (nat_eq n s.head) (s.head + c.args.count) n) sits (omega (arith, words))
-    (subst Raises (λ i. (sym sits.head i, same i)) (λ ws seats r is. takes_words q.plan ws seats r (view s) is g.taken has.1 c.requires.1.1.0 has.2 (λ value. c.requires.1.0)))
+    asks_all q.plan q.table.shared.key q.table.shared.table_id s (λ y. FrontsTaken y g.taken) q.laid 16 (λ n. either (nat_eq n s.head) (s.head + c.args.count) n) sits (omega (arith, words))
+    (subst Raises (λ i. (sym sits.head i, same i)) (λ ws seats r is. takes_words q.plan ws seats r (view s) is g.taken has.1 c.requires.1.1.1.0 has.2 (λ value. c.requires.1.1.0)))
+    (ready_pop q.plan.carries q.plan.slots (view s).number g.taken s.token.me c.requires.1.1.1.1.1.1)

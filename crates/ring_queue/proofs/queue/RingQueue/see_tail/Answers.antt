@@ -2,11 +2,12 @@ use Rattle.std.proofs.Common.{arith}
 use Rattle.ring_queue.specs.Steps.{TailSeen}
 use Rattle.ring_queue.specs.Seats.{view}
 use Rattle.ring_queue.proofs.Lines.{sees_tail}
-use Rattle.ring_queue.proofs.Calls.{reads, asks}
+use Rattle.ring_queue.proofs.Calls.{reads}
+use Rattle.ring_queue.proofs.Asks.{asks}
 use Rattle.ring_queue.proofs.queue.RingQueue.see_tail.Goals as goal
 
 pub load-requires : goal.load-requires
-load-requires c =
+load-requires g c =
     let q = c.args.self.now in
     let sits = c.requires.sits in
     let words = q.laid.words in

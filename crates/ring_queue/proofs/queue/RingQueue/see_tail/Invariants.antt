@@ -1,5 +1,6 @@
-use Rattle.ring_queue.specs.Steps.{Tells, TailSeen}
+use Rattle.ring_queue.specs.Beside.{TellsQuiet}
+use Rattle.ring_queue.specs.Steps.{TailSeen}
 use Rattle.ring_queue.proofs.queue.RingQueue.see_tail.Given as goal
 
 abbrev pub ghosts-load : goal.ghosts-load
-ghosts-load a = record { then = λ _. Tells (TailSeen a.self.now.key) }
+ghosts-load g a = record { then = λ _. TellsQuiet a.self.now.key.carries a.self.now.key (TailSeen a.self.now.key) }

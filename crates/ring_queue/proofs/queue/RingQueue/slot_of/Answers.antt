@@ -6,5 +6,5 @@ use Rattle.ring_queue.proofs.Bits.{mask_of}
 use Rattle.ring_queue.proofs.queue.RingQueue.slot_of.Goals as goal
 
 pub returns-clause-value : goal.returns-clause-value
-returns-clause-value c =
-    ap (λ (q : RingQueue). bit_and c.args.place (q.plan.slots - 1)) c.self.view_is ∙ ∥∥₁_elim c.args.self.now.laid.planned.power (hlevel props) (λ h. mask_of _ _ h.0 h.1)
+returns-clause-value g c =
+    ap (λ (q : RingQueue _). bit_and c.args.place (q.plan.slots - 1)) c.self.view_is ∙ ∥∥₁_elim c.args.self.now.laid.planned.power (hlevel props) (λ h. mask_of _ _ h.0 h.1)

@@ -6,12 +6,12 @@ use Rattle.ring_queue.proofs.Batching.{pops_some}
 use Rattle.ring_queue.proofs.queue.RingQueue.try_pop_up_to.Goals as goal
 
 pub returns-in-Took-clause-popped : goal.returns-in-Took-clause-popped
-returns-in-Took-clause-popped c =
+returns-in-Took-clause-popped g c =
     pops_some (known_of c.args.seat.now) (known_of c.loop.seat) (known_of c.batch_turn.new.seat) c.args.most c.in-Took.count c.args.into.now.items c.loop.into.items c.batch_turn.new.into.items
     c.loop.invariant.sees (ap (λ v. v.items) c.loop.invariant.into) c.in-Took.ensures.says
 
 pub loop-preserved : goal.loop-preserved
-loop-preserved c =
+loop-preserved g c =
     let inv = c.loop.invariant in
     let before = inv.name in
     let name = c.batch_turn.ensures.name in

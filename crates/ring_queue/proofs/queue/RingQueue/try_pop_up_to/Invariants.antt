@@ -5,7 +5,7 @@ use Rattle.ring_queue.specs.Turns.{HaveFailed}
 use Rattle.ring_queue.proofs.queue.RingQueue.try_pop_up_to.Given as goal
 
 abbrev pub invariant-loop : goal.invariant-loop
-invariant-loop l = record {
+invariant-loop g l = record {
   seat : IsReady l.self.plan l.self.table.shared.table_id l.seat;
   name : KeepsName l.fn.seat l.seat;
   sees : SeesMore (known_of l.fn.seat) (known_of l.seat);

@@ -1,0 +1,185 @@
+-- A seat gets a slot by its flag, and gives it back: the rule holds, and nothing else that the seat knows changes.
+use Rattle.std.proofs.Common.{◌≡◌, ◌≢◌, ℕ, suc, ◌+◌, ◌-◌, ◌*◌, ◌%◌, ◌<◌, ◌≤◌, Bool, true, false, if◌then◌else◌, nat_eq, List, [], ◌∷◌, length, get_or, Option, None, sym, refl, ap, ◌∙◌, subst, arith}
+use Rattle.std.proofs.Math.Logic.{∥∥₁_map}
+use Rattle.std.proofs.lemmas.List.{set-get_or}
+use mathlib.Core.Bool.{true≢false}
+use mathlib.Core.Option.{some, none, some-injective, some-ne-none}
+use mathlib.Core.Option as maybe
+use mathlib.Core.Logic.{dite}
+use native.Mathlib.Decide.{ℕ_discrete}
+use prog.Atomic.{either}
+use Rattle.atomic_table.specs.Table.{State, Me, Act, keeps, takes, gives, Allows, carried_after, stepped, Valid}
+use Rattle.atomic_table.specs.Seated.{TableId}
+use Rattle.atomic_table.specs.declared.shared.Seat.{Seat as Token}
+use Rattle.atomic_table.proofs.Lists.{set_again, exchanged}
+use Rattle.history.specs.Seats.{IsSound}
+use Rattle.node_arena.specs.Beside.{slots_in}
+use Rattle.node_arena.proofs.Lifts.{none_held, none_hand}
+use Rattle.ring_queue.specs.declared.seats.Seat.{Seat}
+use Rattle.ring_queue.specs.Plans.{Layout, IsTable, words_of, slots_of, permits_of}
+use Rattle.ring_queue.specs.Seeing.{SeatView, seated, knows, known_by}
+use Rattle.ring_queue.specs.Steps.{Rests}
+use Rattle.ring_queue.specs.Beside.{Beside, CarriedBy, HoldsValues, HoldsBy, KnowsBy, KnowsNow, with_hand}
+use Rattle.ring_queue.specs.Seats.{Sits, IsReady, HasNoSlot, view}
+use Rattle.ring_queue.specs.Hands.{HasSlot, KeepsKnown, WasTaken, AllTaken, IsMissed}
+use Rattle.ring_queue.proofs.Carrying.{gets_slot, frees_slot}
+
+-- what a try of the flag at a word tells: the slot is out with the seat, empty, or its flag was up
+abbrev pub Tries : {T : Type 0} → Layout → (word : ℕ) → Me (Option T) (Beside T) → ℕ → Me (Option T) (Beside T) → Type 0
+Tries z word me n me' = (n ≡ 0 → me' ≡ (with_hand me.0 (some (word - words_of z)), (word - words_of z, None) ∷ [])) × (n ≢ 0 → (me' ≡ me) × ∥ WasTaken z me.0 (word - words_of z) ∥₁)
+
+-- what the store into a flag tells: no slot is out with the seat
+abbrev pub Frees : {T : Type 0} → Me (Option T) (Beside T) → Me (Option T) (Beside T) → Type 0
+Frees me me' = me' ≡ (with_hand me.0 none, [])
+
+module _ {T : Type 0} (z : Layout) (carries : z.carries ≡ true) where
+  inside : (s : State (Option T) (Beside T)) → HoldsBy z s → HoldsValues z s
+  inside s h = record { base = h.base; values = subst (λ (b : Bool). CarriedBy b z h.base.ring.history s) carries h.values }
+
+  back : (s : State (Option T) (Beside T)) → HoldsValues z s → HoldsBy z s
+  back s h = record { base = h.base; values = subst (λ (b : Bool). CarriedBy b z h.base.ring.history s) (sym carries) h.values }
+
+  gets : (id i : ℕ) (w : Beside T) → i < z.slots → Allows {S = Option T} (HoldsBy z) z.slots id (w, []) (words_of z + i) (λ n. either (nat_eq n 0) 1 n) (Tries z (words_of z + i) (w, []))
+  gets id i w lt s h count mine small =
+      let m : ℕ = words_of z in
+      let p : ℕ = m + i in
+      let n : ℕ = get_or s.words p 0 in
+      let is : i ≡ p - m = omega arith in
+      let F : ℕ → Type 0 = λ k. (w' : Beside T) × (a : Act (Option T)) × Valid s.homes [] a × HoldsBy z (stepped s p k id [] w' a) × Tries z p (w, []) n (w', carried_after [] a) in
+      exchanged n 0 1 F
+      (λ down.
+      let got = gets_slot z id w i lt s (inside s h) count mine down in (
+        with_hand w (some i),
+        takes i None,
+        got.0,
+        back (stepped s p 1 id [] (with_hand w (some i)) (takes i None)) got.1,
+        (λ e. ap (λ (y : ℕ). (with_hand w (some y), (y, None) ∷ [])) is, λ ne. absurd (ne down)),
+      ))
+      (λ ne.
+      let P : List ℕ × List (Beside T) → Type 0 = λ y. HoldsBy z (record { words = y.0; homes = s.homes; views = y.1 }) in (
+        w,
+        keeps,
+        tt,
+        subst P (λ d. (sym (set-get_or s.words p 0) d, sym (set_again s.views id w mine) d)) h,
+        (λ e. absurd (ne e), λ e. (refl, ∣ subst (WasTaken z w) is (record { state = s; holds = h; id = id; seat = mine; up = ne }) ∣₁)),
+      ))
+
+  frees : (id k : ℕ) (w : Beside T) → k < z.slots → w.hand ≡ some k → Allows {S = Option T} (HoldsBy z) z.slots id (w, (k, None) ∷ []) (words_of z + k) (λ _. 0) (λ _ m. Frees (w, (k, None) ∷ []) m)
+  frees id k w lt hand s h count mine small =
+      let p : ℕ = words_of z + k in
+      (with_hand w none, gives, tt, back (stepped s p 0 id ((k, None) ∷ []) (with_hand w none) gives) (frees_slot z id w k lt hand s (inside s h) count mine), refl)
+
+-- the same at the names of a call
+module _ {T : Type 0} (z about : Layout) (t : TableId) (s : Seat T) (slot word : ℕ) (laid : IsTable z about t) (is : IsReady z t s) where
+  all_slots : z.carries ≡ true → t.slots ≡ z.slots
+  all_slots carries = laid.slots ∙ ap (λ (b : Bool). if b then z.slots else 0) carries
+
+  pub asks_try : z.carries ≡ true → HasNoSlot s → slot < z.slots → word ≡ words_of z + slot
+      → (s.token.table_id ≡ t) × (word < t.words) × Allows {S = Option T} (HoldsBy about) t.slots s.token.id s.token.me word (λ n. either (nat_eq n 0) 1 n) (Tries about word s.token.me)
+  asks_try carries none_out lt at =
+      let all : slots_of z ≡ z.slots = ap (λ (b : Bool). if b then z.slots else 0) carries in
+      let words = laid.words in
+      let P : Layout × ℕ × Me (Option T) (Beside T) × ℕ → Type 0 = λ y. Allows {S = Option T} (HoldsBy y.0) y.1 s.token.id y.2 y.3 (λ n. either (nat_eq n 0) 1 n) (Tries y.0 y.3 y.2) in (
+        is.sits.table,
+        omega (arith, at, lt, all, words),
+        subst P (λ i. (sym laid.key i, sym (all_slots carries) i, (s.token.me.0, sym (none_held s.token.me.1 none_out.0) i), sym at i)) (gets z carries s.token.id slot s.token.me.0 lt),
+      )
+
+  pub asks_free : HasSlot z s slot None → word ≡ words_of z + slot
+      → (s.token.table_id ≡ t) × (word < t.words) × Allows {S = Option T} (HoldsBy about) t.slots s.token.id s.token.me word (λ _. 0) (λ _ m. Frees s.token.me m)
+  asks_free has at =
+      let all : slots_of z ≡ z.slots = ap (λ (b : Bool). if b then z.slots else 0) has.carries in
+      let words = laid.words in
+      let there = has.there in
+      let P : Layout × ℕ × Me (Option T) (Beside T) × ℕ → Type 0 = λ y. Allows {S = Option T} (HoldsBy y.0) y.1 s.token.id y.2 y.3 (λ _. 0) (λ _ m. Frees y.2 m) in (
+        is.sits.table,
+        omega (arith, at, there, all, words),
+        subst P (λ i. (sym laid.key i, sym (all_slots has.carries) i, (s.token.me.0, sym has.out i), sym at i)) (frees z has.carries s.token.id slot s.token.me.0 there has.hand),
+      )
+
+-- a seat with another slot, or none, that stores and knows the same
+module _ {T : Type 0} (z : Layout) (t : TableId) (s : Seat T) (k : Token (Option T) (Beside T)) (h : maybe.Option ℕ) (is : IsReady z t s) (carries : z.carries ≡ true) (here : k.table_id ≡ s.token.table_id) (same : k.me.0 ≡ with_hand s.token.me.0 h) (there : (i : ℕ) → h ≡ some i → i < z.slots) where
+  knows_same : knows k.me.0.plain ≡ view s
+  knows_same = ap (λ (w : Beside T). knows w.plain) same
+
+  known : (b : Bool) → KnowsBy b z (view s).seen s.token.me.0 → KnowsBy b z (view s).seen (with_hand s.token.me.0 h)
+  known true o = record { matches = o.matches; values = o.values; shut = o.shut; runs = o.runs; there = there }
+  known false o = tt
+
+  pub still_ready : IsReady z t (record s { token = k })
+  still_ready =
+      let sits = is.sits in
+      record {
+        sits = record {
+          table = here ∙ sits.table;
+          seat = ap (λ (w : Beside T). w.plain) same ∙ (sits.seat ∙ ap seated (sym knows_same));
+          none_out = λ e. absurd (true≢false (sym carries ∙ e));
+          number = sits.number ∙ ap (λ (v : SeatView). v.number) (sym knows_same);
+          from = sits.from;
+          role = sits.role;
+          head = sits.head ∙ ap (λ (v : SeatView). v.head) (sym knows_same);
+          below = sits.below;
+          credits = sits.credits ∙ ap (λ (v : SeatView). v.credits) (sym knows_same);
+          sound = subst (λ (v : SeatView). IsSound (permits_of z) (known_by v)) (sym knows_same) sits.sound;
+          valued = subst (λ (w : Beside T). ∥ KnowsNow z.carries z w ∥₁) (sym same) (∥∥₁_map sits.valued (known z.carries));
+        };
+        rests = subst (λ (v : SeatView). Rests v.stage) (sym knows_same) is.rests;
+      }
+
+  pub still_known : KeepsKnown s (record s { token = k })
+  still_known = record { number = refl; role = refl; head = refl; reserve = refl; view = knows_same; deeds = ap (λ (w : Beside T). w.deeds) same }
+
+-- what a try leaves, by whether the flag was down
+module _ {T : Type 0} (z about : Layout) (t : TableId) (s : Seat T) (k : Token (Option T) (Beside T)) (slot word n : ℕ) (key : about ≡ z) (is : IsReady z t s) (carries : z.carries ≡ true) (none_out : HasNoSlot s) (lt : slot < z.slots) (at : word ≡ words_of z + slot)
+    (told : (k.table_id ≡ s.token.table_id) × (k.id ≡ s.token.id) × Tries about word s.token.me n k.me) where
+  at_slot : word - words_of about ≡ slot
+  at_slot = let same = ap (λ (y : Layout). words_of y) key in omega (arith, same, at)
+
+  same_hand : s.token.me.0 ≡ with_hand s.token.me.0 none
+  same_hand = ap (λ (h : maybe.Option ℕ). with_hand s.token.me.0 h) (none_hand s.token.me.0.hand none_out.1)
+
+  abbrev Left : Type 0
+  Left = IsReady z t (record s { token = k }) × KeepsKnown s (record s { token = k }) × (n ≡ 0 → HasSlot z (record s { token = k }) slot None) × (n ≢ 0 → IsMissed z s (record s { token = k }) slot)
+
+  left_by : (h : maybe.Option ℕ) → k.me.0 ≡ with_hand s.token.me.0 h → ((i : ℕ) → h ≡ some i → i < z.slots) → (n ≡ 0 → HasSlot z (record s { token = k }) slot None) → (n ≢ 0 → IsMissed z s (record s { token = k }) slot) → Left
+  left_by h same there hit miss = (still_ready z t s k h is carries told.0 same there, still_known z t s k h is carries told.0 same there, hit, miss)
+
+  pub tried : Left
+  tried =
+      dite (ℕ_discrete n 0)
+      (λ down.
+      let got = told.2.0 down in
+      let now : k.me ≡ (with_hand s.token.me.0 (some slot), (slot, None) ∷ []) = got ∙ ap (λ (y : ℕ). (with_hand s.token.me.0 (some y), (y, None) ∷ [])) at_slot in
+      left_by (some slot) (ap (λ y. y.0) now) (λ i e. subst (λ (m : ℕ). m < z.slots) (some-injective slot i e) lt) (λ e. record { carries = carries; there = lt; out = ap (λ y. y.1) now; hand = ap (λ y. y.0.hand) now }) (λ ne. absurd (ne down)))
+      (λ up.
+      let missed = told.2.1 up in
+      let same = ap (λ (y : Me (Option T) (Beside T)). y.0) missed.0 in
+      left_by none (same ∙ same_hand) (λ i e. absurd (some-ne-none i (sym e))) (λ e. absurd (up e))
+      (λ ne. record {
+        none = (ap (λ y. length y.1) missed.0 ∙ none_out.0, ap (λ y. slots_in y.0.hand) missed.0 ∙ none_out.1);
+        same = same;
+        taken = (let P : Layout × ℕ → Type 0 = λ y. ∥ WasTaken y.0 s.token.me.0 y.1 ∥₁ in subst P (λ i. (key i, at_slot i)) missed.1);
+      }))
+
+-- what a slot that was given back leaves
+module _ {T : Type 0} (z : Layout) (t : TableId) (s : Seat T) (k : Token (Option T) (Beside T)) (slot : ℕ) (is : IsReady z t s) (has : HasSlot z s slot None) (told : (k.table_id ≡ s.token.table_id) × (k.id ≡ s.token.id) × Frees s.token.me k.me) where
+  abbrev now_none : k.me.0 ≡ with_hand s.token.me.0 none
+  now_none = ap (λ (y : Me (Option T) (Beside T)). y.0) told.2
+
+  pub freed : IsReady z t (record s { token = k }) × KeepsKnown s (record s { token = k }) × HasNoSlot (record s { token = k })
+  freed =
+      let there : (i : ℕ) → none ≡ some i → i < z.slots = λ i e. absurd (some-ne-none i (sym e)) in (
+        still_ready z t s k none is has.carries told.0 now_none there,
+        still_known z t s k none is has.carries told.0 now_none there,
+        (ap (λ y. length y.1) told.2, ap (λ y. slots_in y.0.hand) told.2),
+      )
+
+-- a seat keeps what it knows over two calls
+pub then_known : {T : Type 0} (s t u : Seat T) → KeepsKnown s t → KeepsKnown t u → KeepsKnown s u
+then_known s t u f g = record { number = g.number ∙ f.number; role = g.role ∙ f.role; head = g.head ∙ f.head; reserve = g.reserve ∙ f.reserve; view = g.view ∙ f.view; deeds = g.deeds ∙ f.deeds }
+
+-- one more slot was taken
+pub one_more_taken : {T : Type 0} (z : Layout) (w w' : Beside T) (first slot next failed : ℕ) → w' ≡ w → ∥ WasTaken z w' slot ∥₁ → next ≡ (slot + 1) % z.slots → ((m : ℕ) → AllTaken z w slot m → AllTaken z w first (failed + m)) → (m : ℕ) → AllTaken z w next m → AllTaken z w first (failed + 1 + m)
+one_more_taken z w w' first slot next failed same taken is before m all =
+    let e : failed + suc m ≡ failed + 1 + m = omega arith in
+    subst (AllTaken z w first) e (before (suc m) (subst (λ (x : Beside _). ∥ WasTaken z x slot ∥₁) same taken, subst (λ (k : ℕ). AllTaken z w k m) is all))

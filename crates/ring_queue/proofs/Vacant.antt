@@ -1,0 +1,86 @@
+-- The rule of a new table: nothing was done, and where values are carried each slot is free.
+use Rattle.std.proofs.Common.{◌≡◌, ℕ, zero, suc, ◌+◌, ◌*◌, ◌<◌, Bool, true, false, if◌then◌else◌, List, [], ◌∷◌, length, map, take, get_or, replicate, Option, None, sym, refl, ap, ◌∙◌, subst, arith}
+use Rattle.std.proofs.lemmas.List.{get_or-take, length-take-le}
+use mathlib.Core.Option.{some, some-injective, some-ne-none}
+use lib.ListN.{get_elem?}
+use Rattle.atomic_table.specs.Table.{opening}
+use Rattle.atomic_table.specs.Seated.{TableId}
+use Rattle.history.specs.declared.operations.Entry.{Entry}
+use Rattle.node_arena.specs.Slots.{free}
+use Rattle.node_arena.specs.Beside.{flag_at}
+use Rattle.ring_queue.specs.Words.{slot_word}
+use Rattle.ring_queue.specs.Plans.{Layout, IsPlanned, IsTable, words_of, slots_of}
+use Rattle.ring_queue.specs.Seeing.{SeatView, keeper, seated, paired}
+use Rattle.ring_queue.specs.Rule.{Holds, first_view}
+use Rattle.ring_queue.specs.Making.{AreFirst}
+use Rattle.ring_queue.specs.Beside.{Beside, hand_at, Begins, CarriedBy, HoldsBy, first_beside}
+use Rattle.ring_queue.proofs.Deals.{opened}
+
+module _ (T : Type 0) (z : Layout) where
+  no_hand : (j i : ℕ) → hand_at {T = T} (first_beside z ∷ []) j ≡ some i → ⊥
+  no_hand zero i e = some-ne-none i (sym e)
+  no_hand (suc j) i e = some-ne-none i (sym e)
+
+  empties : (n i : ℕ) → i < n → get_elem? (map some (replicate {A = Option T} n None)) i ≡ some (some None)
+  empties zero i lt = absurd (omega arith)
+  empties (suc n) zero lt = refl
+  empties (suc n) (suc i) lt = empties n i (omega arith)
+
+  one_view : (j : ℕ) (w : Beside T) → get_elem? (first_beside z ∷ []) j ≡ some w → Begins {T = T} [] w
+  one_view zero w e = subst (Begins {T = T} []) (some-injective (first_beside z) w e) (record { rest = []; begins = refl; matches = λ v is. absurd (not_seated v is); pair = λ v u is same. absurd (not_paired v u is); others = tt })
+    where
+      not_seated : (v : SeatView) → keeper z.slots 1 ≡ seated v → ⊥
+      not_seated v is = cc
+
+      not_paired : (v u : SeatView) → keeper z.slots 1 ≡ paired v u → ⊥
+      not_paired v u is = cc
+  one_view (suc j) w e = absurd (some-ne-none w (sym e))
+
+-- the rule holds of a new table, in which such words lie, with so many flags
+pub opens_first : (T : Type 0) (z : Layout) (slots flags : ℕ) (words given : List ℕ) → IsPlanned z → slots ≡ z.slots → flags ≡ slots_of z → given ≡ words → AreFirst slots flags words → HoldsBy {T = T} z (opening {S = Option T} given (replicate {A = Option T} flags None) (first_beside z))
+opens_first T z slots flags words given planned same flagged is first = record { base = h.0; values = subst (λ (es : List Entry). CarriedBy {T = T} z.carries z es (opening {S = Option T} given (replicate {A = Option T} flags None) (first_beside z))) (sym h.1) (go z.carries flagged) }
+  where
+    m : ℕ
+    m = words_of z
+
+    long : length given ≡ (m + flags)
+    long = let wide = first.wide in let count = ap length is in omega (arith, wide, same, count)
+
+    word : (i n : ℕ) → i < m → get_or words i 0 ≡ n → get_or (take m given) i 0 ≡ n
+    word i n lt e = get_or-take m given i 0 lt ∙ (ap (λ (ws : List ℕ). get_or ws i 0) is ∙ e)
+
+    h : (o : Holds z (opening {S = ℕ} (take m given) [] (first_view z))) × (o.ring.history ≡ [])
+    h = opened z (take m given) planned (length-take-le m given (omega (arith, long))) (word 0 z.slots (omega arith) (first.tail ∙ same)) (word 16 z.slots (omega arith) (first.head ∙ same))
+        (λ i lt. word (slot_word i) 0 (omega (arith, lt)) (first.blank i (omega (arith, lt, same))))
+
+    down : (i : ℕ) → flag_at m given i ≡ 0
+    down i = ap (λ (ws : List ℕ). get_or ws (m + i) 0) is ∙ (ap (λ (k : ℕ). get_or words (32 + 2 * k + i) 0) (sym same) ∙ first.down i)
+
+    go : (b : Bool) → flags ≡ (if b then z.slots else 0) → CarriedBy {T = T} b z [] (opening {S = Option T} given (replicate {A = Option T} flags None) (first_beside z))
+    go false e = tt
+    go true e = record {
+      rides = record {
+        deeds = [];
+        q = [];
+        pops = 0;
+        shut = false;
+        leads = refl;
+        runs = (refl, refl);
+        matches = tt;
+        slotted = record {
+          place = λ i. free;
+          stands = λ i lt. (down i, empties T z flags i (omega (arith, lt, e)));
+          lies = λ k l at. absurd (some-ne-none l (sym at));
+          out = λ j i at. absurd (no_hand T z j i at);
+        };
+      };
+      known = one_view T z;
+      long = omega (arith, long, e);
+    }
+
+-- it is laid out for its plan
+pub laid_first : (z about : Layout) (slots flags : ℕ) (t : TableId) (words given : List ℕ) → IsPlanned z → about ≡ z → slots ≡ z.slots → flags ≡ slots_of z → t.words ≡ length given → given ≡ words → AreFirst slots flags words → t.slots ≡ flags → IsTable z about t
+laid_first z about slots flags t words given planned key same flagged count is first there =
+    let wide = first.wide in
+    let all = ap length is in
+    record { planned = planned; key = key; words = omega (arith, wide, all, same, flagged, count); slots = there ∙ flagged }

@@ -1,0 +1,5 @@
+use Rattle.ring_queue.proofs.Moved.{stays_on}
+use Rattle.ring_queue.proofs.queue.RingQueue.look_twice_at_front.Goals as goal
+
+pub returns-clause-slots : goal.returns-clause-slots
+returns-clause-slots g c = stays_on c.args.seat.now c.look_at_front.new.seat c.look_at_front-2.new.seat c.look_at_front.ensures.slots c.look_at_front-2.ensures.slots
