@@ -6,6 +6,8 @@
 mod arena;
 #[path = "../queues/nonblocking.rs"]
 mod nonblocking;
+#[path = "../queues/ring.rs"]
+mod ring;
 #[path = "../queues/runs.rs"]
 mod runs;
 #[path = "../queues/seats.rs"]
@@ -18,12 +20,13 @@ mod works;
 
 use arena::{Algorithm, Apart, NODES};
 use nonblocking::NonBlocking;
+use ring::Ring;
 use runs::total;
 use seats::{ROOM, Seated};
 use std::collections::VecDeque;
 use std::sync::{Mutex, mpsc};
 use two_lock::TwoLock;
-use values::{ChannelEnd, Deque, Value, Values};
+use values::{ChannelEnd, Deque, RingValues, Value, Values};
 use works::{KINDS, Kind, Work};
 
 fn numbers<Q: Algorithm + Sync>(queue: Q, keeps: bool, kind: &Kind, count: u64) -> u128 {
@@ -51,6 +54,7 @@ fn of_type<T: Value>(queue: &str, keeps: bool, kind: &Kind, count: u64) -> u128 
     match queue {
         "non-blocking" => seated::<T, _>(NonBlocking::<Apart>::measured(), keeps, kind, count),
         "two-lock" => seated::<T, _>(TwoLock::<Apart>::measured(), keeps, kind, count),
+        "ring" => total(RingValues::<T>::measured(4).handles().into_iter().take(kind.works.len()).collect(), kind, count),
         "mutex" => {
             let deque = Deque::<T>(Mutex::new(VecDeque::with_capacity(ROOM)));
             total(vec![&deque; kind.works.len()], kind, count)
@@ -81,6 +85,7 @@ fn main() {
     let kind = KINDS.iter().find(|its| its.name == kind).expect("a kind of work");
     let count = count.parse().expect("a count");
     let time = match (name, queue) {
+        ("numbers", "ring") => total(Ring::measured(4).seats().take(kind.works.len()).collect(), kind, count),
         ("numbers", "two-lock") => numbers(TwoLock::<Apart>::measured(), keeps, kind, count),
         ("numbers", _) => numbers(NonBlocking::<Apart>::measured(), keeps, kind, count),
         ("word", _) => of_type::<u64>(queue, keeps, kind, count),

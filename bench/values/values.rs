@@ -1,6 +1,7 @@
-//! Values of any type through a plain queue: each lies in a slot, found by its flag from that of its node on, whose number goes
-//! through the queue of numbers; and through queues of the standard library and of crossbeam.
+//! Values of any type through a plain queue, or a plain ring: each lies in a slot, found by its flag from that of its node on, or of its
+//! seat's last one, whose number goes through the queue of numbers; and through queues of the standard library and of crossbeam.
 use crate::arena::{Algorithm, Refusal, Seat};
+use crate::ring::{self, Ring, RingSeat};
 use crate::seats::{End, ROOM};
 use std::cell::UnsafeCell;
 use std::collections::VecDeque;
@@ -111,6 +112,92 @@ impl<Q: Algorithm + Sync, T: Value> End for Handle<'_, Q, T> {
     #[inline(always)]
     fn pop(&mut self) -> bool {
         !matches!(black_box(self.try_pop()), Ok(None) | Err(Refusal::Busy))
+    }
+}
+
+/// A ring of values, with a slot for each of the ring's.
+pub struct RingValues<T> {
+    ring: Ring,
+    flags: Vec<AtomicU64>,
+    slots: Vec<UnsafeCell<Option<T>>>,
+}
+
+// A slot is read and written by the one that has its flag, or the place that tells of it.
+unsafe impl<T: Send> Sync for RingValues<T> {}
+
+pub struct RingHandle<'a, T> {
+    of: &'a RingValues<T>,
+    seat: RingSeat<'a>,
+    near: u64,
+    turns: u32,
+}
+
+impl<T> RingValues<T> {
+    pub fn measured(seats: usize) -> RingValues<T> {
+        let ring = Ring::measured(seats);
+        let flags = (0..ring.slots()).map(|_| AtomicU64::new(0)).collect();
+        let slots = (0..ring.slots()).map(|_| UnsafeCell::new(None)).collect();
+        RingValues { ring, flags, slots }
+    }
+
+    pub fn handles(&self) -> Vec<RingHandle<'_, T>> {
+        let numbered = self.ring.seats().enumerate();
+        numbered.map(|(number, seat)| RingHandle { of: self, seat, near: 64 * number as u64, turns: black_box(8) }).collect()
+    }
+}
+
+impl<T> RingHandle<'_, T> {
+    // The number of a slot that is this seat's from now on.
+    fn gets(&mut self) -> Option<u64> {
+        let last = self.of.ring.slots() - 1;
+        let found = (0..u64::from(self.turns))
+            .map(|step| (self.near + step) & last)
+            .find(|&slot| self.of.flags[slot as usize].compare_exchange(0, 1, SeqCst, SeqCst).is_ok())?;
+        self.near = found + 1;
+        Some(found)
+    }
+
+    #[inline(never)]
+    pub fn try_push(&mut self, value: T) -> Result<(), (ring::Refusal, T)> {
+        let it = self.of;
+        let Some(slot) = self.gets() else {
+            return Err((ring::Refusal::Busy, value));
+        };
+        let place = it.slots[slot as usize].get();
+        // The slot is this seat's.
+        unsafe { *place = Some(value) };
+        match it.ring.push(&mut self.seat, slot) {
+            Ok(()) => Ok(()),
+            Err(refusal) => {
+                let back = unsafe { (*place).take() }.unwrap();
+                it.flags[slot as usize].store(0, SeqCst);
+                Err((refusal, back))
+            }
+        }
+    }
+
+    #[inline(never)]
+    pub fn try_pop(&mut self) -> Result<Option<T>, ring::Refusal> {
+        let it = self.of;
+        let Some((_, slot)) = it.ring.pop(&mut self.seat)? else {
+            return Ok(None);
+        };
+        // The slot is this seat's, which took its number.
+        let value = unsafe { (*it.slots[slot as usize].get()).take() }.unwrap();
+        it.flags[slot as usize].store(0, SeqCst);
+        Ok(Some(value))
+    }
+}
+
+impl<T: Value> End for RingHandle<'_, T> {
+    #[inline(always)]
+    fn push(&mut self, body: u64) -> bool {
+        !matches!(self.try_push(T::made(body)), Err((ring::Refusal::Busy | ring::Refusal::Full, _)))
+    }
+
+    #[inline(always)]
+    fn pop(&mut self) -> bool {
+        !matches!(black_box(self.try_pop()), Ok(None) | Err(ring::Refusal::Busy))
     }
 }
 

@@ -3,6 +3,7 @@ mod calls;
 mod handed;
 mod memory;
 mod numbers;
+mod rings;
 mod texts;
 mod waiting;
 mod whole;

@@ -1,9 +1,10 @@
-//! Values of several types through both queues of values, in four threads: each is taken once, in order and as it was made.
+//! Values of several types through the queues of values, in four threads: each is taken once, in order and as it was made.
 #![tactic(auto)]
 
 mod loads;
 mod measuring;
 mod queues;
+mod rings;
 mod running;
 mod seating;
 mod tallies;
@@ -24,7 +25,7 @@ const RUNS: [(&str, u64, u64); 3] = [
 ];
 
 /// The words that the program understands.
-const USAGE: &str = "value_stress [two-lock|non-blocking [kept] [numbers|word|words|box|text \
+const USAGE: &str = "value_stress [two-lock|non-blocking|ring [kept] [numbers|word|words|box|text \
     one|pair|two|four COUNT | word|words|box|text run one|pair|two|four|pushes COUNT]]";
 
 // Whether a run of each kind came out right.
@@ -72,11 +73,11 @@ fn main(rt: HostRuntime) -> io::Result<()> {
     let mut words = env::args(&rt)?;
     words.next();
     let Some(queue) = words.next() else {
-        for which in Which::ALL {
+        for which in Which::LISTS {
             print_runs(&rt, rt.alloc(), which, false)?;
             print_runs(&rt, rt.alloc(), which, true)?;
         }
-        return Ok(());
+        return print_runs(&rt, rt.alloc(), Which::Ring, false);
     };
     let mut carried = words.next();
     let keeps = matches!(&carried, Some(word) if word.as_str() == "kept");

@@ -1,6 +1,7 @@
 //! The queues that run.
 use crate::loads::{Load, Words};
 use crate::measuring::{Works, all};
+use crate::rings;
 use crate::running::{Verdict, judged};
 use crate::seating::last_four_keeping;
 use arena_queue::{Algorithm, ArenaQueueOf};
@@ -25,17 +26,19 @@ const NODES: u32 = 65;
 pub enum Which {
     TwoLock,
     NonBlocking,
+    Ring,
 }
 
 impl Which {
-    /// Both of them.
-    pub const ALL: [Which; 2] = [Which::TwoLock, Which::NonBlocking];
+    /// Those with nodes.
+    pub const LISTS: [Which; 2] = [Which::TwoLock, Which::NonBlocking];
 
     /// Its name on the command line.
     pub fn name(self) -> &'static str {
         match self {
             Which::TwoLock => "two-lock",
             Which::NonBlocking => "non-blocking",
+            Which::Ring => "ring",
         }
     }
 
@@ -44,6 +47,7 @@ impl Which {
         match name {
             "two-lock" => Some(Which::TwoLock),
             "non-blocking" => Some(Which::NonBlocking),
+            "ring" => Some(Which::Ring),
             _ => None,
         }
     }
@@ -91,7 +95,7 @@ impl Carried {
 /// What is asked of four threads.
 #[derive(Clone, Copy, Debug)]
 pub struct Asked {
-    /// Whether the seats keep their nodes.
+    /// Whether the seats keep their nodes; of a ring it says nothing.
     pub keeps: bool,
     pub works: Works,
     /// How many times each thread does its work.
@@ -112,15 +116,18 @@ fn judged_with<R: Threads + Wait + Sync, T: Load, A: Algorithm<24> + Sync>(
     }
 }
 
-fn judged_of<R: Threads + Wait + Sync, T: Load>(
+fn judged_of<R: Threads + Wait + Sync, A: Algorithm<24> + Sync>(
     rt: &R,
     alloc: Global,
-    which: Which,
+    carried: Carried,
     asked: Asked,
 ) -> Option<Verdict> {
-    match which {
-        Which::TwoLock => judged_with::<R, T, TwoLockAlgorithm>(rt, alloc, asked),
-        Which::NonBlocking => judged_with::<R, T, NonBlockingAlgorithm>(rt, alloc, asked),
+    match carried {
+        Carried::Numbers => None,
+        Carried::Word => judged_with::<R, u64, A>(rt, alloc, asked),
+        Carried::Words => judged_with::<R, Words, A>(rt, alloc, asked),
+        Carried::Box => judged_with::<R, Box<u64>, A>(rt, alloc, asked),
+        Carried::Text => judged_with::<R, String, A>(rt, alloc, asked),
     }
 }
 
@@ -132,12 +139,10 @@ pub fn stressed<R: Threads + Wait + Sync>(
     carried: Carried,
     asked: Asked,
 ) -> Option<Verdict> {
-    match carried {
-        Carried::Numbers => None,
-        Carried::Word => judged_of::<R, u64>(rt, alloc, which, asked),
-        Carried::Words => judged_of::<R, Words>(rt, alloc, which, asked),
-        Carried::Box => judged_of::<R, Box<u64>>(rt, alloc, which, asked),
-        Carried::Text => judged_of::<R, String>(rt, alloc, which, asked),
+    match which {
+        Which::TwoLock => judged_of::<R, TwoLockAlgorithm>(rt, alloc, carried, asked),
+        Which::NonBlocking => judged_of::<R, NonBlockingAlgorithm>(rt, alloc, carried, asked),
+        Which::Ring => rings::stressed(rt, alloc, carried, asked),
     }
 }
 
@@ -194,5 +199,6 @@ pub fn worked<R: Threads + Wait + Sync>(
     match which {
         Which::TwoLock => worked_of::<R, TwoLockAlgorithm>(rt, alloc, carried, asked),
         Which::NonBlocking => worked_of::<R, NonBlockingAlgorithm>(rt, alloc, carried, asked),
+        Which::Ring => rings::worked(rt, alloc, carried, asked),
     }
 }

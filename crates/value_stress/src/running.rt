@@ -1,6 +1,6 @@
 //! Rounds of pushes and pops in threads, of which each value is looked at.
 ghost use Rattle.std.specs.Thread.{IsSync};
-ghost use Rattle.carriers.specs.Closing.{AsksAny};
+ghost use Rattle.carriers.specs.Closing.{AsksSoMany};
 ghost use Rattle.value_stress.specs.Seated.{MayCall, AreTwo, AreFour};
 
 use crate::loads::Load;
@@ -217,7 +217,7 @@ pub fn judged<R: Threads + Wait + Sync, T: Load, Q: CloseCarrier<Item = T> + Syn
     count: u64,
 ) -> Option<Verdict>
     requires seats { AreFour Q.is_seat Q.permits Q.known queue seats }
-    requires asked { AsksAny Q.asks queue }
+    requires asked { AsksSoMany Q.asks queue 4 }
 {
     let (seats, threads) = four(rt, alloc, &queue, seats, does, count);
     let list = list_of(&queue, alloc, seats)?;

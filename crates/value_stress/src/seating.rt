@@ -1,5 +1,5 @@
 //! Four seats of one queue.
-ghost use Rattle.std.specs.Prelude.{◌≡◌, IfSome};
+ghost use Rattle.std.specs.Prelude.{◌≡◌, length, IfSome};
 ghost use Rattle.std.specs.List.{All};
 ghost use Rattle.value_stress.specs.Seated.{MayCall, AreFour};
 
@@ -53,8 +53,8 @@ fn last<Q: Carrier>(queue: &Q, seats: &mut Vec<Q::Seat>) -> Option<Q::Seat>
     }
 }
 
-// The last four of these seats, where each may push and pop.
-fn last_four<Q: Carrier>(queue: &Q, mut seats: Vec<Q::Seat>) -> Option<Four<Q::Seat>>
+/// The last four of these seats, where each may push and pop.
+pub fn last_four<Q: Carrier>(queue: &Q, mut seats: Vec<Q::Seat>) -> Option<Four<Q::Seat>>
     requires { All (Q.is_seat queue.now) seats.items }
     ensures { IfSome result (AreFour Q.is_seat Q.permits Q.known queue.now) }
 {
@@ -92,7 +92,8 @@ pub fn last_four_keeping<Q: Keeping>(
 /// The four seats as a list; none where memory is refused.
 pub fn list_of<Q: Carrier>(queue: &Q, alloc: Global, seats: Four<Q::Seat>) -> Option<Vec<Q::Seat>>
     requires { AreFour Q.is_seat Q.permits Q.known queue.now seats }
-    ensures { IfSome result (λ list. All (Q.is_seat queue.now) list.items) }
+    ensures seats { IfSome result (λ list. All (Q.is_seat queue.now) list.items) }
+    ensures count { IfSome result (λ list. length list.items ≡ 4) }
 {
     let _ = queue;
     let Four {

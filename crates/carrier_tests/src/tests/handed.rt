@@ -1,4 +1,6 @@
 //! Values that go through the queues of values, and come back where they don't.
+ghost use Rattle.std.specs.List.{All};
+ghost use Rattle.carriers.specs.Closing.{AsksSoMany};
 ghost use Rattle.value_queue.specs.Queues.{IsQueueSeat};
 
 use super::calls::{last, pop, push, same, shut};
@@ -39,16 +41,16 @@ fn popped<T>(value: T) -> Result<Option<ItemOf<T>>, Refusal> {
     Ok(Some(ItemOf { from: 1, value }))
 }
 
-// Pushes two values, and a third one that has no node; pops the first, pushes the fourth, and pops both that are left;
-// shuts the queue, and pushes the fifth. Each comes out, or back, as the one that is wanted.
-fn goes<T: PartialEq + Debug + Drop + Send, A: Algorithm<24>>(
+/// Pushes two values, and a third one that has no node; pops the first, pushes the fourth, and pops both that are left;
+/// shuts the queue, and pushes the fifth. Each comes out, or back, as the one that is wanted.
+pub fn goes<T: PartialEq + Debug + Drop, C: Carrier<Item = T>>(
     rt: &impl Abort,
-    queue: &QueueOf<T, A, 24>,
-    seat: &mut Seat<T>,
+    queue: &C,
+    seat: &mut C::Seat,
     values: [T; 5],
     wanted: [T; 5],
 )
-    requires { IsQueueSeat queue.now seat.old }
+    requires { C.is_seat queue.now seat.old }
 {
     let [first, second, third, fourth, fifth] = values;
     let [one, two, three, four, five] = wanted;
@@ -69,8 +71,8 @@ fn goes<T: PartialEq + Debug + Drop + Send, A: Algorithm<24>>(
     same(rt, pop(queue, seat), Err(Refusal::Closed));
 }
 
-// Five texts, of which one is empty.
-fn texts(alloc: Global) -> Result<[String; 5], AllocError> {
+/// Five texts, of which one is empty.
+pub fn texts(alloc: Global) -> Result<[String; 5], AllocError> {
     Ok([
         String::from_str(alloc, "one")?,
         String::from_str(alloc, "")?,
@@ -295,15 +297,16 @@ fn left(alloc: Global, from: u16, text: &str) -> Result<Option<ItemOf<String>>, 
 }
 
 // The queue is closed with these two seats; it leaves two texts, in order.
-fn leaves<A: Algorithm<24>>(
+fn leaves<C: CloseCarrier<Item = String> + Drop>(
     rt: &impl Abort,
     alloc: Global,
-    queue: QueueOf<String, A, 24>,
-    one: Seat<String>,
-    two: Seat<String>,
+    queue: C,
+    one: C::Seat,
+    two: C::Seat,
 ) -> Result<(), Fail>
-    requires one { IsQueueSeat queue one }
-    requires two { IsQueueSeat queue two }
+    requires one { C.is_seat queue one }
+    requires two { C.is_seat queue two }
+    requires asked { AsksSoMany C.asks queue 2 }
 {
     let mut seats = Vec::new(alloc);
     seats.push(one)?;
@@ -319,10 +322,17 @@ fn leaves<A: Algorithm<24>>(
     Ok(())
 }
 
-// Two seats push three texts, one pops the first, and the other shuts the queue, which is closed.
-fn texts_are_left<A: Algorithm<24>>(rt: &impl Abort, alloc: Global) -> Result<(), Fail> {
-    let roles = [Role::Both, Role::Giver];
-    let (queue, mut seats) = QueueOf::<String, A, 24>::new(alloc, 5, AMPLE_COUNT, &roles)?;
+/// Both seats of a queue push three texts, the first one pops the first of them, and the second one, which may only push, shuts the
+/// queue, which is closed.
+pub fn texts_are_left<C: CloseCarrier<Item = String> + Drop>(
+    rt: &impl Abort,
+    alloc: Global,
+    queue: C,
+    mut seats: Vec<C::Seat>,
+) -> Result<(), Fail>
+    requires seats { All (C.is_seat queue) seats.items }
+    requires asked { AsksSoMany C.asks queue 2 }
+{
     let mut giver = last(&queue, &mut seats)?;
     let mut other = last(&queue, &mut seats)?;
     let one = String::from_str(alloc, "one")?;
@@ -337,8 +347,15 @@ fn texts_are_left<A: Algorithm<24>>(rt: &impl Abort, alloc: Global) -> Result<()
     leaves(rt, alloc, queue, other, giver)
 }
 
+// The same of a queue of this algorithm.
+fn texts_are_left_in<A: Algorithm<24>>(rt: &impl Abort, alloc: Global) -> Result<(), Fail> {
+    let roles = [Role::Both, Role::Giver];
+    let (queue, seats) = QueueOf::<String, A, 24>::new(alloc, 5, AMPLE_COUNT, &roles)?;
+    texts_are_left(rt, alloc, queue, seats)
+}
+
 #[test]
 fn values_left_come_in_order(rt: HostRuntime) -> Result<(), Fail> {
-    texts_are_left::<NonBlockingAlgorithm>(&rt, rt.alloc())?;
-    texts_are_left::<TwoLockAlgorithm>(&rt, rt.alloc())
+    texts_are_left_in::<NonBlockingAlgorithm>(&rt, rt.alloc())?;
+    texts_are_left_in::<TwoLockAlgorithm>(&rt, rt.alloc())
 }

@@ -18,10 +18,10 @@ use two_lock::TwoLockAlgorithm;
 use value_queue::QueueOf;
 
 /// A value that tells how many of it there are.
-type Counted = Arc<u8, Global>;
+pub type Counted = Arc<u8, Global>;
 
-// The value that is counted; where memory is refused, the next one that is made.
-fn mark(alloc: Global) -> Result<Counted, Fail> {
+/// The value that is counted; where memory is refused, the next one that is made.
+pub fn mark(alloc: Global) -> Result<Counted, Fail> {
     match Arc::new(alloc, 7) {
         Ok(mark) => Ok(mark),
         Err(_) => Ok(Arc::new(alloc, 7)?),

@@ -7,12 +7,12 @@ use mock_queues::Listed;
 use std::test::Fail;
 
 /// A value without `Drop` or `Clone`: it can only be taken apart.
-struct Ticket {
-    number: u64,
+pub struct Ticket {
+    pub number: u64,
 }
 
-// The number of a ticket, and why it wasn't pushed.
-fn told(pushed: Result<(), Unpushed<Ticket>>) -> Option<(Refusal, u64)> {
+/// The number of a ticket, and why it wasn't pushed.
+pub fn told(pushed: Result<(), Unpushed<Ticket>>) -> Option<(Refusal, u64)> {
     match pushed {
         Ok(()) => None,
         Err(

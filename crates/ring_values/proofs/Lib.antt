@@ -1,0 +1,5 @@
+pub mod Learned
+pub mod Pushed
+pub mod Popped
+pub mod Opened
+pub mod Closings
