@@ -1,8 +1,8 @@
 // A queue of values of any type for C++14 and later, over the queues of pointers of msq_queue.h and of words of msq_words.h.
 //
 // Any thread calls it, as often as it likes: no thread has a seat of its own. A value is moved in and moved out: one of up to 24
-// bytes that may be moved by its bytes, as a number, a pointer or a unique_ptr, lies in a non-blocking queue itself, and a number of
-// up to six bytes or a plain pointer in one of another kind; any other is in a box.
+// bytes that may be moved by its bytes, as a number, a pointer or a unique_ptr, lies in the queue itself; any other is in a box, and
+// in a ring each but numbers of up to six bytes and plain pointers.
 // Values of one thread come out in its order, each once, and what is left is destroyed with the queue. Only tested, as all of
 // msq_queue.h.
 //
@@ -57,8 +57,8 @@ struct patience {
 
 // Values that pass as the words that their bytes are.
 template <class T> struct by_words {
-    static uint32_t open(msq_queue *home, uint32_t, uint32_t capacity, uint16_t threads) noexcept {
-        return msq_words_open(home, capacity, threads);
+    static uint32_t open(msq_queue *home, uint32_t kind, uint32_t capacity, uint16_t threads) noexcept {
+        return msq_words_open(home, kind, capacity, threads);
     }
 
     // The value stays where it isn't pushed; else its bytes are the queue's.
@@ -88,8 +88,8 @@ template <class T> struct by_words {
 
     static uint32_t shut(msq_queue *home) noexcept { return msq_words_queue_shut(home); }
     static void destroy(msq_queue *home) noexcept { msq_words_destroy(home, destroy_one, nullptr); }
-    static uint32_t emptiness(msq_queue *) noexcept { return MSQ_UNCOUNTED; }
-    static uint32_t len(msq_queue *, msq_length *) noexcept { return MSQ_UNCOUNTED; }
+    static uint32_t emptiness(msq_queue *home) noexcept { return msq_words_queue_emptiness(home); }
+    static uint32_t len(msq_queue *home, msq_length *length) noexcept { return msq_words_queue_len(home, length); }
     static uint32_t left(msq_queue *, msq_remaining *) noexcept { return MSQ_UNCOUNTED; }
 
 private:
@@ -180,22 +180,22 @@ private:
     static void destroy_one(void *object, void *) noexcept { delete static_cast<T *>(object); }
 };
 
-// How values pass through a non-blocking queue, and through one of another kind. Queues of words are non-blocking.
+// How values pass through a ring, and through a queue of another kind. There is no ring of words.
 template <class T>
-using by_others = std::conditional_t<is_number<T>::value || std::is_pointer<T>::value, by_numbers<T>, by_boxes<T>>;
+using by_ring = std::conditional_t<is_number<T>::value || std::is_pointer<T>::value, by_numbers<T>, by_boxes<T>>;
 template <class T>
-using by_non_blocking = std::conditional_t<is_number<T>::value, by_numbers<T>,
+using by_nodes = std::conditional_t<is_number<T>::value, by_numbers<T>,
                                     std::conditional_t<lies_in_place<T>::value, by_words<T>, by_boxes<T>>>;
 
-// A queue, and whether it is non-blocking.
+// A queue, and whether it is a ring.
 struct home {
     msq_queue queue;
-    bool is_non_blocking;
+    bool is_ring;
 };
 
 // A call of a queue, in the way in which its values pass.
 template <class T, class Call> auto passed(home &home, Call call) {
-    return home.is_non_blocking ? call(by_non_blocking<T>(), &home.queue) : call(by_others<T>(), &home.queue);
+    return home.is_ring ? call(by_ring<T>(), &home.queue) : call(by_nodes<T>(), &home.queue);
 }
 
 } // namespace detail
@@ -212,8 +212,7 @@ private:
 };
 #endif
 
-// A queue of values. It may be moved while no other call uses it. One whose values pass as words can't be looked at:
-// its looks answer MSQ_UNCOUNTED. A queue of pointers that isn't non-blocking takes such below 2^48, else it answers MSQ_BAD_SIZE.
+// A queue of values. It may be moved while no other call uses it. A ring of pointers takes such below 2^48: MSQ_BAD_SIZE.
 template <class T> class queue {
     using patience = detail::patience;
 
@@ -245,7 +244,7 @@ public:
         auto code = MSQ_MEMORY;
         made.home_.reset(new (std::nothrow) detail::home{});
         if (made.home_ != nullptr) {
-            made.home_->is_non_blocking = kind == kind::non_blocking;
+            made.home_->is_ring = kind == kind::ring;
             code = made.call([&](auto how, msq_queue *at) {
                 return how.open(at, static_cast<uint32_t>(kind), capacity, threads);
             });

@@ -1,7 +1,7 @@
 /*
  * Queues of words: a value is three words, which come out just as they went in, whatever they are, as a pointer of any kind, a key
- * of 64 bits, or the bytes of a small struct. Such a queue is non-blocking. Its seats are of a type of their own, which calls of
- * msq.h don't take; what the caller owes, and what each code means, stands there.
+ * of 64 bits, or the bytes of a small struct. Such a queue is of MSQ_NON_BLOCKING or MSQ_TWO_LOCK. Its seats are of a type of their
+ * own, which calls of msq.h don't take; what the caller owes, and what each code means, stands there.
  *
  * What any thread calls, without a seat of its own, is an msq_queue of msq_queue.h that msq_words_open made.
  */
@@ -30,27 +30,31 @@ typedef struct msq_words_seat {
     msq_seat seat;
 } msq_words_seat;
 
-/* Makes a queue of words, as msq_create makes a non-blocking one of numbers, and answers as it does. */
-uint32_t msq_words_create(uint32_t nodes, uint64_t limit, const uint8_t *roles, size_t roles_len, msq_words_seat *seats,
-                          size_t seats_len);
+/* Makes a queue of words, as msq_create makes one of numbers, and answers as it does: MSQ_BAD_SIZE of MSQ_RING too. */
+uint32_t msq_words_create(uint32_t kind, uint32_t nodes, uint64_t limit, const uint8_t *roles, size_t roles_len,
+                          msq_words_seat *seats, size_t seats_len);
 
 /*
  * Pushes these words, in so many turns at most, 1 or more.
- * MSQ_OK, MSQ_NO_NODE, MSQ_WORN_FREE, MSQ_WORN_NEXT, MSQ_WORN_TAIL, MSQ_BUSY, MSQ_CLOSED, MSQ_BAD_SIZE where there are no
- * turns, MSQ_NO_SEAT or MSQ_NO_ROLE. Refused, nothing was pushed.
+ * MSQ_OK, MSQ_NO_NODE, MSQ_WORN_FREE, MSQ_BUSY, MSQ_CLOSED, MSQ_BAD_SIZE where there are no turns, MSQ_NO_SEAT or MSQ_NO_ROLE; of
+ * MSQ_NON_BLOCKING also MSQ_WORN_NEXT or MSQ_WORN_TAIL. Refused, nothing was pushed.
  */
 uint32_t msq_words_push(msq_words_seat *seat, const msq_words *words, uint32_t turns);
 
 /*
  * Pops the words at the front into `item`, in so many turns at most, 1 or more: those that the push passed which stood there.
- * MSQ_OK, MSQ_EMPTY, MSQ_BUSY, MSQ_CLOSED, MSQ_WORN_TAIL, MSQ_BAD_SIZE where there are no turns, MSQ_NO_SEAT or MSQ_NO_ROLE.
- * Refused or empty, its values and `item` are as before.
+ * MSQ_OK, MSQ_EMPTY, MSQ_BUSY, MSQ_CLOSED, MSQ_BAD_SIZE where there are no turns, MSQ_NO_SEAT or MSQ_NO_ROLE; of MSQ_NON_BLOCKING
+ * also MSQ_WORN_TAIL, of MSQ_TWO_LOCK MSQ_WORN_HEAD. Refused or empty, its values and `item` are as before.
  */
 uint32_t msq_words_pop(msq_words_seat *seat, uint32_t turns, msq_item *item);
 
 /* As msq_try_shut and msq_meet. */
 uint32_t msq_words_shut(msq_words_seat *seat, uint32_t turns);
 uint32_t msq_words_meet(msq_words_seat *one, msq_words_seat *other);
+
+/* As msq_emptiness and msq_len. */
+uint32_t msq_words_emptiness(msq_words_seat *seat);
+uint32_t msq_words_len(msq_words_seat *seat, msq_length *length);
 
 /* As msq_close: the words left, from the front, go to `items`, as many as have room there. */
 uint32_t msq_words_close(msq_words_seat *seats, size_t seats_len, msq_item *items, size_t items_len, msq_rest *rest);
@@ -63,9 +67,9 @@ typedef void (*msq_free_words)(const msq_words *words, void *context);
 
 /*
  * Makes a queue of words for any threads, as msq_queue_open makes one of pointers: it is one of the calls below, and of
- * msq_queue_push and msq_queue_pop never.
+ * msq_queue_push and msq_queue_pop never. MSQ_BAD_SIZE of MSQ_RING too.
  */
-MSQ_INLINE uint32_t msq_words_open(msq_queue *queue, uint32_t capacity, uint16_t threads);
+MSQ_INLINE uint32_t msq_words_open(msq_queue *queue, uint32_t kind, uint32_t capacity, uint16_t threads);
 
 /* As the calls of msq_queue.h that push and pop a pointer; `words` is written at MSQ_OK alone. */
 MSQ_INLINE uint32_t msq_words_queue_push(msq_queue *queue, const msq_words *words);
@@ -75,6 +79,10 @@ MSQ_INLINE uint32_t msq_words_queue_pop_wait_for(msq_queue *queue, msq_words *wo
 
 /* As msq_queue_shut. */
 MSQ_INLINE uint32_t msq_words_queue_shut(msq_queue *queue);
+
+/* What msq_words_emptiness and msq_words_len tell. */
+MSQ_INLINE uint32_t msq_words_queue_emptiness(msq_queue *queue);
+MSQ_INLINE uint32_t msq_words_queue_len(msq_queue *queue, msq_length *length);
 
 /* As msq_destroy: the words left go to `free_one`, from the front. */
 MSQ_INLINE uint32_t msq_words_destroy(msq_queue *queue, msq_free_words free_one, void *context);
@@ -108,6 +116,28 @@ MSQ_INLINE uint32_t msq_checked_words_shut(msq_words_seat *seat, uint32_t turns)
         return MSQ_TWO_CALLS;
     }
     code = msq_words_shut(seat, turns);
+    msq_end(&call);
+    return code;
+}
+
+MSQ_INLINE uint32_t msq_checked_words_emptiness(msq_words_seat *seat) {
+    struct msq_call call;
+    uint32_t code;
+    if (!msq_begin(&call, &seat->seat, 1)) {
+        return MSQ_TWO_CALLS;
+    }
+    code = msq_words_emptiness(seat);
+    msq_end(&call);
+    return code;
+}
+
+MSQ_INLINE uint32_t msq_checked_words_len(msq_words_seat *seat, msq_length *length) {
+    struct msq_call call;
+    uint32_t code;
+    if (!msq_begin(&call, &seat->seat, 1)) {
+        return MSQ_TWO_CALLS;
+    }
+    code = msq_words_len(seat, length);
     msq_end(&call);
     return code;
 }
@@ -230,7 +260,27 @@ MSQ_INLINE uint32_t msq_words_queue_shut(msq_queue *queue) {
     return code;
 }
 
-MSQ_INLINE uint32_t msq_words_open(msq_queue *queue, uint32_t capacity, uint16_t threads) {
+MSQ_INLINE uint32_t msq_words_queue_emptiness(msq_queue *queue) {
+    uint32_t code = MSQ_NO_SEAT;
+    msq_seat *seat = msq_lease_for(queue, 0);
+    if (seat != NULL) {
+        code = msq_checked_words_emptiness(msq_as_words(seat));
+        msq_release(queue, seat);
+    }
+    return code;
+}
+
+MSQ_INLINE uint32_t msq_words_queue_len(msq_queue *queue, msq_length *length) {
+    uint32_t code = MSQ_NO_SEAT;
+    msq_seat *seat = msq_lease_for(queue, 0);
+    if (seat != NULL) {
+        code = msq_checked_words_len(msq_as_words(seat), length);
+        msq_release(queue, seat);
+    }
+    return code;
+}
+
+MSQ_INLINE uint32_t msq_words_open(msq_queue *queue, uint32_t kind, uint32_t capacity, uint16_t threads) {
     msq_words_seat *seats;
     uint8_t *roles;
     uint32_t code = MSQ_MEMORY;
@@ -247,7 +297,7 @@ MSQ_INLINE uint32_t msq_words_open(msq_queue *queue, uint32_t capacity, uint16_t
     }
     if (seats != NULL && roles != NULL && msq_queue_room(queue, roles, threads)) {
         queue->room = capacity + 1 + threads;
-        code = msq_words_create(capacity + 1 + threads, MSQ_MOST_COUNT, roles, threads, seats, threads);
+        code = msq_words_create(kind, capacity + 1 + threads, MSQ_MOST_COUNT, roles, threads, seats, threads);
     }
     for (size_t place = 0; code == MSQ_OK && place < threads; place++) {
         queue->places[place].seat = seats[place].seat;
@@ -321,6 +371,8 @@ MSQ_INLINE uint32_t msq_words_destroy(msq_queue *queue, msq_free_words free_one,
 #define msq_words_push(seat, words, turns) msq_checked_words_push(seat, words, turns)
 #define msq_words_pop(seat, turns, item) msq_checked_words_pop(seat, turns, item)
 #define msq_words_shut(seat, turns) msq_checked_words_shut(seat, turns)
+#define msq_words_emptiness(seat) msq_checked_words_emptiness(seat)
+#define msq_words_len(seat, length) msq_checked_words_len(seat, length)
 #define msq_words_meet(one, other) msq_checked_words_meet(one, other)
 #define msq_words_close(seats, seats_len, items, items_len, rest)                                                      \
     msq_checked_words_close(seats, seats_len, items, items_len, rest)

@@ -1,6 +1,7 @@
 /* Structs of three words that pass through a queue, byte for byte, and what each call of a queue of words answers.
  *
- *     words THREADS VALUES: so many structs pass, by seats of the threads' own and by seats that are leased. Prints a line each.
+ *     words THREADS VALUES: so many structs pass through a queue of each of two kinds, by seats of the threads' own and by seats that
+ *     are leased. Prints a line each.
  */
 #include "msq_words.h"
 
@@ -34,6 +35,7 @@ static bool are(const msq_words *one, const msq_words *other) {
 
 static msq_queue queue;
 static msq_words_seat seats[MOST_THREADS];
+static uint32_t kind;
 static unsigned givers;
 static uint64_t each;
 static bool leases;
@@ -103,8 +105,8 @@ static uint32_t opened(unsigned threads) {
     for (unsigned k = 0; k < threads; k++) {
         roles[k] = k < givers ? MSQ_GIVER : MSQ_TAKER;
     }
-    return leases ? msq_words_open(&queue, 1000, (uint16_t)threads)
-                  : msq_words_create(1000, MSQ_MOST_COUNT, roles, threads, seats, threads);
+    return leases ? msq_words_open(&queue, kind, 1000, (uint16_t)threads)
+                  : msq_words_create(kind, 1000, MSQ_MOST_COUNT, roles, threads, seats, threads);
 }
 
 static void pass(unsigned threads) {
@@ -146,27 +148,38 @@ static void calls_are_refused(void) {
     const msq_words ones = {{UINT64_MAX, UINT64_MAX, UINT64_MAX}}, zeros = {{0, 0, 0}};
     msq_words_seat two[2] = {{{NULL, false}}, {{NULL, false}}};
     msq_item item = {{{7, 7, 7}}, 7};
+    msq_length length = {9, 9};
     expect("a push without a seat", msq_words_push(&two[0], &ones, 8), MSQ_NO_SEAT);
     expect("a pop without a seat", msq_words_pop(&two[0], 8, &item), MSQ_NO_SEAT);
     expect("a shut without a seat", msq_words_shut(&two[0], 8), MSQ_NO_SEAT);
     expect("a meeting without seats", msq_words_meet(&two[0], &two[1]), MSQ_NO_SEAT);
-    expect("no such role", msq_words_create(4, MSQ_MOST_COUNT, none, 2, two, 2), MSQ_BAD_SIZE);
-    expect("one node", msq_words_create(1, MSQ_MOST_COUNT, roles, 2, two, 2), MSQ_BAD_SIZE);
-    expect("no limit", msq_words_create(4, 0, roles, 2, two, 2), MSQ_BAD_SIZE);
-    expect("a role less", msq_words_create(4, MSQ_MOST_COUNT, roles, 1, two, 2), MSQ_BAD_SIZE);
-    expect("a role more", msq_words_create(4, MSQ_MOST_COUNT, roles, 2, two, 1), MSQ_BAD_SIZE);
-    expect("create", msq_words_create(4, MSQ_MOST_COUNT, roles, 2, two, 2), MSQ_OK);
-    expect("create again", msq_words_create(4, MSQ_MOST_COUNT, roles, 2, two, 2), MSQ_IN_USE);
+    expect("a look without a seat", msq_words_emptiness(&two[0]), MSQ_NO_SEAT);
+    expect("a length without a seat", msq_words_len(&two[0], &length), MSQ_NO_SEAT);
+    expect("nothing is written", length.least + length.most, 18);
+    expect("a ring of words", msq_words_create(MSQ_RING, 4, MSQ_MOST_COUNT, roles, 2, two, 2), MSQ_BAD_SIZE);
+    expect("no such kind", msq_words_create(3, 4, MSQ_MOST_COUNT, roles, 2, two, 2), MSQ_BAD_SIZE);
+    expect("no such role", msq_words_create(kind, 4, MSQ_MOST_COUNT, none, 2, two, 2), MSQ_BAD_SIZE);
+    expect("one node", msq_words_create(kind, 1, MSQ_MOST_COUNT, roles, 2, two, 2), MSQ_BAD_SIZE);
+    expect("no limit", msq_words_create(kind, 4, 0, roles, 2, two, 2), MSQ_BAD_SIZE);
+    expect("a role less", msq_words_create(kind, 4, MSQ_MOST_COUNT, roles, 1, two, 2), MSQ_BAD_SIZE);
+    expect("a role more", msq_words_create(kind, 4, MSQ_MOST_COUNT, roles, 2, two, 1), MSQ_BAD_SIZE);
+    expect("create", msq_words_create(kind, 4, MSQ_MOST_COUNT, roles, 2, two, 2), MSQ_OK);
+    expect("create again", msq_words_create(kind, 4, MSQ_MOST_COUNT, roles, 2, two, 2), MSQ_IN_USE);
     expect("no turns", msq_words_push(&two[0], &ones, 0), MSQ_BAD_SIZE);
     expect("a taker pushes", msq_words_push(&two[1], &ones, 8), MSQ_NO_ROLE);
     expect("a giver pops", msq_words_pop(&two[0], 8, &item), MSQ_NO_ROLE);
     expect("a taker shuts", msq_words_shut(&two[1], 8), MSQ_NO_ROLE);
     expect("an empty queue", msq_words_pop(&two[1], 8, &item), MSQ_EMPTY);
+    expect("it is seen", msq_words_emptiness(&two[0]), MSQ_EMPTY);
     expect("the item", item.words.word[2] + item.from, 14);
     expect("ones", msq_words_push(&two[0], &ones, 8), MSQ_OK);
     expect("zeros", msq_words_push(&two[0], &zeros, 8), MSQ_OK);
     expect("a third one", msq_words_push(&two[0], &ones, 8), MSQ_OK);
     expect("no node", msq_words_push(&two[0], &ones, 8), MSQ_NO_NODE);
+    expect("a value is seen", msq_words_emptiness(&two[1]), MSQ_OK);
+    expect("a length", msq_words_len(&two[1], &length), kind == MSQ_TWO_LOCK ? MSQ_UNCOUNTED : MSQ_OK);
+    expect("three at least, or nothing is written", length.least, kind == MSQ_TWO_LOCK ? 9 : 3);
+    expect("and at most", length.most, kind == MSQ_TWO_LOCK ? 9 : 3);
     expect("a pop", msq_words_pop(&two[1], 8, &item), MSQ_OK);
     expect("ones came", are(&item.words, &ones) && item.from == 1, true);
     expect("a pop", msq_words_pop(&two[1], 8, &item), MSQ_OK);
@@ -178,6 +191,7 @@ static void calls_are_refused(void) {
     expect("a push behind it", msq_words_push(&two[0], &ones, 8), MSQ_CLOSED);
     expect("a pop", msq_words_pop(&two[1], 8, &item), MSQ_OK);
     expect("a pop of nothing", msq_words_pop(&two[1], 8, &item), MSQ_CLOSED);
+    expect("it is seen to be shut and empty", msq_words_emptiness(&two[0]), MSQ_CLOSED);
     msq_words_drop(&two[0]);
     msq_words_drop(&two[0]);
     msq_words_drop(&two[1]);
@@ -190,8 +204,8 @@ static void a_queue_is_closed(void) {
     const msq_item nine = {{{9, 9, 9}}, 9};
     msq_item item = nine, items[3] = {nine, nine, nine};
     msq_rest rest = {9, 9, false, true};
-    expect("create", msq_words_create(8, MSQ_MOST_COUNT, roles, 2, one, 2), MSQ_OK);
-    expect("create", msq_words_create(8, MSQ_MOST_COUNT, roles, 1, other, 1), MSQ_OK);
+    expect("create", msq_words_create(kind, 8, MSQ_MOST_COUNT, roles, 2, one, 2), MSQ_OK);
+    expect("create", msq_words_create(kind, 8, MSQ_MOST_COUNT, roles, 1, other, 1), MSQ_OK);
     for (uint64_t number = 1; number <= 3; number++) {
         const msq_words words = words_of(1, number);
         expect("a push", msq_words_push(&one[number % 2], &words, 8), MSQ_OK);
@@ -224,18 +238,25 @@ static void count_one(const msq_words *words, void *count) {
 static void what_is_left_is_freed(void) {
     msq_queue shared = {0};
     msq_words words = words_of(5, 0);
+    msq_length length = {0, 0};
     uint64_t count = 0;
     expect("no queue", msq_words_queue_push(&shared, &words), MSQ_NO_SEAT);
+    expect("no queue to be seen", msq_words_queue_emptiness(&shared), MSQ_NO_SEAT);
+    expect("none with a length", msq_words_queue_len(&shared, &length), MSQ_NO_SEAT);
     expect("no queue", msq_words_destroy(&shared, count_one, &count), MSQ_NO_SEAT);
-    expect("no place", msq_words_open(&shared, 0, 1), MSQ_BAD_SIZE);
-    expect("open", msq_words_open(&shared, 10, 2), MSQ_OK);
-    expect("again", msq_words_open(&shared, 10, 2), MSQ_IN_USE);
+    expect("no place", msq_words_open(&shared, kind, 0, 1), MSQ_BAD_SIZE);
+    expect("a ring", msq_words_open(&shared, MSQ_RING, 10, 2), MSQ_BAD_SIZE);
+    expect("open", msq_words_open(&shared, kind, 10, 2), MSQ_OK);
+    expect("again", msq_words_open(&shared, kind, 10, 2), MSQ_IN_USE);
     expect("empty", msq_words_queue_pop(&shared, &words), MSQ_EMPTY);
     expect("empty", msq_words_queue_pop_wait_for(&shared, &words, MILLISECOND), MSQ_EMPTY);
     for (uint64_t number = 0; number < 10; number++) {
         words = words_of(5, number);
         expect("a push", msq_words_queue_push(&shared, &words), MSQ_OK);
     }
+    expect("they are seen", msq_words_queue_emptiness(&shared), MSQ_OK);
+    expect("their length", msq_words_queue_len(&shared, &length), kind == MSQ_TWO_LOCK ? MSQ_UNCOUNTED : MSQ_OK);
+    expect("ten", length.least + length.most, kind == MSQ_TWO_LOCK ? 0 : 20);
     while (msq_words_queue_push(&shared, &words) == MSQ_OK) {
     }
     expect("full", msq_words_queue_push_wait_for(&shared, &words, MILLISECOND), MSQ_NO_NODE);
@@ -257,15 +278,18 @@ int main(int count, char **arguments) {
             return 1;
         }
     }
-    calls_are_refused();
-    a_queue_is_closed();
-    what_is_left_is_freed();
-    for (int leased = 0; leased < 2; leased++) {
-        leases = leased != 0;
+    for (int run = 0; run < 4; run++) {
+        kind = run < 2 ? MSQ_NON_BLOCKING : MSQ_TWO_LOCK;
+        leases = run % 2 != 0;
+        if (!leases) {
+            calls_are_refused();
+            a_queue_is_closed();
+            what_is_left_is_freed();
+        }
         pass(threads);
         if (wrong == 0) {
-            printf("%s: %u threads, %llu values of three words in order, each once\n", leases ? "leased seats" : "own seats",
-                   threads, (unsigned long long)(each * givers));
+            printf("%s, %s: %u threads, %llu values of three words in order, each once\n", msq_kind_name(kind),
+                   leases ? "leased seats" : "own seats", threads, (unsigned long long)(each * givers));
         }
     }
     for (unsigned giver = 0; giver < givers; giver++) {

@@ -38,7 +38,7 @@ template <> struct is_trivially_relocatable<small> : std::true_type {};
 } // namespace msq
 
 template <class box> static void a_queue_answers(msq::kind kind) {
-    const bool as_words = msq::detail::lies_in_place<box>::value && kind == msq::kind::non_blocking;
+    const bool as_words = msq::detail::lies_in_place<box>::value && kind != msq::kind::ring;
     auto made = msq::queue<box>::create(2, kind, 1);
     expect("create", made.first == MSQ_OK && made.second);
     auto queue = std::move(made.second);
@@ -49,13 +49,13 @@ template <class box> static void a_queue_answers(msq::kind kind) {
     box value(7);
     msq_length length{9, 9};
     msq_remaining left{0, 0, 0, 0};
-    expect("it is empty", queue.emptiness() == (as_words ? MSQ_UNCOUNTED : MSQ_EMPTY));
+    expect("it is empty", queue.emptiness() == MSQ_EMPTY);
     expect("a pop of nothing", queue.try_pop(value) == MSQ_EMPTY && *value == 7);
     expect("a pop that waits for nothing", queue.pop_wait_for(value, milliseconds(1)) == MSQ_EMPTY && *value == 7);
     expect("a push", queue.try_push(box(1)) == MSQ_OK);
-    expect("it holds a value", queue.emptiness() == (as_words ? MSQ_UNCOUNTED : MSQ_OK));
+    expect("it holds a value", queue.emptiness() == MSQ_OK);
     expect("a push that waits", queue.push_wait(box(2)) == MSQ_OK);
-    if (as_words || kind == msq::kind::two_lock) {
+    if (kind == msq::kind::two_lock) {
         expect("no length", queue.len(length) == MSQ_UNCOUNTED && length.least == 9);
     } else {
         expect("two values", queue.len(length) == MSQ_OK && length.least == 2 && length.most == 2);
@@ -76,7 +76,7 @@ template <class box> static void a_queue_answers(msq::kind kind) {
     }
     expect("a pop of a closed queue", queue.try_pop(value) == MSQ_CLOSED && *value == 3);
     expect("one that waits", queue.pop_wait(value) == MSQ_CLOSED && *value == 3);
-    expect("it is closed and empty", queue.emptiness() == (as_words ? MSQ_UNCOUNTED : MSQ_CLOSED));
+    expect("it is closed and empty", queue.emptiness() == MSQ_CLOSED);
 }
 
 template <class box> static void no_queue_answers() {

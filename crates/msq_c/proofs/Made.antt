@@ -42,7 +42,7 @@ module _ (kind nodes limit : ℕ) (numbers : List ℕ) (k : Kind) (roles : List 
 
 -- a new ring, and its seats
 module _ (values limit : ℕ) (numbers : List ℕ) (roles : List RingRole) (those : map ring_role_number roles ≡ numbers)
-    (r : RingQueue) (within : List RingSeat) (q : Queue) (seats : List SeatOf) (is : q ≡ second_of r) (are : seats ≡ map as_second within) where
+    (r : RingQueue (Unit {0})) (within : List (RingSeat (Unit {0}))) (q : Queue) (seats : List SeatOf) (is : q ≡ second_of r) (are : seats ≡ map as_second within) where
   pub ring_new : ring.IsMade values reserve (places_for values (length numbers) limit) roles r within → IsNew 2 values limit numbers q seats
   ring_new made = subst (λ (x : Queue). IsNew 2 values limit numbers x seats) (sym is)
       (refl, record { roles = roles; of_roles = those; within = within; those = are; made = made })

@@ -9,7 +9,7 @@ use Rattle.carriers.specs.declared.rests.RestOf.{RestOf}
 use Rattle.node_arena.specs.declared.ended.Ended.{Ended}
 use Rattle.value_queue.specs.Closing.{LeavesValues}
 use Rattle.value_queue.specs.Telling.{known_by}
-use Rattle.picked_values.specs.Queues.{arena_of, permits_of}
+use Rattle.any_values.specs.Any.{arena_of, permits_of}
 use Rattle.owned_values.specs.Owned.{queue_of, seat_of}
 use Rattle.owned_values.proofs.Shares.{All-unmap}
 use Rattle.msq_c.specs.declared.words.MsqWords.{MsqWords}

@@ -3,6 +3,7 @@ use Rattle.std.proofs.Common.{◌≡◌, ℕ, ◌≤◌, ◌<◌, ◌^◌, List,
 use Rattle.std.specs.List.{All}
 use mathlib.Core.List.{map-map}
 use Rattle.std.proofs.lemmas.List.{length-map}
+use Rattle.line_table.specs.declared.lines.Kind.{Kind}
 use Rattle.history.specs.Limits.{actor_bits}
 use Rattle.node_arena.specs.declared.roles.Role.{Role}
 use Rattle.node_arena.specs.declared.seats.Seat.{Seat}
@@ -10,7 +11,7 @@ use Rattle.node_arena.specs.Plans.{Layout, IsPlanned}
 use Rattle.node_arena.specs.Making.{IsMade}
 use Rattle.value_queue.specs.Queues.{AreNewOf}
 use Rattle.value_queue.specs.Telling.{known_by}
-use Rattle.picked_values.specs.Queues.{arena_of, permits_of}
+use Rattle.any_values.specs.Any.{arena_of, permits_of}
 use Rattle.owned_values.specs.Owned.{queue_of, seat_of}
 use Rattle.owned_values.proofs.Shares.{All-unmap}
 use Rattle.msq_c.proofs.Sizes.{is_split, enough, some_count, few_counts}
@@ -20,7 +21,7 @@ use Rattle.msq_c.specs.declared.word_handles.MsqWordsSeat.{MsqWordsSeat}
 use Rattle.msq_c.specs.Words.{WordQueue}
 use Rattle.msq_c.specs.WordOwn.{Owned, owned_in}
 use Rattle.msq_c.specs.WordSeats.{own_at, known_at}
-use Rattle.msq_c.specs.Made.{Asks, role_number}
+use Rattle.msq_c.specs.Made.{Asks, kind_number, role_number}
 use Rattle.msq_c.specs.WordMade.{AreUnused, ArePut, AreMade, AreAsked, plan_for, seat_at}
 
 pub all_made : (owned : List Owned) (seats : List OwnWords) (slots : List MsqWordsSeat)
@@ -55,13 +56,13 @@ pub made_if : {V E B : Type 0} (out : Result V E) (items : V → List MsqWordsSe
 made_if (Ok v) items value boxes owned e z u p = all_made owned (map value boxes) (items v) (map-map owned_in value boxes ∙ e) z u p
 made_if (Err refusal) items value boxes owned e z u p = tt
 
--- what was asked for, by the numbers of roles
-module _ (nodes limit : ℕ) (numbers : List ℕ) (roles : List Role) (those : map role_number roles ≡ numbers) where
+-- what was asked for, by the numbers of kind and roles
+module _ (kind nodes limit : ℕ) (numbers : List ℕ) (k : Kind) (roles : List Role) (kinds : kind_number k ≡ kind) (those : map role_number roles ≡ numbers) where
   many : length numbers ≡ length roles
   many = ap length (sym those) ∙ length-map roles role_number
 
   -- its sizes are in their ranges
-  pub planned_of : Asks 0 nodes limit numbers → IsPlanned (plan_for nodes limit roles)
+  pub planned_of : Asks kind nodes limit numbers → IsPlanned (plan_for k nodes limit roles)
   planned_of a = record {
     split = is_split nodes;
     nodes = a.sizes.some_nodes;
@@ -74,12 +75,12 @@ module _ (nodes limit : ℕ) (numbers : List ℕ) (roles : List Role) (those : m
 
   -- and handles with its seats are as they were asked for
   pub asked_if : {V E : Type 0} (out : Result V E) (items : V → List MsqWordsSeat)
-      → IfOk out (λ v. AreMade (plan_for nodes limit roles) (items v)) → IfOk out (λ v. AreAsked nodes limit numbers (items v))
-  asked_if (Ok v) items m = record { layout = plan_for nodes limit roles; of_roles = those; planned = refl; made = m }
+      → IfOk out (λ v. AreMade (plan_for k nodes limit roles) (items v)) → IfOk out (λ v. AreAsked kind nodes limit numbers (items v))
+  asked_if (Ok v) items m = record { layout = plan_for k nodes limit roles; of_kind = kinds; of_roles = those; planned = refl; made = m }
   asked_if (Err refusal) items m = tt
 
   -- as many as there are roles
   pub len_if : {V E : Type 0} (out : Result V E) (items : V → List MsqWordsSeat)
-      → IfOk out (λ v. AreMade (plan_for nodes limit roles) (items v)) → IfOk out (λ v. length (items v) ≡ length numbers)
+      → IfOk out (λ v. AreMade (plan_for k nodes limit roles) (items v)) → IfOk out (λ v. length (items v) ≡ length numbers)
   len_if (Ok v) items m = sym (length-map (items v) seat_at) ∙ m.made.count ∙ sym many
   len_if (Err refusal) items m = tt

@@ -12,5 +12,6 @@ pub mod Words
 pub mod WordOwn
 pub mod WordSeats
 pub mod WordEnds
+pub mod WordLooks
 pub mod WordMade
 pub mod WordRests

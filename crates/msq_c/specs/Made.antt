@@ -114,10 +114,10 @@ pub record IsNewLinked (kind nodes limit : ℕ) (roles : List ℕ) (q : PickedQu
   pub made : IsMade layout (picked_arena_of q) within
 
 -- a new ring, and its seats: of the roles with these numbers, and of these sizes
-pub record IsNewRing (values limit : ℕ) (numbers : List ℕ) (q : RingQueue) (seats : List SeatOf) : Type 0 where
+pub record IsNewRing (values limit : ℕ) (numbers : List ℕ) (q : RingQueue (Unit {0})) (seats : List SeatOf) : Type 0 where
   pub roles : List RingRole
   pub of_roles : map ring_role_number roles ≡ numbers
-  pub within : List RingSeat
+  pub within : List (RingSeat (Unit {0}))
   pub those : seats ≡ map as_second within
   pub made : ring.IsMade values reserve (places_for values (length numbers) limit) roles q within
 

@@ -21,11 +21,11 @@ use Rattle.either_queue.specs.Ends.{EitherEnds}
 
 -- a queue of any kind: of nodes, or a ring
 abbrev pub Queue : Type 0
-Queue = EitherQueue PickedQueue RingQueue
+Queue = EitherQueue PickedQueue (RingQueue (Unit {0}))
 
 -- a seat of one
 abbrev pub SeatOf : Type 0
-SeatOf = EitherSeat (Seat (Unit {0})) RingSeat
+SeatOf = EitherSeat (Seat (Unit {0})) (RingSeat (Unit {0}))
 
 -- what an end of one gives beside the rest
 abbrev pub EndOf : Type 0

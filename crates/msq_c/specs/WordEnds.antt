@@ -8,7 +8,7 @@ use Rattle.node_arena.specs.declared.ended.Ended.{Ended}
 use Rattle.node_arena.specs.declared.seats.Seat.{Seat}
 use Rattle.value_queue.specs.declared.closing.Room.{Room}
 use Rattle.value_queue.specs.Closing.{HasRoom, LeavesValues}
-use Rattle.picked_values.specs.Queues.{arena_of, permits_of}
+use Rattle.any_values.specs.Any.{arena_of, permits_of}
 use Rattle.owned_values.specs.declared.closing.EndRoom.{EndRoom}
 use Rattle.owned_values.specs.Unended.{HasEndRoom}
 use Rattle.msq_c.specs.declared.words.MsqWords.{MsqWords}

@@ -1,6 +1,7 @@
 -- The handles of a new queue of words.
-use Rattle.std.specs.Prelude.{◌≡◌, ℕ, ◌⊎◌, ◌≢◌, List, map, length, Result, OnOk, OnErr, IfErr}
+use Rattle.std.specs.Prelude.{◌≡◌, ℕ, ◌<◌, ◌≤◌, ◌⊎◌, ◌≢◌, List, map, length, Result, OnOk, OnErr, IfErr}
 use Rattle.std.specs.List.{All}
+use Rattle.line_table.specs.declared.lines.Kind.{Kind}
 use Rattle.history.specs.declared.refusals.Refusal.TheVariants.{Memory}
 use Rattle.node_arena.specs.declared.seats.Seat.{Seat}
 use Rattle.node_arena.specs.declared.roles.Role.{Role}
@@ -8,30 +9,35 @@ use Rattle.node_arena.specs.Plans.{Layout}
 use Rattle.node_arena.specs.Making.{IsMade}
 use Rattle.value_queue.specs.Queues.{AreNewOf}
 use Rattle.value_queue.specs.Telling.{known_by}
-use Rattle.picked_values.specs.Splits.{limited_plan}
-use Rattle.picked_values.specs.Queues.{arena_of, permits_of}
+use Rattle.any_values.specs.Splits.{limited_plan}
+use Rattle.any_values.specs.Any.{arena_of, permits_of}
 use Rattle.owned_values.specs.Owned.{queue_of, seat_of}
 use Rattle.msq_c.specs.declared.words.MsqWords.{MsqWords}
 use Rattle.msq_c.specs.declared.word_seats.OwnWords.{OwnWords}
 use Rattle.msq_c.specs.declared.word_handles.MsqWordsSeat.{MsqWordsSeat}
 use Rattle.msq_c.specs.declared.troubles.Trouble.{Trouble}
 use Rattle.msq_c.specs.declared.troubles.Trouble.TheVariants.{Refused, BadSize, InUse}
-use Rattle.msq_c.specs.Made.{role_number, count_for, Asks, IsOutOfRange}
+use Rattle.msq_c.specs.Made.{kind_number, role_number, count_for, Asks, IsOutOfRange}
 use Rattle.msq_c.specs.Words.{WordQueue}
 use Rattle.msq_c.specs.WordOwn.{Owned, seat_in}
 use Rattle.msq_c.specs.WordEnds.{AreFull, AreEmpty}
 use Rattle.msq_c.specs.WordSeats.{own_at, known_at, queue_at}
 
--- the plan of a queue of words of so many nodes, of the split for these, with this limit
-abbrev pub plan_for : (nodes limit : ℕ) → List Role → Layout
-plan_for nodes limit roles = limited_plan nodes (count_for nodes limit) roles
+-- the plan of a queue of words of this kind and so many nodes, of the split for these, with this limit
+abbrev pub plan_for : Kind → (nodes limit : ℕ) → List Role → Layout
+plan_for kind nodes limit roles = limited_plan kind nodes (count_for nodes limit) roles
 
--- a queue of words may be made: its numbers are in their ranges, as of a non-blocking queue of numbers, and there is an empty
--- handle for each role
-pub record MayMake (nodes limit : ℕ) (roles : List ℕ) (slots : List MsqWordsSeat) : Type 0 where
+-- one of these numbers is out of its range: that of the kind, of which there are two, or one that a queue of numbers refuses too
+abbrev pub IsNoWordQueue : (kind nodes limit : ℕ) (roles : List ℕ) → Type 0
+IsNoWordQueue kind nodes limit roles = (1 < kind) ⊎ IsOutOfRange kind nodes limit roles
+
+-- a queue of words may be made: its numbers are in their ranges, as of a queue of numbers of one of two kinds, and there is an
+-- empty handle for each role
+pub record MayMake (kind nodes limit : ℕ) (roles : List ℕ) (slots : List MsqWordsSeat) : Type 0 where
   pub empty : AreEmpty slots
   pub count : length roles ≡ length slots
-  pub asks : Asks 0 nodes limit roles
+  pub linked : kind ≤ 1
+  pub asks : Asks kind nodes limit roles
 
 -- these are the seats of one new queue of a plan, each with a share
 pub record AreUnused (z : Layout) (owned : List Owned) : Type 0 where
@@ -57,24 +63,25 @@ pub record AreMade (z : Layout) (slots : List MsqWordsSeat) : Type 0 where
   pub one : All (λ h. queue_at h ≡ queue) slots
   pub unused : AreNewOf (permits_of queue) (map known_at slots)
 
--- these handles have all the seats of one new queue: of the roles with these numbers, and of these sizes
-pub record AreAsked (nodes limit : ℕ) (roles : List ℕ) (slots : List MsqWordsSeat) : Type 0 where
+-- these handles have all the seats of one new queue: of the kind and of the roles with these numbers, and of these sizes
+pub record AreAsked (kind nodes limit : ℕ) (roles : List ℕ) (slots : List MsqWordsSeat) : Type 0 where
   pub layout : Layout
+  pub of_kind : kind_number layout.setup.kind ≡ kind
   pub of_roles : map role_number layout.roles ≡ roles
-  pub planned : layout ≡ plan_for nodes limit layout.roles
+  pub planned : layout ≡ plan_for layout.setup.kind nodes limit layout.roles
   pub made : AreMade layout slots
 
 -- why no queue is made: a handle is full; else a number is out of its range, or there are fewer handles than roles, or more;
 -- else memory was refused
-abbrev pub RefusesCreate : (nodes limit : ℕ) (roles : List ℕ) → List MsqWordsSeat → Trouble → Type 0
-RefusesCreate nodes limit roles slots InUse = AreEmpty slots → ⊥
-RefusesCreate nodes limit roles slots BadSize = AreEmpty slots × ((length roles ≢ length slots) ⊎ IsOutOfRange 0 nodes limit roles)
-RefusesCreate nodes limit roles slots (Refused refusal) = MayMake nodes limit roles slots × (refusal ≡ Memory)
-RefusesCreate nodes limit roles slots _ = ⊥
+abbrev pub RefusesCreate : (kind nodes limit : ℕ) (roles : List ℕ) → List MsqWordsSeat → Trouble → Type 0
+RefusesCreate kind nodes limit roles slots InUse = AreEmpty slots → ⊥
+RefusesCreate kind nodes limit roles slots BadSize = AreEmpty slots × ((length roles ≢ length slots) ⊎ IsNoWordQueue kind nodes limit roles)
+RefusesCreate kind nodes limit roles slots (Refused refusal) = MayMake kind nodes limit roles slots × (refusal ≡ Memory)
+RefusesCreate kind nodes limit roles slots _ = ⊥
 
 -- what the making of a queue answers: the handles are its seats; refused, they are as they were
-pub record AnswersCreate (nodes limit : ℕ) (roles : List ℕ) (slots slots' : List MsqWordsSeat) (out : Result (Unit {0}) Trouble) : Type 0 where
-  pub made : OnOk out (AreAsked nodes limit roles slots')
-  pub might : OnOk out (MayMake nodes limit roles slots)
+pub record AnswersCreate (kind nodes limit : ℕ) (roles : List ℕ) (slots slots' : List MsqWordsSeat) (out : Result (Unit {0}) Trouble) : Type 0 where
+  pub made : OnOk out (AreAsked kind nodes limit roles slots')
+  pub might : OnOk out (MayMake kind nodes limit roles slots)
   pub same : OnErr out (slots' ≡ slots)
-  pub refused : IfErr out (RefusesCreate nodes limit roles slots)
+  pub refused : IfErr out (RefusesCreate kind nodes limit roles slots)

@@ -5,12 +5,9 @@ use Rattle.history.specs.Answers.{StopsPush, StopsPop, StopsShut}
 use Rattle.carriers.specs.Knowledge.{KnownOf}
 use Rattle.carriers.specs.Answers.{PushRefusedOf, PopRefusedOf}
 use Rattle.node_arena.specs.declared.seats.Seat.{Seat}
-use Rattle.arena_queue.specs.Answers.{PopRefused, ShutRefused}
-use Rattle.nonblocking.specs.Worn.{push_worn, pop_worn, shut_worn}
 use Rattle.value_queue.specs.Telling.{known_by}
-use Rattle.value_queue.specs.Pushes.{PushRefused}
-use Rattle.picked_values.specs.contracts.carrier.ValueQueueCarrier.TheImpl as carrier
-use Rattle.picked_values.specs.Queues.{arena_of, permits_of}
+use Rattle.any_values.specs.contracts.any_calls.AnyValuesCarrier.TheImpl as carrier
+use Rattle.any_values.specs.Any.{permits_of, PushCause, PopCause, ShutCause}
 use Rattle.owned_values.specs.declared.seats.ValueSeat.{ValueSeat}
 use Rattle.owned_values.specs.Owned.{queue_of, seat_of}
 use Rattle.msq_c.specs.declared.words.MsqWords.{MsqWords}
@@ -47,7 +44,7 @@ permits_in s = permits_of (queue_in s)
 -- why a push is refused: by the queue, for its cause; or the turns are none, or the seat may not push, and nothing changed
 abbrev pub RefusesPush : OwnWords → OwnWords → (turns : ℕ) → Trouble → Type 0
 RefusesPush s t turns (Refused refusal) =
-    StopsPush refusal × PushRefusedOf (known_in s) refusal (known_in t) × PushRefused push_worn (arena_of (queue_in s)) (seat_in s) (seat_in t) turns refusal
+    StopsPush refusal × PushRefusedOf (known_in s) refusal (known_in t) × PushCause (queue_in s) (seat_in s) (seat_in t) turns refusal
 RefusesPush s t turns BadSize = (turns ≡ 0) × (t ≡ s)
 RefusesPush s t turns NoRole = (MayPush (permits_in s) (known_in s).number → ⊥) × (t ≡ s)
 RefusesPush s t turns _ = ⊥
@@ -55,7 +52,7 @@ RefusesPush s t turns _ = ⊥
 -- why a pop is refused: by the queue, for its cause; or the turns are none, or the seat may not pop, and nothing changed
 abbrev pub RefusesPop : OwnWords → OwnWords → (turns : ℕ) → Trouble → Type 0
 RefusesPop s t turns (Refused refusal) =
-    StopsPop refusal × PopRefusedOf (known_in s) refusal (known_in t) × PopRefused pop_worn (arena_of (queue_in s)) (seat_in s) (seat_in t) turns refusal
+    StopsPop refusal × PopRefusedOf (known_in s) refusal (known_in t) × PopCause (queue_in s) (seat_in s) (seat_in t) turns refusal
 RefusesPop s t turns BadSize = (turns ≡ 0) × (t ≡ s)
 RefusesPop s t turns NoRole = (MayPop (permits_in s) (known_in s).number → ⊥) × (t ≡ s)
 RefusesPop s t turns _ = ⊥
@@ -63,7 +60,7 @@ RefusesPop s t turns _ = ⊥
 -- why a shut is refused: by the queue, for its cause; or the turns are none, or the seat may not push, and nothing changed
 abbrev pub RefusesShut : OwnWords → OwnWords → (turns : ℕ) → Trouble → Type 0
 RefusesShut s t turns (Refused refusal) =
-    StopsShut refusal × PushRefusedOf (known_in s) refusal (known_in t) × ShutRefused shut_worn (arena_of (queue_in s)) (seat_in s) (seat_in t) turns refusal
+    StopsShut refusal × PushRefusedOf (known_in s) refusal (known_in t) × ShutCause (queue_in s) (seat_in s) (seat_in t) turns refusal
 RefusesShut s t turns BadSize = (turns ≡ 0) × (t ≡ s)
 RefusesShut s t turns NoRole = (MayPush (permits_in s) (known_in s).number → ⊥) × (t ≡ s)
 RefusesShut s t turns _ = ⊥

@@ -1,7 +1,7 @@
 -- Values of three words as C passes and gets them.
 use Rattle.std.specs.Prelude.{◌≡◌, Option, Some, Result, Ok, List}
 use Rattle.carriers.specs.declared.items.ItemOf.{ItemOf}
-use Rattle.picked_values.specs.declared.queue.ValueQueue.{ValueQueue}
+use Rattle.any_values.specs.declared.any.AnyValues.{AnyValues}
 use Rattle.msq_c.specs.declared.words.MsqWords.{MsqWords}
 use Rattle.msq_c.specs.declared.words.MsqItem.{MsqItem}
 use Rattle.msq_c.specs.declared.troubles.Trouble.{Trouble}
@@ -9,7 +9,7 @@ use Rattle.msq_c.specs.Values.{AreLaid}
 
 -- a queue of such values
 abbrev pub WordQueue : Type 0
-WordQueue = ValueQueue MsqWords
+WordQueue = AnyValues MsqWords
 
 -- what C gets of a value: its three words, just as they were pushed, and who pushed them
 abbrev pub item_of : ItemOf MsqWords → MsqItem

@@ -28,6 +28,7 @@ mod word_calls;
 mod word_ending;
 mod word_exports;
 mod word_handles;
+mod word_looks;
 mod word_making;
 mod word_rests;
 mod word_seats;

@@ -14,8 +14,8 @@ use owned_seats::Look;
 use ring_queue::Emptiness;
 use std::alloc::Global;
 
-// What a queue of nodes was found to be, as one of any kind.
-fn widened(found: Found) -> Emptiness
+/// What a queue of nodes was found to be, as one of any kind.
+pub(crate) fn widened(found: Found) -> Emptiness
     ensures { result ≡ looks.widened found }
 {
     match found {

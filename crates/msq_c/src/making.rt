@@ -31,8 +31,8 @@ const RING: u32 = 2;
 /// How many places a seat of a ring may have in reserve.
 const RESERVE: u32 = 32;
 
-// The kind of this number.
-fn kind_of(number: u32) -> Kind
+/// The kind of this number.
+pub(crate) fn kind_of(number: u32) -> Kind
     requires { number ≤ 1 }
     ensures { kind_number result ≡ number }
 {

@@ -4,7 +4,7 @@ ghost use Rattle.std.specs.List.{All};
 ghost use Rattle.carriers.specs.Closing.{ClosesOf};
 ghost use Rattle.value_queue.specs.Telling.{known_by};
 ghost use Rattle.value_queue.specs.Closing.{LeavesValues};
-ghost use Rattle.picked_values.specs.Queues.{arena_of, permits_of};
+ghost use Rattle.any_values.specs.Any.{arena_of, permits_of};
 ghost use Rattle.owned_values.specs.Owned.{queue_of, seat_of};
 ghost use Rattle.msq_c.specs.Ends.{IsMemory};
 ghost use Rattle.msq_c.specs.WordSeats.{is_full, own_at, queue_at};
@@ -15,11 +15,11 @@ ghost use Rattle.msq_c.specs.WordEnds.{ClosesHandles, RefusesClose};
 use crate::troubles::Trouble;
 use crate::word_handles::MsqWordsSeat;
 use crate::words::MsqWords;
+use any_values::AnyValues;
 use carriers::RestOf;
 use history::Refusal;
 use node_arena::Ended;
 use owned_values::{EndRoom, ValueSeat};
-use picked_values::ValueQueue;
 use std::alloc::Global;
 
 // Whether each handle is full.
@@ -57,7 +57,7 @@ fn room_at(
     alloc: Global,
     slot: &mut MsqWordsSeat,
     others: usize,
-) -> Result<EndRoom<ValueQueue<MsqWords>>, Trouble>
+) -> Result<EndRoom<AnyValues<MsqWords>>, Trouble>
     requires { is_full slot.old ≡ true }
     ensures full { is_full slot.new ≡ true }
     ensures seat { own_at slot.new ≡ own_at slot.old }
@@ -74,7 +74,7 @@ fn room_at(
 fn room_of(
     alloc: Global,
     slots: &mut [MsqWordsSeat],
-) -> Result<EndRoom<ValueQueue<MsqWords>>, Trouble>
+) -> Result<EndRoom<AnyValues<MsqWords>>, Trouble>
     requires { AreFull slots.old }
     ensures seats { KeepSeats slots.old slots.new }
     ensures room { IfOk result (HasRoomOf slots.old) }
@@ -106,7 +106,7 @@ fn empties(alloc: Global, like: &[MsqWordsSeat]) -> Result<Vec<MsqWordsSeat>, Tr
 fn take_all(
     alloc: Global,
     slots: &mut [MsqWordsSeat],
-) -> Result<Vec<ValueSeat<ValueQueue<MsqWords>>>, Trouble>
+) -> Result<Vec<ValueSeat<AnyValues<MsqWords>>>, Trouble>
     requires { AreFull slots.old }
     ensures taken { IfOk result (λ owned. owned.items ≡ map owned_at slots.old) }
     ensures empty { OnOk result (AreEmpty slots.new) }
@@ -125,9 +125,9 @@ fn take_all(
 
 // Ends the queue of these seats, the last one and others.
 fn ended(
-    room: EndRoom<ValueQueue<MsqWords>>,
-    last: ValueSeat<ValueQueue<MsqWords>>,
-    others: Vec<ValueSeat<ValueQueue<MsqWords>>>,
+    room: EndRoom<AnyValues<MsqWords>>,
+    last: ValueSeat<AnyValues<MsqWords>>,
+    others: Vec<ValueSeat<AnyValues<MsqWords>>>,
 ) -> Result<(RestOf<MsqWords>, Ended<MsqWords>), Trouble>
     requires room { HasAnyRoom (queue_of last) (length others.items) room }
     requires others { All (λ s. queue_of s ≡ queue_of last) others.items }

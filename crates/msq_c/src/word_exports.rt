@@ -1,34 +1,42 @@
 //! The exports of queues of words: a value is three words, which come out just as they went in.
 ghost use Rattle.std.specs.Prelude.{◌≡◌, false};
 ghost use Rattle.msq_c.specs.Codes.{Tells, done_code, pop_code};
+ghost use Rattle.msq_c.specs.Looks.{emptiness_code, len_code, IsLenWritten};
 ghost use Rattle.msq_c.specs.Words.{IsItemWritten};
 ghost use Rattle.msq_c.specs.WordSeats.{AnswersPush, AnswersPop, AnswersShut, AnswersMeet, MayMeet, is_full};
+ghost use Rattle.msq_c.specs.WordLooks.{TellsEmptiness, TellsLen, AnswersLook};
 ghost use Rattle.msq_c.specs.WordMade.{AnswersCreate};
 ghost use Rattle.msq_c.specs.WordEnds.{AreOfOne};
 ghost use Rattle.msq_c.specs.WordRests.{AnswersClose};
 
+use crate::bounds::MsqLen;
+use crate::looks::code_of_emptiness;
 use crate::rests::MsqRest;
-use crate::troubles::{EMPTY, code};
+use crate::troubles::{EMPTY, UNCOUNTED, code};
 use crate::word_handles::MsqWordsSeat;
+use crate::word_looks::{ForCount, ForWords, look};
 use crate::words::{MsqItem, MsqWords};
 use crate::{word_calls, word_ending, word_making, word_rests};
 use std::alloc::Global;
 
-/// Makes a queue of words, non-blocking, and fills as many handles as there are roles: 1 pushes, 2 pops, 3 does both.
+/// Makes a queue of words of a kind, 0 the non-blocking one and 1 the two-lock one, and fills as many handles as there are
+/// roles: 1 pushes, 2 pops, 3 does both.
 #[unsafe(no_mangle)]
 pub extern "C" fn msq_words_create(
     alloc: Global,
+    kind: u32,
     nodes: u32,
     limit: u64,
     roles: &[u8],
     slots: &mut [MsqWordsSeat],
 ) -> u32
-    //= library/words_create: A queue of words made from C tells as `msq_create` does of the non-blocking kind; its handles
-    //=   are then all the seats, unused and in order, of one queue of values of three words. Refused, no handle changed.
+    //= library/words_create: A queue of words made from C tells as `msq_create` does of the non-blocking and the two-lock
+    //=   kind, and of no other; its handles are then all the seats, unused and in order, of one queue of values of three words,
+    //=   of that kind. Refused, no handle changed.
     ensures { Tells done_code result
-        (AnswersCreate nodes limit roles.now slots.old slots.new) }
+        (AnswersCreate kind nodes limit roles.now slots.old slots.new) }
 {
-    code(word_making::create(alloc, nodes, limit, roles, slots))
+    code(word_making::create(alloc, kind, nodes, limit, roles, slots))
 }
 
 /// Pushes three words at the back, in so many turns at most, 1 or more.
@@ -93,6 +101,34 @@ pub extern "C" fn msq_words_meet(
     ensures { Tells done_code result (AnswersMeet one.old other.old one.new other.new) }
 {
     code(word_calls::meet(alloc, one, other))
+}
+
+/// Whether the queue is empty, and shut too: by the code that a pop at that moment is answered.
+#[unsafe(no_mangle)]
+pub extern "C" fn msq_words_emptiness(alloc: Global, slot: &mut MsqWordsSeat) -> u32
+    //= library/words_looks: A look from C at whether a queue of words is empty, and one at its length, tell what those of its
+    //=   queue do, as the looks at a queue of numbers; `MSQ_UNCOUNTED` exactly of a two-lock queue. Each is refused exactly
+    //=   where the handle is empty, with no change, and else keeps it full, of the same queue.
+    ensures { Tells emptiness_code result (AnswersLook TellsEmptiness slot.old slot.new) }
+{
+    code_of_emptiness(look::<ForWords>(alloc, slot))
+}
+
+/// Bounds of how many values the queue holds, which are written where they can be told: not of the two-lock queue.
+#[unsafe(no_mangle)]
+pub extern "C" fn msq_words_len(alloc: Global, slot: &mut MsqWordsSeat, len: &mut MsqLen) -> u32
+    //= library/words_looks
+    ensures { Tells len_code result
+        (λ out. AnswersLook TellsLen slot.old slot.new out × IsLenWritten out len.old len.new) }
+{
+    match look::<ForCount>(alloc, slot) {
+        Ok(Some(found)) => {
+            *len = found;
+            0
+        }
+        Ok(None) => UNCOUNTED,
+        Err(refusal) => refusal.code(),
+    }
 }
 
 /// Ends the queue of these handles, which are all that have a share of it, and empties them. The words left are written from

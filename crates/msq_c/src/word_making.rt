@@ -1,5 +1,5 @@
 //! A new queue of words, and a handle for each of its seats.
-ghost use Rattle.std.specs.Prelude.{◌≡◌, map, length, IfOk, IfErr, OnOk, OnErr, MatchBool};
+ghost use Rattle.std.specs.Prelude.{◌≡◌, ◌≤◌, map, length, IfOk, IfErr, OnOk, OnErr, MatchBool};
 ghost use Rattle.node_arena.specs.Plans.{Layout, IsPlanned};
 ghost use Rattle.msq_c.specs.Ends.{IsMemory};
 ghost use Rattle.msq_c.specs.Made.{Asks};
@@ -7,34 +7,37 @@ ghost use Rattle.msq_c.specs.WordOwn.{owned_in};
 ghost use Rattle.msq_c.specs.WordEnds.{AreEmpty};
 ghost use Rattle.msq_c.specs.WordMade.{plan_for, MayMake, AreUnused, AreMade, AreAsked, ArePut, RefusesCreate};
 
-use crate::making::{Spacer, are_asked, count_for, hand_over, roles_of, spacer_for};
+use crate::making::{Spacer, are_asked, count_for, hand_over, kind_of, roles_of, spacer_for};
 use crate::troubles::Trouble;
 use crate::word_handles::MsqWordsSeat;
 use crate::word_seats::OwnWords;
 use crate::words::MsqWords;
+use any_values::AnyValues;
 use history::Refusal;
+use line_table::Kind;
 use node_arena::Role;
 use owned_values::{ValueSeat, deal};
-use picked_values::ValueQueue;
 use std::alloc::Global;
 
-/// The number of the non-blocking kind, which a queue of words is of.
-const NON_BLOCKING: u32 = 0;
+/// The number of the last kind that a queue of words can be of.
+const TWO_LOCK: u32 = 1;
 
 // A new queue's seats, each with a share, and what lies between them and its words.
 fn seats_of(
     alloc: Global,
+    kind: Kind,
     nodes: u32,
     limit: u64,
     roles: &[Role],
-) -> Result<(Vec<ValueSeat<ValueQueue<MsqWords>>>, Spacer), Trouble>
-    requires { IsPlanned (plan_for nodes limit roles.now) }
+) -> Result<(Vec<ValueSeat<AnyValues<MsqWords>>>, Spacer), Trouble>
+    requires { IsPlanned (plan_for kind nodes limit roles.now) }
     ensures unused { IfOk result
-        (λ made. AreUnused (plan_for nodes limit roles.now) made.0.items) }
+        (λ made. AreUnused (plan_for kind nodes limit roles.now) made.0.items) }
     ensures only_memory { IfErr result IsMemory }
 {
     let count = count_for(nodes, limit);
-    let Ok((queue, seats)) = ValueQueue::<MsqWords>::with_limit(alloc, nodes, count, roles) else {
+    let Ok((queue, seats)) = AnyValues::<MsqWords>::with_limit(alloc, kind, nodes, count, roles)
+    else {
         return Err(Trouble::Refused(Refusal::Memory));
     };
     let spacer = spacer_for(alloc, nodes)?;
@@ -47,7 +50,7 @@ fn seats_of(
 // Each seat in a block of its own.
 fn boxed(
     alloc: Global,
-    owned: Vec<ValueSeat<ValueQueue<MsqWords>>>,
+    owned: Vec<ValueSeat<AnyValues<MsqWords>>>,
 ) -> Result<Vec<Box<OwnWords, Global>>, Trouble>
     ensures boxes { IfOk result (λ boxes. map (λ b. owned_in b.value) boxes.items ≡ owned.items) }
     ensures only_memory { IfErr result IsMemory }
@@ -82,7 +85,7 @@ fn sealed(alloc: Global, boxes: Vec<Box<OwnWords, Global>>) -> Result<Vec<MsqWor
 // Handles with the seats of a new queue.
 fn made(
     alloc: Global,
-    owned: Vec<ValueSeat<ValueQueue<MsqWords>>>,
+    owned: Vec<ValueSeat<AnyValues<MsqWords>>>,
 ) -> Result<Vec<MsqWordsSeat>, Trouble>
     ensures made { (z : Layout) → AreUnused z owned.items → IfOk result (λ h. AreMade z h.items) }
     ensures only_memory { IfErr result IsMemory }
@@ -94,17 +97,20 @@ fn made(
 // Handles with the seats of a new queue, as these numbers ask for it.
 fn handles_of(
     alloc: Global,
+    kind: u32,
     nodes: u32,
     limit: u64,
     numbers: &[u8],
 ) -> Result<Vec<MsqWordsSeat>, Trouble>
-    requires { Asks 0 nodes limit numbers.now }
-    ensures made { IfOk result (λ h. AreAsked nodes limit numbers.now h.items) }
+    requires asks { Asks kind nodes limit numbers.now }
+    requires linked { kind ≤ 1 }
+    ensures made { IfOk result (λ h. AreAsked kind nodes limit numbers.now h.items) }
     ensures len { IfOk result (λ h. length h.items ≡ length numbers.now) }
     ensures only_memory { IfErr result IsMemory }
 {
     let roles = roles_of(alloc, numbers)?;
-    let (owned, _spacer) = seats_of(alloc, nodes, limit, &roles)?;
+    let kind = kind_of(kind);
+    let (owned, _spacer) = seats_of(alloc, kind, nodes, limit, &roles)?;
     made(alloc, owned)
 }
 
@@ -118,23 +124,24 @@ fn all_are_empty(slots: &[MsqWordsSeat]) -> bool
 /// A new queue, whose seats fill these handles, one for each role.
 pub(crate) fn create(
     alloc: Global,
+    kind: u32,
     nodes: u32,
     limit: u64,
     roles: &[u8],
     slots: &mut [MsqWordsSeat],
 ) -> Result<(), Trouble>
-    ensures made { OnOk result (AreAsked nodes limit roles.now slots.new) }
-    ensures might { OnOk result (MayMake nodes limit roles.now slots.old) }
+    ensures made { OnOk result (AreAsked kind nodes limit roles.now slots.new) }
+    ensures might { OnOk result (MayMake kind nodes limit roles.now slots.old) }
     ensures same { OnErr result (slots.new ≡ slots.old) }
-    ensures refused { IfErr result (RefusesCreate nodes limit roles.now slots.old) }
+    ensures refused { IfErr result (RefusesCreate kind nodes limit roles.now slots.old) }
 {
     if !all_are_empty(slots) {
         return Err(Trouble::InUse);
     }
-    if roles.len() != slots.len() || !are_asked(NON_BLOCKING, nodes, limit, roles) {
+    if kind > TWO_LOCK || roles.len() != slots.len() || !are_asked(kind, nodes, limit, roles) {
         return Err(Trouble::BadSize);
     }
-    let mut handles = handles_of(alloc, nodes, limit, roles)?;
+    let mut handles = handles_of(alloc, kind, nodes, limit, roles)?;
     hand_over(slots, &mut handles);
     Ok(())
 }

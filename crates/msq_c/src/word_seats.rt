@@ -5,16 +5,16 @@ ghost use Rattle.carriers.specs.Answers.{PushedOf, PopAnswersOf, DidShutOf, Meet
 use crate::own_seats::APART;
 use crate::troubles::Trouble;
 use crate::words::MsqWords;
+use any_values::AnyValues;
 use carriers::ItemOf;
-use owned_values::{EndRoom, ValueSeat};
-use picked_values::ValueQueue;
+use owned_values::{EndRoom, Look, ValueSeat};
 use std::alloc::Global;
 
 /// A seat of a queue of words, with its share of the queue, which lies first: include/msq_words.h compares these.
 #[repr(C)]
 #[derive(Drop)]
 pub struct OwnWords {
-    owned: ValueSeat<ValueQueue<MsqWords>>,
+    owned: ValueSeat<AnyValues<MsqWords>>,
     apart: [u64; APART],
 }
 
@@ -24,7 +24,7 @@ impl OwnWords {
     ghost use Rattle.msq_c.specs.Ends.{IsMemory};
     ghost use Rattle.msq_c.specs.WordEnds.{HasAnyRoom};
 
-    pub(crate) fn new(owned: ValueSeat<ValueQueue<MsqWords>>) -> OwnWords
+    pub(crate) fn new(owned: ValueSeat<AnyValues<MsqWords>>) -> OwnWords
         ensures { owned_in result ≡ owned }
     {
         OwnWords {
@@ -33,7 +33,7 @@ impl OwnWords {
         }
     }
 
-    pub(crate) fn into_owned(self) -> ValueSeat<ValueQueue<MsqWords>>
+    pub(crate) fn into_owned(self) -> ValueSeat<AnyValues<MsqWords>>
         ensures { result ≡ owned_in self }
     {
         let OwnWords { owned, apart: _ } = self;
@@ -102,11 +102,18 @@ impl OwnWords {
         self.owned.meet(&mut other.owned)
     }
 
+    pub(crate) fn look<L: Look<AnyValues<MsqWords>>>(&mut self) -> L::Told
+        ensures queue { queue_in self.new ≡ queue_in self.old }
+        ensures told { L.tells (queue_in self.old) (known_in self.old) result (known_in self.new) }
+    {
+        self.owned.look::<L>()
+    }
+
     pub(crate) fn room(
         &self,
         alloc: Global,
         others: usize,
-    ) -> Result<EndRoom<ValueQueue<MsqWords>>, Trouble>
+    ) -> Result<EndRoom<AnyValues<MsqWords>>, Trouble>
         ensures room { IfOk result (HasAnyRoom (queue_in self.now) others) }
         ensures only_memory { IfErr result IsMemory }
     {

@@ -3,8 +3,10 @@
 
 mod closing;
 mod dealing;
+mod looks;
 mod seats;
 
 pub use closing::{EndRoom, Unended};
 pub use dealing::deal;
+pub use looks::Look;
 pub use seats::ValueSeat;

@@ -14,8 +14,8 @@
 //! assert_eq!(names, ["one", "two"]);
 //! ```
 //!
-//! A value lies in a box of its own. Values of one thread come in its order, each once, and what is left is dropped with the
-//! last end. A channel lasts for years, as docs/QUEUES.md says of its queue; one that is worn out disconnects.
+//! A value of up to 24 bytes, as a `String` or a `Box`, lies in the channel itself, any other in a box of its own. Values of one
+//! thread come in its order, each once, and what is left is dropped with the last end. A channel lasts for years, as docs/QUEUES.md says of its queue; one that is worn out disconnects.
 use crate::bells::{after, Deadline};
 use crate::pooled::{Pooled, THREADS};
 use crate::{Kind, Refusal};

@@ -26,6 +26,7 @@ mod boxes;
 pub mod channel;
 mod leases;
 mod looks;
+mod passing;
 mod pooled;
 mod queues;
 mod raw;

@@ -1,5 +1,7 @@
-//! A queue of boxes that any thread calls: each call leases a seat for as long as it looks, and sleeps without one.
+//! A queue of values that any thread calls: each call leases a seat for as long as it looks, and sleeps without one.
 use crate::bells::{Bells, Deadline, TURNS};
+use crate::passing::Passing;
+use crate::raw::Words;
 use crate::{answer, raw, Kind, Length, Refusal};
 use std::cell::{Cell, UnsafeCell};
 use std::marker::PhantomData;
@@ -17,17 +19,18 @@ struct Place {
     seat: UnsafeCell<raw::Seat>,
 }
 
-/// The queue, and the boxes in it.
+/// The queue, and the values in it.
 pub struct Pooled<T> {
     places: Vec<Place>,
     bells: Bells,
     nodes: u32,
     capacity: u32,
+    passing: Passing,
     // (a cell, since what one thread pushes is just what another gets)
-    owns: PhantomData<Cell<Box<T>>>,
+    owns: PhantomData<Cell<T>>,
 }
 
-// SAFETY: a seat may go to another thread, and so may the boxes in the queue.
+// SAFETY: a seat may go to another thread, and so may the values in the queue.
 unsafe impl<T: Send> Send for Pooled<T> {}
 // SAFETY: a seat is used by the call alone that leased it, and a value goes from one thread to another, to whom alone it is then.
 unsafe impl<T: Send> Sync for Pooled<T> {}
@@ -64,7 +67,9 @@ impl<T> Pooled<T> {
             return Err(Refusal::BadSize);
         }
         let roles = vec![raw::BOTH; usize::from(threads)];
-        let places = raw::seats(kind, nodes, raw::MOST_COUNT, &roles)?
+        let passing = Passing::of::<T>(kind);
+        let places = passing
+            .seats(kind, nodes, &roles)?
             .into_iter()
             .map(|seat| Place {
                 leased: AtomicBool::new(false),
@@ -76,6 +81,7 @@ impl<T> Pooled<T> {
             bells: Bells::default(),
             nodes,
             capacity,
+            passing,
             owns: PhantomData,
         })
     }
@@ -103,38 +109,44 @@ impl<T> Pooled<T> {
         call(leased.place.seat.get())
     }
 
-    fn push_once(&self, address: u64) -> Result<(), Refusal> {
+    fn push_once(&self, words: &Words) -> Result<(), Refusal> {
         // SAFETY: the seat is full, and leased by this call alone.
-        let code = self.call(|seat| unsafe { raw::msq_try_push(seat, address, TURNS) });
+        let code = self.call(|seat| unsafe { self.passing.push(seat, words, TURNS) });
         self.bells.pushed(code)
     }
 
     fn pop_once(&self) -> Result<Option<T>, Refusal> {
-        let mut value = raw::Value { body: 0, from: 0 };
+        let mut words = Words::of(());
         // SAFETY: as for a push.
-        let code = self.call(|seat| unsafe { raw::msq_try_pop(seat, TURNS, &mut value) });
+        let code = self.call(|seat| unsafe { self.passing.pop(seat, &mut words, TURNS) });
         self.bells.popped(code);
         if code == raw::EMPTY {
             return Ok(None);
         }
         answer(code)?;
-        Ok(Some(unboxed(value.body)))
+        Ok(Some(self.unpacked(words)))
     }
 
-    // Pushes a box by its address; it comes back where that is refused.
+    // The value of words that were pushed, and popped once, or not pushed.
+    fn unpacked(&self, words: Words) -> T {
+        // SAFETY: the queue has such words alone as `packed` gave, each is popped once, and their type is the queue's.
+        unsafe { self.passing.unpacked(words) }
+    }
+
+    // Pushes a value, which comes back where that is refused.
     fn push(
         &self,
         value: T,
-        push: impl FnOnce(u64) -> Result<(), Refusal>,
+        push: impl FnOnce(&Words) -> Result<(), Refusal>,
     ) -> Result<(), (Refusal, T)> {
-        let address = Box::into_raw(Box::new(value)) as usize as u64;
-        push(address).map_err(|refusal| (refusal, unboxed(address)))
+        let words = self.passing.packed(value);
+        push(&words).map_err(|refusal| (refusal, self.unpacked(words)))
     }
 
     /// Pushes a value, and tries again while others are in the way; refused `NoNode` where the queue is full.
     pub fn try_push(&self, value: T) -> Result<(), (Refusal, T)> {
-        self.push(value, |address| loop {
-            match self.push_once(address) {
+        self.push(value, |words| loop {
+            match self.push_once(words) {
                 Err(Refusal::Busy) => thread::yield_now(),
                 answer => return answer,
             }
@@ -143,11 +155,11 @@ impl<T> Pooled<T> {
 
     /// Pushes a value, and sleeps while the queue is full, until then; refused `NoNode` after it.
     pub fn push_until(&self, value: T, until: Deadline) -> Result<(), (Refusal, T)> {
-        self.push(value, |address| {
+        self.push(value, |words| {
             let pushed = self
                 .bells
                 .nodes()
-                .wait(until, || match self.push_once(address) {
+                .wait(until, || match self.push_once(words) {
                     Err(Refusal::NoNode) => Ok(None),
                     answer => answer.map(Some),
                 })?;
@@ -174,7 +186,7 @@ impl<T> Pooled<T> {
     pub fn shut(&self) -> Result<(), Refusal> {
         loop {
             // SAFETY: as for a push.
-            let code = self.call(|seat| unsafe { raw::msq_try_shut(seat, TURNS) });
+            let code = self.call(|seat| unsafe { self.passing.shut(seat, TURNS) });
             match self.bells.shut(code) {
                 Err(Refusal::Busy) => thread::yield_now(),
                 answer => return answer,
@@ -186,7 +198,7 @@ impl<T> Pooled<T> {
     pub fn len(&self) -> Option<Length> {
         let mut len = raw::Length { least: 0, most: 0 };
         // SAFETY: as for a push.
-        let code = self.call(|seat| unsafe { raw::msq_len(seat, &mut len) });
+        let code = self.call(|seat| unsafe { self.passing.len(seat, &mut len) });
         (code == raw::OK).then_some(Length {
             least: len.least,
             most: len.most,
@@ -197,18 +209,12 @@ impl<T> Pooled<T> {
     pub fn is_empty(&self) -> bool {
         loop {
             // SAFETY: as for a push.
-            match self.call(|seat| unsafe { raw::msq_emptiness(seat) }) {
+            match self.call(|seat| unsafe { self.passing.emptiness(seat) }) {
                 raw::BUSY => thread::yield_now(),
                 code => return code != raw::OK,
             }
         }
     }
-}
-
-// The box of an address that was pushed, and popped once, or not pushed.
-fn unboxed<T>(address: u64) -> T {
-    // SAFETY: the queue has addresses alone that `into_raw` gave, each is popped once, and its type is the queue's.
-    *unsafe { Box::from_raw(address as usize as *mut T) }
 }
 
 impl<T> Drop for Pooled<T> {
@@ -219,12 +225,12 @@ impl<T> Drop for Pooled<T> {
         // (where a word is worn pops end before the queue is empty, but not the close)
         let places = self.places.drain(..);
         let mut seats: Vec<raw::Seat> = places.map(|place| place.seat.into_inner()).collect();
-        for value in raw::closed(&mut seats, self.nodes) {
-            drop(unboxed::<T>(value.body));
+        for words in self.passing.closed(&mut seats, self.nodes) {
+            drop(self.unpacked(words));
         }
         for seat in &mut seats {
             // SAFETY: the seat is what the last call left, and in no call.
-            unsafe { raw::msq_drop(seat) }
+            unsafe { self.passing.drop(seat) }
         }
     }
 }

@@ -6,8 +6,8 @@ use std::fmt;
 use std::time::Duration;
 
 /// A bounded queue of values of any type, as crossbeam's `ArrayQueue`, shared by reference or in an `Arc`. It can be closed, and
-/// calls may sleep. Each value is in a box of its own; those of one thread come in its order, each once, and what is left is dropped
-/// with the queue.
+/// calls may sleep. A value of up to 24 bytes, as a `String` or a `Box`, lies in the queue itself, any other and each in a ring in a
+/// box of its own. Those of one thread come in its order, each once, and what is left is dropped with the queue.
 ///
 /// ```
 /// let queue = msq::Queue::new(8).unwrap();

@@ -1,5 +1,6 @@
-//! The functions of include/msq.h, and two that fit them to Rust.
+//! The functions of include/msq.h and include/msq_words.h, and some that fit them to Rust.
 use crate::{answer, Kind, Refusal};
+use std::mem::MaybeUninit;
 
 pub const OK: u32 = 0;
 pub const NO_NODE: u32 = 1;
@@ -38,6 +39,47 @@ impl Seat {
 pub struct Value {
     pub body: u64,
     pub from: u16,
+}
+
+/// Three words, with the bytes of a value of any type that they have room for; the others are zeros.
+#[repr(transparent)]
+#[derive(Clone, Copy)]
+pub struct Words(MaybeUninit<[u64; 3]>);
+
+impl Words {
+    pub fn of<V>(value: V) -> Words {
+        let mut words = Words(MaybeUninit::zeroed());
+        assert!(std::mem::size_of::<V>() <= std::mem::size_of::<Words>());
+        // SAFETY: there is room for it, and what needs no greater alignment than a word is written.
+        unsafe { words.0.as_mut_ptr().cast::<V>().write_unaligned(value) };
+        words
+    }
+
+    /// The value whose bytes they have, which is the caller's to take once.
+    pub unsafe fn take<V>(&self) -> V {
+        self.0.as_ptr().cast::<V>().read_unaligned()
+    }
+
+    /// The address that they have.
+    pub unsafe fn address(&self) -> u64 {
+        self.take()
+    }
+}
+
+#[repr(C)]
+#[derive(Clone, Copy)]
+pub struct Item {
+    pub words: Words,
+    pub from: u16,
+}
+
+impl Default for Item {
+    fn default() -> Item {
+        Item {
+            words: Words::of(()),
+            from: 0,
+        }
+    }
 }
 
 #[repr(C)]
@@ -87,10 +129,41 @@ extern "C" {
         rest: *mut Rest,
     ) -> u32;
     pub fn msq_drop(seat: *mut Seat);
+
+    pub fn msq_words_create(
+        kind: u32,
+        nodes: u32,
+        limit: u64,
+        roles: *const u8,
+        roles_len: usize,
+        seats: *mut Seat,
+        seats_len: usize,
+    ) -> u32;
+    pub fn msq_words_push(seat: *mut Seat, words: *const Words, turns: u32) -> u32;
+    pub fn msq_words_pop(seat: *mut Seat, turns: u32, item: *mut Item) -> u32;
+    pub fn msq_words_shut(seat: *mut Seat, turns: u32) -> u32;
+    pub fn msq_words_emptiness(seat: *mut Seat) -> u32;
+    pub fn msq_words_len(seat: *mut Seat, length: *mut Length) -> u32;
+    pub fn msq_words_close(
+        seats: *mut Seat,
+        seats_len: usize,
+        items: *mut Item,
+        items_len: usize,
+        rest: *mut Rest,
+    ) -> u32;
+    pub fn msq_words_drop(seat: *mut Seat);
 }
 
-/// The seats of a new queue, one for each role.
-pub fn seats(kind: Kind, nodes: u32, limit: u64, roles: &[u8]) -> Result<Vec<Seat>, Refusal> {
+type Create = unsafe extern "C" fn(u32, u32, u64, *const u8, usize, *mut Seat, usize) -> u32;
+type Close<V> = unsafe extern "C" fn(*mut Seat, usize, *mut V, usize, *mut Rest) -> u32;
+
+fn created(
+    create: Create,
+    kind: Kind,
+    nodes: u32,
+    limit: u64,
+    roles: &[u8],
+) -> Result<Vec<Seat>, Refusal> {
     let mut seats: Vec<Seat> = roles.iter().map(|_| Seat::EMPTY).collect();
     let kind = match kind {
         Kind::NonBlocking => NON_BLOCKING,
@@ -99,7 +172,7 @@ pub fn seats(kind: Kind, nodes: u32, limit: u64, roles: &[u8]) -> Result<Vec<Sea
     };
     // SAFETY: both slices are as long as is said, and each seat is empty.
     let code = unsafe {
-        msq_create(
+        create(
             kind,
             nodes,
             limit,
@@ -113,17 +186,16 @@ pub fn seats(kind: Kind, nodes: u32, limit: u64, roles: &[u8]) -> Result<Vec<Sea
     Ok(seats)
 }
 
-/// Ends the queue of these seats, which are all that it has: what is left in it; nothing where there is no memory.
-pub fn closed(seats: &mut [Seat], nodes: u32) -> Vec<Value> {
+fn left<V>(close: Close<V>, seats: &mut [Seat], nodes: u32, none: impl Fn() -> V) -> Vec<V> {
     let mut values = Vec::new();
     if values.try_reserve_exact(nodes as usize).is_err() {
         return values;
     }
-    values.resize_with(nodes as usize, || Value { body: 0, from: 0 });
+    values.resize_with(nodes as usize, none);
     let mut rest = Rest::default();
     // SAFETY: each seat is full and in no other call, and both slices are as long as is said.
     let code = unsafe {
-        msq_close(
+        close(
             seats.as_mut_ptr(),
             seats.len(),
             values.as_mut_ptr(),
@@ -133,4 +205,25 @@ pub fn closed(seats: &mut [Seat], nodes: u32) -> Vec<Value> {
     };
     values.truncate(if code == OK { rest.left as usize } else { 0 });
     values
+}
+
+/// The seats of a new queue, one for each role.
+pub fn seats(kind: Kind, nodes: u32, limit: u64, roles: &[u8]) -> Result<Vec<Seat>, Refusal> {
+    created(msq_create, kind, nodes, limit, roles)
+}
+
+/// Those of a new queue of words.
+pub fn word_seats(kind: Kind, nodes: u32, limit: u64, roles: &[u8]) -> Result<Vec<Seat>, Refusal> {
+    created(msq_words_create, kind, nodes, limit, roles)
+}
+
+/// Ends the queue of these seats, which are all that it has: what is left in it; nothing where there is no memory.
+pub fn closed(seats: &mut [Seat], nodes: u32) -> Vec<Value> {
+    left(msq_close, seats, nodes, || Value { body: 0, from: 0 })
+}
+
+/// Ends a queue of words.
+pub fn words_closed(seats: &mut [Seat], nodes: u32) -> Vec<Words> {
+    let items = left(msq_words_close, seats, nodes, Item::default);
+    items.into_iter().map(|item| item.words).collect()
 }

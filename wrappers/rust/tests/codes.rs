@@ -176,3 +176,47 @@ fn values_without_bytes_pass() {
     assert_eq!(queue.push(()), Ok(()));
     assert_eq!(queue.pop(), Ok(Some(())));
 }
+
+// Whether values come as they were, through a queue of each kind.
+fn come<T: Clone + Send + PartialEq + std::fmt::Debug>(values: &[T]) {
+    for kind in KINDS {
+        let queue = Queue::of(kind, 8, 1).unwrap();
+        for value in values {
+            queue.push(value.clone()).unwrap();
+        }
+        for value in values {
+            assert_eq!(queue.pop(), Ok(Some(value.clone())), "{kind:?}");
+        }
+    }
+}
+
+#[test]
+fn values_come_as_they_were() {
+    come(&[0u8, 1, u8::MAX]);
+    come(&[0u64, 1 << 48, u64::MAX]);
+    come(&[f64::MIN, -0.0, f64::INFINITY]);
+    come(&["", "text"]);
+    come(&[String::new(), "text".to_string()]);
+    come(&[vec![1u8], Vec::new()]);
+    come(&[None, Some(Box::new(7))]);
+    come(&[[7u8; 24], [0; 24]]);
+    come(&[[7u8; 25], [0; 25]]);
+    come(&[u128::MAX, 0]);
+}
+
+#[test]
+fn large_values_that_are_left_are_dropped() {
+    let alive = Arc::new(AtomicIsize::new(0));
+    for kind in KINDS {
+        let queue = Queue::of(kind, 8, 2).unwrap();
+        for number in 0..8 {
+            queue
+                .push((Counted::new(&alive, number), [number; 8]))
+                .unwrap();
+        }
+        assert!(matches!(queue.pop(), Ok(Some((_, [0, ..])))));
+        assert_eq!(alive.load(SeqCst), 7);
+        drop(queue);
+        assert_eq!(alive.load(SeqCst), 0, "{kind:?}");
+    }
+}

@@ -6,14 +6,14 @@ use Rattle.msq_c.proofs.word_making.handles_of.Goals as goal
 pub seats_of-requires : goal.seats_of-requires
 seats_of-requires c =
     let those = ap (map role_number) c.deref.ensures.value ∙ c.in_ok-roles.ensures.roles in
-    planned_of c.args.nodes c.args.limit _ _ those c.requires
+    planned_of c.args.kind c.args.nodes c.args.limit _ c.kind_of-kind.result _ c.kind_of-kind.ensures those c.requires.asks
 
 pub returns-clause-made : goal.returns-clause-made
 returns-clause-made c =
     let those = ap (map role_number) c.deref.ensures.value ∙ c.in_ok-roles.ensures.roles in
-    asked_if c.args.nodes c.args.limit _ _ those c.made.result (λ v. v.items) (c.made.ensures.made _ c.in_ok-owned.ensures.unused)
+    asked_if c.args.kind c.args.nodes c.args.limit _ c.kind_of-kind.result _ c.kind_of-kind.ensures those c.made.result (λ v. v.items) (c.made.ensures.made _ c.in_ok-owned.ensures.unused)
 
 pub returns-clause-len : goal.returns-clause-len
 returns-clause-len c =
     let those = ap (map role_number) c.deref.ensures.value ∙ c.in_ok-roles.ensures.roles in
-    len_if c.args.nodes c.args.limit _ _ those c.made.result (λ v. v.items) (c.made.ensures.made _ c.in_ok-owned.ensures.unused)
+    len_if c.args.kind c.args.nodes c.args.limit _ c.kind_of-kind.result _ c.kind_of-kind.ensures those c.made.result (λ v. v.items) (c.made.ensures.made _ c.in_ok-owned.ensures.unused)
