@@ -1,11 +1,13 @@
 -- A sender and a receiver of an office that was opened may go to a thread where its letters may.
+use denote.Hole.{as_row}
 use denote.Param.Send.{IsSend}
+use denote.Param.SendFields.{as_row_send}
 use denote.RattleType.{RattleType}
 use Rattle.carriers.specs.declared.queues.Carrier.{Ghosts}
 use Rattle.channels.specs.contracts.sender.Sender as sender
 use Rattle.channels.specs.contracts.receiver.Receiver as receiver
-use Rattle.channels.proofs.sender.Sender.TheSendSync.{the_send as sender_send}
-use Rattle.channels.proofs.receiver.Receiver.TheSendSync.{the_send as receiver_send}
+use Rattle.channels.proofs.sender.Sender.TheSendSync.{the_send as sender_send, the_field_send as held_sender_send}
+use Rattle.channels.proofs.receiver.Receiver.TheSendSync.{the_send as receiver_send, the_field_send as held_receiver_send}
 use Rattle.node_arena.specs.contracts.seats.Seat as seat
 use Rattle.node_arena.proofs.seats.Seat.TheSendSync.{the_send as seat_send}
 use Rattle.picked_values.specs.contracts.queue.ValueQueue as queue
@@ -17,3 +19,14 @@ module _ (T : RattleType) (send : IsSend T) (g : Ghosts (queue.the_row T).Denot 
 
   pub receiver_goes : IsSend (receiver.the_row (queue.the_row T) T (seat.the_row T) g)
   receiver_goes = receiver_send (queue.the_row T) T (seat.the_row T) g (queue_send T send) (seat_send T send) (queue_sync T send)
+
+  -- and so may one that a closure holds
+  pub sender_held : IsSend (as_row (sender.the_field (queue.the_row T) T (seat.the_row T) g))
+  sender_held =
+      as_row_send (sender.the_field (queue.the_row T) T (seat.the_row T) g)
+      (held_sender_send (queue.the_row T) T (seat.the_row T) g (queue_send T send) (seat_send T send) (queue_sync T send))
+
+  pub receiver_held : IsSend (as_row (receiver.the_field (queue.the_row T) T (seat.the_row T) g))
+  receiver_held =
+      as_row_send (receiver.the_field (queue.the_row T) T (seat.the_row T) g)
+      (held_receiver_send (queue.the_row T) T (seat.the_row T) g (queue_send T send) (seat_send T send) (queue_sync T send))
