@@ -1,5 +1,5 @@
 -- What a push of a value answers, by what its parts do.
-use Rattle.std.proofs.Common.{◌≡◌, ℕ, ◌+◌, ◌-◌, List, [], ◌∷◌, ◌++◌, length, true, Option, Some, None, Result, Ok, Err, IfErr, IsErrAnd, inl, inr, sym, refl, ap, subst, ◌∙◌, arith, append_assoc}
+use Rattle.std.proofs.Common.{◌≡◌, ℕ, ◌+◌, ◌-◌, List, [], ◌∷◌, ◌++◌, length, true, Option, Some, None, Result, Ok, Err, IfErr, inl, inr, sym, refl, ap, subst, ◌∙◌, arith, append_assoc}
 use Rattle.history.specs.declared.operations.Entry.TheVariants.{Push}
 use Rattle.history.specs.declared.refusals.Refusal.{Refusal}
 use Rattle.history.specs.declared.refusals.Refusal.TheVariants.{NoNode, WornOut, Busy, Closed}
@@ -17,19 +17,18 @@ use Rattle.node_arena.specs.Seeing.{SeatView}
 use Rattle.node_arena.specs.Seeing as seeing
 use Rattle.node_arena.specs.Deeds.{Deed, pushed}
 use Rattle.node_arena.specs.Beside.{slots_in}
-use Rattle.node_arena.specs.Hands.{KeepsKnown, AddsOwn, FailedTries}
+use Rattle.node_arena.specs.Hands.{HasSlot, KeepsKnown, AddsOwn, FailedTries}
 use Rattle.node_arena.specs.Seats.{IsReady, KeepsSlots, KeepsName, HasNoSlot, SeesMoreDeeds, carries_of, deeds_of, known_of, view}
 use Rattle.node_arena.specs.Paths.{ExtendsPath, added}
 use Rattle.node_arena.specs.Turns.{failed_turns}
-use Rattle.node_arena.proofs.Moved.{one_value}
 use Rattle.node_arena.proofs.Paths.{no_walk, sees_on}
 use Rattle.free_list.specs.Takes.{TakeRefused}
-use Rattle.arena_queue.specs.Answers.{PutRefused, PutsAnd}
+use Rattle.arena_queue.specs.Answers.{PutRefused, PutsAnd, PutMoves, Puts}
 use Rattle.arena_queue.proofs.Pushes.{put_behind, learns, learns_of_take}
 use Rattle.value_queue.specs.Telling.{known_by}
-use Rattle.value_queue.specs.Pushes.{HasNode, HasLoad, PutsSlot, MissedSlots, PushRefused, AnswersPush}
+use Rattle.value_queue.specs.Pushes.{HasNode, TakesBack, MissedSlots, PushRefused, AnswersPush, back_with}
 use Rattle.value_queue.proofs.Learned.{push-deed, push_refused-deeds}
-use Rattle.value_queue.proofs.Kept.{added_still, name_still}
+use Rattle.value_queue.proofs.Kept.{added_still, name_still, more_still, stops_still, cause_still}
 
 -- what a seat has seen goes on, and then on
 pub more_on : {T : Type 0} (s t u : Seat T) → SeesMoreDeeds s t → SeesMoreDeeds t u → SeesMoreDeeds s u
@@ -44,18 +43,26 @@ adds_from s t u d d' same f g =
     }
 
 -- a refusal that is handed on
-pub passed : {X E : Type 0} (out : Result X E) (e : E) (P : E → Type 0) → IsErrAnd out (λ y. y ≡ e) → P e → IfErr out P
-passed (Ok x) e P its p = tt
-passed (Err y) e P its p = subst P (sym its) p
+pub handed : {X E : Type 0} (out : Result X E) (e : E) (P : E → Type 0) → out ≡ Err e → P e → IfErr out P
+handed out e P its p = subst (λ o. IfErr o P) (sym its) p
 
 -- a slot has one value
-value_is : {T : Type 0} (held : List (ℕ × Option T)) (slot : ℕ) (x y : T) → held ≡ (slot, Some x) ∷ [] → held ≡ (slot, Some y) ∷ [] → x ≡ y
-value_is {T} held slot x y e f = ap value_or (sym e ∙ f)
+value_is : {T : Type 0} (held : List (ℕ × Option T)) (i j : ℕ) (x y : T) → held ≡ (i, Some x) ∷ [] → held ≡ (j, Some y) ∷ [] → x ≡ y
+value_is {T} held i j x y e f = ap value_or (sym e ∙ f)
   where
     value_or : List (ℕ × Option T) → T
     value_or [] = x
-    value_or ((i, None) ∷ xs) = x
-    value_or ((i, Some z) ∷ xs) = z
+    value_or ((k, None) ∷ xs) = x
+    value_or ((k, Some z) ∷ xs) = z
+
+-- a seat that stores and knows the same as one that does
+pub keeps_on : {T : Type 0} (s t u : Seat T) → KeepsKnown s t → KeepsKnown t u → KeepsKnown s u
+keeps_on s t u f g =
+    record {
+      stored = record { number = g.stored.number ∙ f.stored.number; role = g.stored.role ∙ f.stored.role; keeps = g.stored.keeps ∙ f.stored.keeps; pocket = g.stored.pocket ∙ f.stored.pocket; failed = g.stored.failed ∙ f.stored.failed };
+      view = g.view ∙ f.view;
+      deeds = g.deeds ∙ f.deeds;
+    }
 
 module _ {T : Type 0} (worn : WornWord → Option Held → Type 0) (r : Arena) (carries : carries_of r ≡ true) (s : Seat T) (is : IsReady r s) (none : HasNoSlot s) (value : T) (turns : ℕ) where
   stays_without : (t : Seat T) → KeepsSlots s t → HasNoSlot t
@@ -65,7 +72,7 @@ module _ {T : Type 0} (worn : WornWord → Option Held → Type 0) (r : Arena) (
   missed_none = record { seat = s; more = sees_itself (known_of s); node = 0; missed = tt }
 
   -- there was no node
-  pub no_node : (t : Seat T) (refusal : Refusal) → HasNode r s t turns (Err refusal) → AnswersPush worn r s t value turns (Err (record { refusal = refusal; value = value }))
+  pub no_node : (t : Seat T) (refusal : Refusal) → HasNode r s t turns (Err refusal) → AnswersPush worn r s t value turns (Err (back_with refusal value))
   no_node t refusal h =
       record {
         ready = h.ready;
@@ -105,32 +112,28 @@ module _ {T : Type 0} (worn : WornWord → Option Held → Type 0) (r : Arena) (
     missed_since tries missed = record { seat = u; more = sees_on (view s) (view u) (added s u) h.lines; node = held.node; missed = missed }
 
     -- there was no slot
-    pub no_slot : (unpushed : Unpushed T) → HasLoad r u v held.node value (turns - spent) (Err unpushed) → AnswersPush worn r s v value turns (Err unpushed)
-    no_slot unpushed l =
-        let k = l.keeps in
-        let busy : Busy ≡ unpushed.refusal = sym l.back.0 in
+    pub no_slot : (refusal : Refusal) → IsReady r v → KeepsKnown u v → (refusal ≡ Busy) × HasNoSlot v → FailedTries r u held.node (turns - spent) → AnswersPush worn r s v value turns (Err (back_with refusal value))
+    no_slot refusal ready k its missed =
+        let busy : Busy ≡ refusal = sym its.0 in
         record {
-          ready = l.ready;
-          none_out = l.back.2;
+          ready = ready;
+          none_out = its.1;
           same = name_still s u v k h.same;
           pushed = tt;
           few = tt;
           pocket = tt;
-          back = l.back.1;
-          refused = subst (λ q. PushRefusedOf (known_by s) q (known_by v)) busy (push_refused-deeds r carries s v is.seat l.ready.seat Busy (more_since k) (seen_since k));
+          back = refl;
+          refused = subst (λ q. PushRefusedOf (known_by s) q (known_by v)) busy (push_refused-deeds r carries s v is.seat ready.seat Busy (more_since k) (seen_since k));
           refusal = subst StopsPush busy tt;
           caused = subst (PushRefused worn r s v turns) busy (
             turns - spent,
             (let a = ap failed_turns (added_still s u v k) in let b = h.spent.0 in let c = h.spent.1 in omega (arith, a, b, c)),
-            missed_since (turns - spent) l.back.3,
+            missed_since (turns - spent) missed,
             inr (let c = h.spent.1 in omega (arith, c)),
           );
         }
 
-    module _ (x : Seat T) (got : Got) (l : HasLoad r u v held.node value (turns - spent) (Ok got)) where
-      k : KeepsKnown u v
-      k = l.keeps
-
+    module _ (got : Got) (k : KeepsKnown u v) (has : HasSlot r v got.slot (Some value)) (missed : FailedTries r u held.node got.failed) (body : ℕ) where
       same_name : KeepsName u v
       same_name = record { number = k.stored.number; role = k.stored.role; keeps = k.stored.keeps }
 
@@ -138,23 +141,24 @@ module _ {T : Type 0} (worn : WornWord → Option Held → Type 0) (r : Arena) (
       no_lines = subst (λ (w : SeatView). ExtendsPath (view u) w []) (sym k.view) (no_walk (view u))
 
       -- the push of the slot's number, behind the lines before it
-      put_since : (out : Result (Unit {0}) Refusal) → PutsAnd (Unit {0}) worn r v x held.node got.slot (spent + got.failed) turns out → PutsAnd (Unit {0}) worn r s x held.node got.slot got.failed turns out
-      put_since out p =
-          put_behind worn (Unit {0}) (Unit {0}) (λ y. y) r s u x (added s u) h.lines h.same held.node got.slot got.failed (spent + got.failed) turns out (let b = h.spent.0 in omega (arith, b))
-          (put_behind worn (Unit {0}) (Unit {0}) (λ y. y) r u v x [] no_lines same_name held.node got.slot (spent + got.failed) (spent + got.failed) turns out (let z : failed_turns [] ≡ 0 = refl in omega (arith, z)) p)
+      put_since : (x : Seat T) (out : Result (Unit {0}) Refusal) → Puts worn r v x held.node body (spent + got.failed) turns out → PutsAnd (Unit {0}) worn r s x held.node body got.failed turns out
+      put_since x out p =
+          put_behind worn (Unit {0}) (Unit {0}) (λ y. y) r s u x (added s u) h.lines h.same held.node body got.failed (spent + got.failed) turns out (let b = h.spent.0 in omega (arith, b))
+          (put_behind worn (PutMoves r body v x out) (Unit {0}) (λ y. tt) r u v x [] no_lines same_name held.node body (spent + got.failed) (spent + got.failed) turns out (let z : failed_turns [] ≡ 0 = refl in omega (arith, z)) p)
 
       -- the value was pushed
-      pub value_pushed : PutsSlot worn r v x held.node got.slot (spent + got.failed) turns (Ok tt) → AnswersPush worn r s x value turns (Ok tt)
-      value_pushed p =
-          let n = put_since (Ok tt) p.numbers in
+      pub value_pushed : (x : Seat T) → Puts worn r v x held.node body (spent + got.failed) turns (Ok tt) → AnswersPush worn r s x value turns (Ok tt)
+      value_pushed x p =
+          let n = put_since x (Ok tt) p in
+          let gave = p.slots carries in
           let number : (view v).number ≡ (view s).number = ap (λ (w : SeatView). w.number) k.view ∙ h.slots.number in
-          let its : p.pushed.0 ≡ value = value_is v.token.me.1 got.slot p.pushed.0 value p.pushed.1 l.loaded.0.out in
-          let adds : AddsOwn s x (pushed (view s).number value) = adds_from s v x (pushed (view v).number p.pushed.0) (pushed (view s).number value) (λ i. pushed (number i) (its i)) (more_since k) p.pushed.2 in
+          let its : gave.1.0 ≡ value = value_is v.token.me.1 body got.slot gave.1.0 value gave.1.1 has.out in
+          let adds : AddsOwn s x (pushed (view s).number value) = adds_from s v x (pushed (view v).number gave.1.0) (pushed (view s).number value) (λ i. pushed (number i) (its i)) (more_since k) gave.1.2 in
           record {
             ready = n.ready;
-            none_out = p.none_out;
+            none_out = gave.0;
             same = n.same;
-            pushed = push-deed r carries s x is.seat n.ready.seat (Push (view s).number got.slot) value adds n.pushed.0.adds;
+            pushed = push-deed r carries s x is.seat n.ready.seat (Push (view s).number body) value adds n.pushed.0.adds;
             few = (let f = n.pushed.2 in omega (arith, f));
             pocket = n.pushed.1;
             back = tt;
@@ -164,38 +168,34 @@ module _ {T : Type 0} (worn : WornWord → Option Held → Type 0) (r : Arena) (
           }
 
       -- it came back
-      pub value_back : (unpushed : Unpushed T) → PutsSlot worn r v x held.node got.slot (spent + got.failed) turns (Err unpushed) → AnswersPush worn r s x value turns (Err unpushed)
-      value_back unpushed p =
-          let n = put_since (Err unpushed.refusal) p.numbers in
+      pub value_back : (y x : Seat T) (refusal : Refusal) (out : Result (Unit {0}) (Unpushed T)) → Puts worn r v y held.node body (spent + got.failed) turns (Err refusal) → (b : TakesBack r y x got.slot refusal out) → AnswersPush worn r s x value turns (Err (back_with refusal b.value))
+      value_back y x refusal out p b =
+          let n = put_since y (Err refusal) p in
+          let more : SeesMoreDeeds s x = more_still s y x b.keeps (more_on s v y (more_since k) p.slots.more) in
           record {
-            ready = n.ready;
-            none_out = p.none_out;
-            same = n.same;
+            ready = b.ready;
+            none_out = b.none_out;
+            same = name_still s y x b.keeps n.same;
             pushed = tt;
             few = tt;
             pocket = tt;
-            back = one_value r v got.slot unpushed.value value p.back.0 l.loaded.0;
-            refused = push_refused-deeds r carries s x is.seat n.ready.seat unpushed.refusal (more_on s v x (more_since k) p.back.1) (learns s x unpushed.refusal n.refused.0);
-            refusal = stops unpushed.refusal n.refused.1;
-            caused = by_cause unpushed.refusal n.refused.1;
+            back = value_is y.token.me.1 got.slot got.slot b.value value b.had.out (p.slots.same ∙ has.out);
+            refused = push_refused-deeds r carries s x is.seat b.ready.seat refusal more (learns s x refusal (stops_still s y x b.keeps refusal n.refused.0));
+            refusal = stops refusal n.refused.1;
+            caused = by_cause refusal (cause_still s y x b.keeps worn r held.node got.failed turns refusal n.refused.1);
           }
         where
-          stops : (refusal : Refusal) → PutRefused worn r s x held.node got.failed turns refusal → StopsPush refusal
-          stops Busy y = tt
-          stops (WornOut word) y = tt
-          stops Closed y = tt
-          stops _ y = absurd y
+          stops : (refusal : Refusal) → PutRefused worn r s y held.node got.failed turns refusal → StopsPush refusal
+          stops Busy z = tt
+          stops (WornOut word) z = tt
+          stops Closed z = tt
+          stops _ z = absurd z
 
           by_cause : (refusal : Refusal) → PutRefused worn r s x held.node got.failed turns refusal → PushRefused worn r s x turns refusal
-          by_cause Busy y = (got.failed, (let f = y.0 in omega (arith, f)), missed_since got.failed l.loaded.2, inl y.1)
-          by_cause (WornOut OfFree) y = y.0
-          by_cause (WornOut OfNext) y = (y.0, y.1)
-          by_cause (WornOut OfTail) y = (y.0, y.1)
-          by_cause (WornOut OfHead) y = (y.0, y.1)
-          by_cause Closed y = y.0
-          by_cause _ y = absurd y
-
-      -- one or the other
-      pub slot_pushed : (out : Result (Unit {0}) (Unpushed T)) → PutsSlot worn r v x held.node got.slot (spent + got.failed) turns out → AnswersPush worn r s x value turns out
-      slot_pushed (Ok tt) p = value_pushed p
-      slot_pushed (Err unpushed) p = value_back unpushed p
+          by_cause Busy z = (got.failed, (let f = z.0 in omega (arith, f)), missed_since got.failed missed, inl z.1)
+          by_cause (WornOut OfFree) z = z.0
+          by_cause (WornOut OfNext) z = (z.0, z.1)
+          by_cause (WornOut OfTail) z = (z.0, z.1)
+          by_cause (WornOut OfHead) z = (z.0, z.1)
+          by_cause Closed z = z.0
+          by_cause _ z = absurd z

@@ -1,5 +1,5 @@
 -- What the parts of a push of a value answer, and the whole push.
-use Rattle.std.specs.Prelude.{◌≡◌, ℕ, ◌+◌, ◌≤◌, ◌<◌, ◌⊎◌, Option, Some, None, Result, Ok, Err, OnOk, IfOk, IfErr}
+use Rattle.std.specs.Prelude.{◌≡◌, ℕ, ◌+◌, ◌≤◌, ◌<◌, ◌⊎◌, Option, Some, None, Result, Err, OnOk, IfOk, IfErr}
 use Rattle.history.specs.declared.refusals.Refusal.{Refusal}
 use Rattle.history.specs.declared.refusals.Refusal.TheVariants.{Busy}
 use Rattle.history.specs.declared.refusals.WornWord.{WornWord}
@@ -9,14 +9,12 @@ use Rattle.carriers.specs.Answers.{PushedOf, PushRefusedOf}
 use Rattle.node_arena.specs.Machine.{Held}
 use Rattle.node_arena.specs.Arenas.{Arena}
 use Rattle.node_arena.specs.declared.seats.Seat.{Seat}
-use Rattle.node_arena.specs.declared.slots.Got.{Got}
 use Rattle.node_arena.specs.Hands.{HasSlot, KeepsKnown, FailedTries}
-use Rattle.node_arena.specs.Loads.{PushesFrom}
-use Rattle.node_arena.specs.Seats.{IsReady, KeepsName, KeepsSlots, HasNoSlot, SeesMoreDeeds, known_of, pocket_of}
+use Rattle.node_arena.specs.Seats.{IsReady, KeepsName, KeepsSlots, HasNoSlot, known_of, pocket_of}
 use Rattle.node_arena.specs.Turns.{failed_turns}
 use Rattle.node_arena.specs.Paths.{HadNoEffect, EndsFailed, added}
 use Rattle.free_list.specs.Takes.{TakeRefused}
-use Rattle.arena_queue.specs.Answers.{PutsAnd, FailsFewer}
+use Rattle.arena_queue.specs.Answers.{FailsFewer}
 use Rattle.arena_queue.specs.Answers as numbers
 use Rattle.value_queue.specs.Telling.{known_by}
 
@@ -30,25 +28,18 @@ pub record HasNode {T : Type 0} (r : Arena) (s t : Seat T) (turns : ℕ) (out : 
   pub spent : IfOk out (λ got. (got.1 ≡ failed_turns (added s t)) × (got.1 < turns))
   pub refused : IfErr out (TakeRefused r s t turns)
 
--- a push has its value in a slot, after some failed tries at others, or each of so many tries failed and the value came back
-pub record HasLoad {T : Type 0} (r : Arena) (s t : Seat T) (node : ℕ) (value : T) (turns : ℕ) (out : Result Got (Unpushed T)) : Type 0 where
+-- a value that comes back with this refusal
+abbrev pub back_with : {T : Type 0} → Refusal → T → Unpushed T
+back_with refusal value = record { refusal = refusal; value = value }
+
+-- the value in a seat's slot came back with this refusal, and no slot is out with the seat, which stores and knows the same
+pub record TakesBack {T : Type 0} (r : Arena) (s t : Seat T) (slot : ℕ) (refusal : Refusal) (out : Result (Unit {0}) (Unpushed T)) : Type 0 where
   pub ready : IsReady r t
   pub keeps : KeepsKnown s t
-  pub loaded : IfOk out (λ got. HasSlot r t got.slot (Some value) × (got.failed < turns) × FailedTries r s node got.failed)
-  pub back : IfErr out (λ unpushed. (unpushed.refusal ≡ Busy) × (unpushed.value ≡ value) × HasNoSlot t × FailedTries r s node turns)
-
--- what was refused a push, without its value
-abbrev pub outcome_of : {T : Type 0} → Result (Unit {0}) (Unpushed T) → Result (Unit {0}) Refusal
-outcome_of (Ok x) = Ok x
-outcome_of (Err unpushed) = Err unpushed.refusal
-
--- what a push answers that has its node and its slot, where so many turns failed before: the value that lay there was pushed,
--- or came back, and no slot is out with the seat
-pub record PutsSlot {T : Type 0} (worn : WornWord → Option Held → Type 0) (r : Arena) (s t : Seat T) (node slot spent turns : ℕ) (out : Result (Unit {0}) (Unpushed T)) : Type 0 where
-  pub numbers : PutsAnd (Unit {0}) worn r s t node slot spent turns (outcome_of out)
   pub none_out : HasNoSlot t
-  pub pushed : OnOk out (PushesFrom slot s t)
-  pub back : IfErr out (λ unpushed. HasSlot r s slot (Some unpushed.value) × SeesMoreDeeds s t)
+  pub value : T
+  pub back : out ≡ Err (back_with refusal value)
+  pub had : HasSlot r s slot (Some value)
 
 -- so many tries at slots failed at some moment of a call, before which the seat had seen no less than before the call
 pub record MissedSlots {T : Type 0} (r : Arena) (s : Seat T) (tries : ℕ) : Type 0 where

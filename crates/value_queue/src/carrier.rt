@@ -1,6 +1,7 @@
 //! The queue's calls.
 ghost use Rattle.std.specs.Prelude.{◌≡◌, Err};
 
+use crate::pushing::{body_of, unpushed};
 use crate::queue::QueueOf;
 use arena_queue::Algorithm;
 use carriers::{Carrier, ItemOf, Unpushed};
@@ -78,10 +79,24 @@ impl<T: Send, A: Algorithm<B>, const B: u32> Carrier for QueueOf<T, A, B> {
     {
         let (held, spent) = match self.node(seat, turns) {
             Ok(node) => node,
-            Err(refusal) => return Err(Unpushed { refusal, value }),
+            Err(refusal) => return unpushed(refusal, value),
         };
-        let got = self.load(seat, held.node, value, turns - spent)?;
-        self.put(seat, held, got.slot, spent + got.failed, turns)
+        let got = match self.arena.get_slot(seat, held.node, turns - spent) {
+            Ok(got) => got,
+            Err(refusal) => return unpushed(refusal, value),
+        };
+        self.arena.put_value(seat, got.slot, value);
+        match A::put(
+            &self.arena,
+            seat,
+            held,
+            body_of(got.slot),
+            spent + got.failed,
+            turns,
+        ) {
+            Ok(()) => Ok(()),
+            Err(refusal) => self.taken_back(seat, got.slot, refusal),
+        }
     }
 
     /// Refusals: those of a pop of a number, with their causes. A node in the pocket is given back first; the one that

@@ -1,20 +1,19 @@
-//! The parts of a push: its node, its slot with the value, and the push of that slot's number.
-ghost use Rattle.std.specs.Prelude.{◌≡◌, ◌≤◌, ◌<◌, ◌-◌, ◌^◌, Some, None, IsTrue};
-ghost use Rattle.node_arena.specs.Plans.{may_push};
-ghost use Rattle.node_arena.specs.Seats.{IsReady, HasNoSlot, role_of, pocket_of};
+//! The parts of a push: its node, the number of its slot, and what comes back.
+ghost use Rattle.std.specs.Prelude.{◌≡◌, ◌≤◌, ◌<◌, ◌^◌, Err};
+ghost use Rattle.node_arena.specs.Seats.{IsReady};
 ghost use Rattle.node_arena.specs.Hands.{HasValue};
 ghost use Rattle.value_queue.specs.Queues.{arena_of};
-ghost use Rattle.value_queue.specs.Pushes.{HasNode, HasLoad, PutsSlot};
+ghost use Rattle.value_queue.specs.Pushes.{HasNode, TakesBack, back_with};
 
 use crate::queue::QueueOf;
 use arena_queue::Algorithm;
 use carriers::Unpushed;
 use free_list::take;
 use history::{Body, Refusal};
-use node_arena::{Got, Held, Seat};
+use node_arena::{Held, Seat};
 
 // The number of a slot, as what is pushed.
-fn body_of(slot: usize) -> Body
+pub(crate) fn body_of(slot: usize) -> Body
     requires { slot < 2 ^ 48 }
     ensures { result ≡ slot }
 {
@@ -40,52 +39,31 @@ impl<T, A: Algorithm<B>, const B: u32> QueueOf<T, A, B> {
         }
     }
 
-    // Puts the value into a slot, the one of a node's number or one of the next ones.
-    pub(crate) fn load(
+    // The value in a slot comes back where the push of that slot was refused, and the slot is given back. (This and `unpushed` are
+    // functions of their own: a refusal that is written where none may stand would have LLVM move each value once more.)
+    #[cold]
+    #[inline(never)]
+    pub(crate) fn taken_back(
         &self,
         seat: &mut Seat<T>,
-        node: u32,
-        value: T,
-        turns: u32,
-    ) -> Result<Got, Unpushed<T>>
-        requires ready { IsReady (arena_of self.now) seat.old }
-        requires none { HasNoSlot seat.old }
-        ensures { HasLoad (arena_of self.now) seat.old seat.new node value turns result }
-    {
-        match self.arena.get_slot(seat, node, turns) {
-            Ok(got) => {
-                self.arena.put_value(seat, got.slot, value);
-                Ok(got)
-            }
-            Err(refusal) => Err(Unpushed { refusal, value }),
-        }
-    }
-
-    // Pushes the number of the seat's slot, where `spent` turns of this call failed before; where that is refused, the value
-    // comes back, and the slot is given back.
-    pub(crate) fn put(
-        &self,
-        seat: &mut Seat<T>,
-        held: Held,
         slot: usize,
-        spent: u32,
-        turns: u32,
+        refusal: Refusal,
     ) -> Result<(), Unpushed<T>>
         requires ready { IsReady (arena_of self.now) seat.old }
         requires has { HasValue (arena_of self.now) seat.old slot }
-        requires role { IsTrue (may_push (role_of seat.old)) }
-        requires full { pocket_of seat.old ≡ Some held }
-        requires turns { spent < turns }
-        ensures { PutsSlot A.push_worn (arena_of self.now) seat.old seat.new held.node slot
-            spent turns result }
+        ensures { TakesBack (arena_of self.now) seat.old seat.new slot refusal result }
     {
-        match A::put(&self.arena, seat, held, body_of(slot), spent, turns) {
-            Ok(()) => Ok(()),
-            Err(refusal) => {
-                let value = self.arena.take_value(seat, slot);
-                self.arena.free_slot(seat, slot);
-                Err(Unpushed { refusal, value })
-            }
-        }
+        let value = self.arena.take_value(seat, slot);
+        self.arena.free_slot(seat, slot);
+        Err(Unpushed { refusal, value })
     }
+}
+
+// The answer of a push that got no node, or no slot.
+#[cold]
+#[inline(never)]
+pub(crate) fn unpushed<T>(refusal: Refusal, value: T) -> Result<(), Unpushed<T>>
+    ensures { result ≡ Err (back_with refusal value) }
+{
+    Err(Unpushed { refusal, value })
 }

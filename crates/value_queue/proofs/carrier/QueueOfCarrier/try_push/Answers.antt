@@ -1,40 +1,55 @@
-use Rattle.std.proofs.Common.{lit≤, ◌∙◌, arith}
+use Rattle.std.proofs.Common.{lit≤, ◌∙◌, sym, arith, subst, Err}
 use Rattle.arena_queue.proofs.Queues.{still_pushes}
+use Rattle.node_arena.specs.Beside.{HasLoaded}
 use Rattle.value_queue.specs.Queues.{arena_of}
-use Rattle.value_queue.specs.Pushes.{AnswersPush}
-use Rattle.value_queue.proofs.Pushed.{passed, no_node, no_slot, slot_pushed}
+use Rattle.value_queue.specs.Pushes.{AnswersPush, back_with}
+use Rattle.value_queue.proofs.Pushed.{handed, keeps_on, no_node, no_slot, value_pushed, value_back}
 use Rattle.value_queue.proofs.carrier.QueueOfCarrier.try_push.Given.{Over}
 use Rattle.value_queue.proofs.carrier.QueueOfCarrier.try_push.Goals as goal
 
-answers : (g : Over) (c : goal.After-put g) → AnswersPush g.A.Algorithm.push_worn (arena_of c.args.self.now) c.args.seat.now c.put.new.seat c.args.value c.args.turns c.put.result
-answers g c =
-    slot_pushed g.A.Algorithm.push_worn (arena_of c.args.self.now) c.args.self.now.carries c.args.seat.now c.requires.seat.0 c.requires.seat.1 c.args.value c.args.turns c.node.new.seat c.load.new.seat c.in-Ok.node.0 c.in-Ok.node.1 c.in-Ok.ensures c.put.new.seat c.in_ok-got.got c.in_ok-got.ensures c.put.result c.put.ensures
-
 pub returns-in-Err-clause-refused : goal.returns-in-Err-clause-refused
 returns-in-Err-clause-refused g c =
+    handed c.unpushed.result (back_with c.in-Err.refusal c.args.value) _ c.unpushed.ensures
     (no_node g.A.Algorithm.push_worn (arena_of c.args.self.now) c.args.self.now.carries c.args.seat.now c.requires.seat.0 c.requires.seat.1 c.args.value c.args.turns c.node.new.seat c.in-Err.refusal c.in-Err.ensures).refused
 
-pub returns-in_err-got-clause-refused : goal.returns-in_err-got-clause-refused
-returns-in_err-got-clause-refused g c =
-    passed c.from_residual.result c.in_err-got.field-0.0 _ c.from_residual.ensures.1
-    (no_slot g.A.Algorithm.push_worn (arena_of c.args.self.now) c.args.self.now.carries c.args.seat.now c.requires.seat.0 c.requires.seat.1 c.args.value c.args.turns c.node.new.seat c.load.new.seat c.in-Ok.node.0 c.in-Ok.node.1 c.in-Ok.ensures c.in_err-got.field-0.0 c.in_err-got.ensures).refused
+pub returns-in-Err-clause-caused : goal.returns-in-Err-clause-caused
+returns-in-Err-clause-caused g c =
+    handed c.unpushed.result (back_with c.in-Err.refusal c.args.value) _ c.unpushed.ensures
+    (no_node g.A.Algorithm.push_worn (arena_of c.args.self.now) c.args.self.now.carries c.args.seat.now c.requires.seat.0 c.requires.seat.1 c.args.value c.args.turns c.node.new.seat c.in-Err.refusal c.in-Err.ensures).caused
 
-pub returns-in_err-got-clause-caused : goal.returns-in_err-got-clause-caused
-returns-in_err-got-clause-caused g c =
-    passed c.from_residual.result c.in_err-got.field-0.0 _ c.from_residual.ensures.1
-    (no_slot g.A.Algorithm.push_worn (arena_of c.args.self.now) c.args.self.now.carries c.args.seat.now c.requires.seat.0 c.requires.seat.1 c.args.value c.args.turns c.node.new.seat c.load.new.seat c.in-Ok.node.0 c.in-Ok.node.1 c.in-Ok.ensures c.in_err-got.field-0.0 c.in_err-got.ensures).caused
+slotless : (g : Over) (c : goal.After-unpushed-in-Err-get_slot g) → AnswersPush g.A.Algorithm.push_worn (arena_of c.args.self.now) c.args.seat.now c.get_slot.new.seat c.args.value c.args.turns (Err (back_with c.in-Err-get_slot.refusal c.args.value))
+slotless g c =
+    let e = c.in-Err-get_slot.ensures in
+    no_slot g.A.Algorithm.push_worn (arena_of c.args.self.now) c.args.self.now.carries c.args.seat.now c.requires.seat.0 c.requires.seat.1 c.args.value c.args.turns c.node.new.seat c.get_slot.new.seat c.in-Ok.node.0 c.in-Ok.node.1 c.in-Ok.ensures c.in-Err-get_slot.refusal (e.ready c.in-Ok.ensures.ready) e.keeps e.refused e.busy
+
+pub returns-in-Err-get_slot-clause-refused : goal.returns-in-Err-get_slot-clause-refused
+returns-in-Err-get_slot-clause-refused g c = handed c.unpushed-in-Err-get_slot.result (back_with c.in-Err-get_slot.refusal c.args.value) _ c.unpushed-in-Err-get_slot.ensures (slotless g c).refused
+
+pub returns-in-Err-get_slot-clause-caused : goal.returns-in-Err-get_slot-clause-caused
+returns-in-Err-get_slot-clause-caused g c = handed c.unpushed-in-Err-get_slot.result (back_with c.in-Err-get_slot.refusal c.args.value) _ c.unpushed-in-Err-get_slot.ensures (slotless g c).caused
 
 pub put-requires : goal.put-requires
 put-requires g c =
     let h = c.in-Ok.ensures in
-    let l = c.in_ok-got.ensures in
-    (lit≤ tt, (l.ready, ((c.args.value, l.loaded.0), (still_pushes (arena_of c.args.self.now) c.args.seat.now c.load.new.seat c.requires.seat.0 (l.keeps.stored.role ∙ h.same.role) c.requires.role, (l.keeps.stored.pocket ∙ h.pocket, (let a = l.loaded.1 in let b = h.spent.1 in omega (arith, a, b)))))))
+    let got = c.in-Ok-get_slot.ensures in
+    let has = c.put_value.ensures.has in
+    let k = keeps_on c.node.new.seat c.get_slot.new.seat c.put_value.new.seat got.keeps c.put_value.ensures.keeps in
+    let loaded : HasLoaded (arena_of c.args.self.now).plan c.body_of.result c.put_value.new.seat.token.me = λ carries. subst (λ body. HasLoaded (arena_of c.args.self.now).plan body c.put_value.new.seat.token.me) (sym c.body_of.ensures) (λ _. (c.args.value, has.out, has.hand, has.there)) carries in
+    let pushes = still_pushes (arena_of c.args.self.now) c.args.seat.now c.put_value.new.seat c.requires.seat.0 (k.stored.role ∙ h.same.role) c.requires.role in
+    (lit≤ tt, (c.put_value.ensures.ready (got.ready h.ready), (c.args.self.now.runs, (loaded, (pushes, (k.stored.pocket ∙ h.pocket, (let a = got.few in let b = h.spent.1 in omega (arith, a, b))))))))
 
-pub returns-clause-pushed : goal.returns-clause-pushed
-returns-clause-pushed g c = (answers g c).pushed
+pub returns-in-Ok-put-clause-pushed : goal.returns-in-Ok-put-clause-pushed
+returns-in-Ok-put-clause-pushed g c =
+    let k = keeps_on c.node.new.seat c.get_slot.new.seat c.put_value.new.seat c.in-Ok-get_slot.ensures.keeps c.put_value.ensures.keeps in
+    (value_pushed g.A.Algorithm.push_worn (arena_of c.args.self.now) c.args.self.now.carries c.args.seat.now c.requires.seat.0 c.requires.seat.1 c.args.value c.args.turns c.node.new.seat c.put_value.new.seat c.in-Ok.node.0 c.in-Ok.node.1 c.in-Ok.ensures c.in-Ok-get_slot.got k c.put_value.ensures.has c.in-Ok-get_slot.ensures.failed c.body_of.result c.put.new.seat c.in-Ok-put.ensures).pushed
 
-pub returns-clause-refused : goal.returns-clause-refused
-returns-clause-refused g c = (answers g c).refused
+came_back : (g : Over) (c : goal.After-taken_back g) → AnswersPush g.A.Algorithm.push_worn (arena_of c.args.self.now) c.args.seat.now c.taken_back.new.seat c.args.value c.args.turns (Err (back_with c.in-Err-put.refusal c.taken_back.ensures.value))
+came_back g c =
+    let k = keeps_on c.node.new.seat c.get_slot.new.seat c.put_value.new.seat c.in-Ok-get_slot.ensures.keeps c.put_value.ensures.keeps in
+    value_back g.A.Algorithm.push_worn (arena_of c.args.self.now) c.args.self.now.carries c.args.seat.now c.requires.seat.0 c.requires.seat.1 c.args.value c.args.turns c.node.new.seat c.put_value.new.seat c.in-Ok.node.0 c.in-Ok.node.1 c.in-Ok.ensures c.in-Ok-get_slot.got k c.put_value.ensures.has c.in-Ok-get_slot.ensures.failed c.body_of.result c.put.new.seat c.taken_back.new.seat c.in-Err-put.refusal c.taken_back.result c.in-Err-put.ensures c.taken_back.ensures
 
-pub returns-clause-caused : goal.returns-clause-caused
-returns-clause-caused g c = (answers g c).caused
+pub returns-in-Err-put-clause-refused : goal.returns-in-Err-put-clause-refused
+returns-in-Err-put-clause-refused g c = handed c.taken_back.result (back_with c.in-Err-put.refusal c.taken_back.ensures.value) _ c.taken_back.ensures.back (came_back g c).refused
+
+pub returns-in-Err-put-clause-caused : goal.returns-in-Err-put-clause-caused
+returns-in-Err-put-clause-caused g c = handed c.taken_back.result (back_with c.in-Err-put.refusal c.taken_back.ensures.value) _ c.taken_back.ensures.back (came_back g c).caused
