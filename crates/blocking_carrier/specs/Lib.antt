@@ -3,5 +3,6 @@ pub mod Bells
 pub mod Causes
 pub mod Lates
 pub mod Queues
+pub mod Tellings
 pub mod Unshuts
 pub mod Waits

@@ -48,12 +48,15 @@ impl Bell {
         }
     }
 
-    /// Wakes all that listen, after a step that lets all of them go on.
-    pub(crate) fn ring_all(&self) {
+    /// Wakes all that listen, after a step that lets all of them go on. Answers which bell rang.
+    pub(crate) fn ring_all(&self) -> Snapshot<Bell>
+        ensures { result.value ≡ self.now }
+    {
         if self.listeners.load(SeqCst) != 0 {
             self.rings.fetch_add(1, SeqCst);
             self.rings.wake_all();
         }
+        Snapshot::of(self)
     }
 
     pub(crate) fn listen<C: Carrier>(&self, seat: &C::Seat) -> Listener<'_, C>

@@ -3,10 +3,10 @@ ghost use Rattle.std.specs.Prelude.{◌≡◌};
 ghost use Rattle.blocking_carrier.specs.Queues.{queue_of};
 
 use crate::bells::Bell;
+use crate::shuts::tell_of_shut;
 use carriers::{Carrier, ItemOf, Unpushed};
 use history::Refusal;
 use std::sync::atomic::AtomicBool;
-use std::sync::atomic::Ordering::SeqCst;
 
 /// A queue of values, any `Carrier`, whose calls sleep where it is empty, or full. It is a `Carrier` itself, whose calls are
 /// those of the queue and wake who sleeps: a push wakes one that waits for a value, a pop one that waits for a node, a shut
@@ -128,11 +128,7 @@ impl<C: Carrier> Carrier for BlockingCarrier<C> {
 
     fn try_shut(&self, seat: &mut C::Seat, turns: u32) -> Result<(), Refusal> {
         let answer = self.queue.try_shut(seat, turns);
-        if matches!(answer, Ok(()) | Err(Refusal::Closed)) {
-            self.is_shut.store(true, SeqCst);
-            self.values.ring_all();
-            self.nodes.ring_all();
-        }
+        tell_of_shut(&self.is_shut, &self.values, &self.nodes, &answer);
         answer
     }
 

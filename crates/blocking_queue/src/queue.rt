@@ -3,9 +3,9 @@ ghost use Rattle.std.specs.Prelude.{◌≡◌};
 ghost use Rattle.blocking_queue.specs.Queues.{queue_of};
 
 use crate::bells::Bell;
+use crate::shuts::tell_of_shut;
 use history::{Body, Fifo, Refusal, Taken};
 use std::sync::atomic::AtomicBool;
-use std::sync::atomic::Ordering::SeqCst;
 
 /// A queue, any `Fifo`, whose calls sleep where it is empty, or full. It is a `Fifo` itself, whose calls are those of the
 /// queue and wake who sleeps: a push wakes one that waits for a value, a pop one that waits for a node, a shut all.
@@ -117,11 +117,7 @@ impl<Q: Fifo> Fifo for BlockingQueue<Q> {
 
     fn try_shut(&self, seat: &mut Q::Seat, turns: u32) -> Result<(), Refusal> {
         let answer = self.queue.try_shut(seat, turns);
-        if matches!(answer, Ok(()) | Err(Refusal::Closed)) {
-            self.is_shut.store(true, SeqCst);
-            self.values.ring_all();
-            self.nodes.ring_all();
-        }
+        tell_of_shut(&self.is_shut, &self.values, &self.nodes, &answer);
         answer
     }
 

@@ -1,15 +1,18 @@
-//! Whether the queue was shut, which a push isn't told that gets no node.
+//! Whether the queue was shut, which a push isn't told that gets no node, and who is told of a shut.
 ghost use Rattle.std.specs.Prelude.{◌≡◌, IfErr, IfOk};
 ghost use Rattle.history.specs.Seats.{MayPush};
 ghost use Rattle.history.specs.Answers.{PushRefused, SeesMore, EndsByTry};
 ghost use Rattle.blocking_queue.specs.Queues.{queue_of};
+ghost use Rattle.blocking_queue.specs.Tellings.{TellsAll};
 ghost use Rattle.blocking_queue.specs.Unshuts.{seat_unshut};
 
+use crate::bells::Bell;
 use crate::queue::BlockingQueue;
 use history::{Fifo, Refusal};
 use std::hint;
 use std::snapshot::Snapshot;
 use std::sync::Wait;
+use std::sync::atomic::AtomicBool;
 use std::sync::atomic::Ordering::SeqCst;
 
 /// That no shut was known of, and what a seat was then. Only a look for one makes it.
@@ -50,6 +53,23 @@ impl<Q: Fifo> BlockingQueue<Q> {
             at: Snapshot::of(seat),
         })
     }
+}
+
+// Marks the queue, and wakes all whose calls sleep, where this answer to a shut leaves it shut. Answers the bells that rang: that
+// for values, and that for nodes.
+pub(crate) fn tell_of_shut(
+    is_shut: &AtomicBool,
+    values: &Bell,
+    nodes: &Bell,
+    answer: &Result<(), Refusal>,
+) -> Option<(Snapshot<Bell>, Snapshot<Bell>)>
+    ensures { TellsAll values.now nodes.now answer.now result }
+{
+    if !matches!(answer, Ok(()) | Err(Refusal::Closed)) {
+        return None;
+    }
+    is_shut.store(true, SeqCst);
+    Some((values.ring_all(), nodes.ring_all()))
 }
 
 // Never returns.

@@ -36,7 +36,8 @@ impl Adding {
     fn add(&mut self, sum: u64)
         ensures all { self.new.all ≡ self.old.all }
         ensures waiting { self.new.waiting.items ≡ self.old.waiting.items }
-        ensures added { self.new.failed ≡ false → (self.old.failed ≡ false) × (self.new.total ≡ self.old.total + sum) }
+        ensures added { self.new.failed ≡ false
+            → (self.old.failed ≡ false) × (self.new.total ≡ self.old.total + sum) }
     {
         match self.total.checked_add(sum) {
             Some(total) => self.total = total,
