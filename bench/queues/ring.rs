@@ -25,7 +25,7 @@ pub struct Ring {
 
 /// What a call comes to that is not done.
 #[derive(Clone, Copy, PartialEq, Eq)]
-enum Refusal {
+pub enum Refusal {
     Full,
     Worn,
     Busy,
@@ -51,6 +51,10 @@ impl Ring {
         Ring { words, slots, most, credits: CREDITS, limit: SHUT - 1, seats }
     }
 
+    pub fn slots(&self) -> u64 {
+        self.slots
+    }
+
     pub fn seats(&self) -> impl Iterator<Item = RingSeat<'_>> {
         (1..=self.seats).map(|number| RingSeat { ring: self, number, head: self.slots, credits: 0, turns: black_box(TURNS) })
     }
@@ -71,8 +75,8 @@ impl Ring {
         if tail < SHUT { Ok(()) } else { Err(Refusal::Closed) }
     }
 
-    #[inline(never)]
-    fn try_push(&self, seat: &mut RingSeat, body: u64) -> Result<(), Refusal> {
+    #[inline(always)]
+    pub fn push(&self, seat: &mut RingSeat, body: u64) -> Result<(), Refusal> {
         if seat.credits > 0 {
             return self.put(seat, body);
         }
@@ -106,8 +110,8 @@ impl Ring {
         })
     }
 
-    #[inline(never)]
-    fn try_pop(&self, seat: &mut RingSeat) -> Result<Option<(u64, u64)>, Refusal> {
+    #[inline(always)]
+    pub fn pop(&self, seat: &mut RingSeat) -> Result<Option<(u64, u64)>, Refusal> {
         for _ in 0..seat.turns {
             let Some(word) = self.front_twice(seat) else {
                 let tail = self.words[TAIL].load(SeqCst);
@@ -136,6 +140,16 @@ impl Ring {
             }
         }
         Err(Refusal::Busy)
+    }
+
+    #[inline(never)]
+    fn try_push(&self, seat: &mut RingSeat, body: u64) -> Result<(), Refusal> {
+        self.push(seat, body)
+    }
+
+    #[inline(never)]
+    fn try_pop(&self, seat: &mut RingSeat) -> Result<Option<(u64, u64)>, Refusal> {
+        self.pop(seat)
     }
 }
 
