@@ -2,7 +2,7 @@
 ghost use Rattle.std.specs.Prelude.{◌≡◌};
 ghost use Rattle.blocking_carrier.specs.Queues.{queue_of};
 
-use crate::bells::Bell;
+use crate::bells::{Bell, ForNode, ForValue};
 use crate::shuts::tell_of_shut;
 use carriers::{Carrier, ItemOf, Unpushed};
 use history::Refusal;
@@ -15,8 +15,8 @@ use std::sync::atomic::AtomicBool;
 pub struct BlockingCarrier<C> {
     pub(crate) queue: C,
     pub(crate) is_shut: AtomicBool,
-    pub(crate) values: Bell,
-    pub(crate) nodes: Bell,
+    pub(crate) values: Bell<ForValue>,
+    pub(crate) nodes: Bell<ForNode>,
 }
 
 impl<C> BlockingCarrier<C> {

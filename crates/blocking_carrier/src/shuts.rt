@@ -6,7 +6,7 @@ ghost use Rattle.blocking_carrier.specs.Queues.{queue_of};
 ghost use Rattle.blocking_carrier.specs.Tellings.{TellsAll};
 ghost use Rattle.blocking_carrier.specs.Unshuts.{seat_unshut};
 
-use crate::bells::Bell;
+use crate::bells::{Bell, ForNode, ForValue, Rang};
 use crate::queue::BlockingCarrier;
 use carriers::Carrier;
 use history::Refusal;
@@ -56,15 +56,15 @@ impl<C: Carrier> BlockingCarrier<C> {
     }
 }
 
-// Marks the queue, and wakes all whose calls sleep, where this answer to a shut leaves it shut. Answers the bells that rang: that
-// for values, and that for nodes.
+// Marks the queue, and wakes all whose calls sleep, where this answer to a shut leaves it shut. Answers
+// that both bells rang.
 pub(crate) fn tell_of_shut(
     is_shut: &AtomicBool,
-    values: &Bell,
-    nodes: &Bell,
+    values: &Bell<ForValue>,
+    nodes: &Bell<ForNode>,
     answer: &Result<(), Refusal>,
-) -> Option<(Snapshot<Bell>, Snapshot<Bell>)>
-    ensures { TellsAll values.now nodes.now answer.now result }
+) -> Option<(Rang<ForValue>, Rang<ForNode>)>
+    ensures { TellsAll answer.now result }
 {
     if !matches!(answer, Ok(()) | Err(Refusal::Closed)) {
         return None;

@@ -9,6 +9,7 @@ ghost use Rattle.blocking_queue.specs.Unshuts.{seat_unshut};
 use crate::deadlines::{Deadline, park};
 use crate::shuts::Unshut;
 use history::Fifo;
+use std::marker::PhantomData;
 use std::snapshot::Snapshot;
 use std::sync::Wait;
 use std::sync::atomic::AtomicU64;
@@ -18,24 +19,40 @@ use std::sync::atomic::Ordering::SeqCst;
 ///
 /// A listener is counted, looks once more whether it has to wait, and then sleeps unless it rang since it was counted. A sleep
 /// compares 32 bits, so it misses the rings since then only where their number is a multiple of 2^32.
+///
+/// `W` is what those that listen wait for.
 #[derive(Drop)]
-pub(crate) struct Bell {
+pub(crate) struct Bell<W> {
     rings: AtomicU64,
     listeners: AtomicU64,
+    wanted: PhantomData<W>,
+}
+
+/// Who listens to the bell waits for a value.
+pub(crate) struct ForValue;
+
+/// Who listens to the bell waits for a node.
+pub(crate) struct ForNode;
+
+/// That all were woken that waited for this. Only the ring of a bell for it makes it.
+#[derive(Drop)]
+pub(crate) struct Rang<W> {
+    wanted: PhantomData<W>,
 }
 
 /// A call that listens to a bell, with what its seat was as it began to; dropping it ends that.
-pub(crate) struct Listener<'a, Q: Fifo> {
-    bell: &'a Bell,
+pub(crate) struct Listener<'a, Q: Fifo, W> {
+    bell: &'a Bell<W>,
     heard: u64,
     pub(crate) at: Snapshot<Q::Seat>,
 }
 
-impl Bell {
-    pub(crate) const fn new() -> Bell {
+impl<W> Bell<W> {
+    pub(crate) const fn new() -> Bell<W> {
         Bell {
             rings: AtomicU64::new(0),
             listeners: AtomicU64::new(0),
+            wanted: PhantomData,
         }
     }
 
@@ -47,18 +64,18 @@ impl Bell {
         }
     }
 
-    /// Wakes all that listen, after a step that lets all of them go on. Answers which bell rang.
-    pub(crate) fn ring_all(&self) -> Snapshot<Bell>
-        ensures { result.value ≡ self.now }
-    {
+    /// Wakes all that listen, after a step that lets all of them go on.
+    pub(crate) fn ring_all(&self) -> Rang<W> {
         if self.listeners.load(SeqCst) != 0 {
             self.rings.fetch_add(1, SeqCst);
             self.rings.wake_all();
         }
-        Snapshot::of(self)
+        Rang {
+            wanted: PhantomData,
+        }
     }
 
-    pub(crate) fn listen<Q: Fifo>(&self, seat: &Q::Seat) -> Listener<'_, Q>
+    pub(crate) fn listen<Q: Fifo>(&self, seat: &Q::Seat) -> Listener<'_, Q, W>
         ensures { seat_heard result ≡ seat.now }
     {
         self.listeners.fetch_add(1, SeqCst);
@@ -70,7 +87,7 @@ impl Bell {
     }
 }
 
-impl<Q: Fifo> Listener<'_, Q> {
+impl<Q: Fifo, W> Listener<'_, Q, W> {
     /// Sleeps until the bell rings, or the deadline. The seat has found the queue empty since it listens.
     pub(crate) fn sleep_empty<R: Wait, D: Deadline>(self, rt: &R, seat: &Q::Seat, until: &D)
         requires looked { EmptySince (Q.known (seat_heard self)) (Q.known seat.now) }
@@ -106,7 +123,7 @@ impl<Q: Fifo> Listener<'_, Q> {
     }
 }
 
-impl<Q: Fifo> Drop for Listener<'_, Q> {
+impl<Q: Fifo, W> Drop for Listener<'_, Q, W> {
     fn drop(self) {
         let Self {
             bell,

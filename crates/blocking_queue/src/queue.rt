@@ -2,7 +2,7 @@
 ghost use Rattle.std.specs.Prelude.{◌≡◌};
 ghost use Rattle.blocking_queue.specs.Queues.{queue_of};
 
-use crate::bells::Bell;
+use crate::bells::{Bell, ForNode, ForValue};
 use crate::shuts::tell_of_shut;
 use history::{Body, Fifo, Refusal, Taken};
 use std::sync::atomic::AtomicBool;
@@ -13,8 +13,8 @@ use std::sync::atomic::AtomicBool;
 pub struct BlockingQueue<Q> {
     pub(crate) queue: Q,
     pub(crate) is_shut: AtomicBool,
-    pub(crate) values: Bell,
-    pub(crate) nodes: Bell,
+    pub(crate) values: Bell<ForValue>,
+    pub(crate) nodes: Bell<ForNode>,
 }
 
 impl<Q> BlockingQueue<Q> {
