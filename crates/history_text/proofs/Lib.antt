@@ -1,5 +1,4 @@
 mod NoSpaces
 mod LineReaders
 mod Texts
-mod Steps
 mod OneReading

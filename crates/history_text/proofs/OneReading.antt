@@ -1,15 +1,13 @@
 -- Each text is of one history at most, and its lines tell what they say.
-use Rattle.std.proofs.Common.{◌≡◌, ◌≢◌, ℕ, zero, suc, ◌-◌, ◌≤◌, List, [], ◌∷◌, ◌++◌, length, All, Option, Some, None, true, false, refl, sym, ap, ◌∙◌, arith, subst, codes, inl, get_or, ◌==◌}
+use Rattle.std.proofs.Common.{◌≡◌, ◌≢◌, ℕ, List, [], ◌∷◌, ◌++◌, length, Option, Some, None, true, false, refl, sym, ap, ◌∙◌, arith, subst, codes, inl, get_or, ◌==◌}
 use Rattle.std.proofs.lemmas.Bool.{eq-eqb}
-use Rattle.std.proofs.lemmas.List.Elements.{All-head, All-tail}
-use Rattle.std.proofs.lemmas.List.{append-nil}
+use Rattle.std.proofs.lemmas.List.Elements.{All-head}
 use Rattle.text_lines.specs.declared.causes.TextCause.{TextCause}
-use Rattle.text_lines.specs.Lines.{HasNo, spaced, words_of}
+use Rattle.text_lines.specs.Lines.{HasNo, words_of}
 use Rattle.text_lines.specs.Numerals.{numeral}
-use Rattle.text_lines.specs.Grammars.{AreDue, state_after, lines_of, IsText, IsFirstFault, IsSoundGrammar}
+use Rattle.text_lines.specs.Listings.{IsSoundListing}
 use Rattle.text_lines.proofs.Numerals.{numeral_injective, HasNo-numeral}
-use Rattle.text_lines.proofs.Single.{one_list, no_fault, one_fault}
-use Rattle.text_lines.proofs.Total.{not_neither}
+use Rattle.text_lines.proofs.Listings.{one_listing, listing-no_fault, listing-one_fault, listing-not_neither}
 use Rattle.history.specs.declared.refusals.WornWord.{WornWord}
 use Rattle.history.specs.declared.refusals.WornWord.TheVariants.{Free, Next, Tail, Head}
 use Rattle.history.specs.declared.refusals.Refusal.{Refusal}
@@ -22,9 +20,9 @@ use Rattle.history.specs.declared.operations.Stamped.{Stamped}
 use Rattle.history.specs.History.{may_refuse}
 use Rattle.history.specs.WornWords.{word_text}
 use Rattle.history_text.specs.HistoryText.{history_text}
-use Rattle.history_text.specs.HistoryLines.{HistoryLine, Count, Operation, HistoryDue, First, Operations, call_words, step_word, refusal_words, reply_words, stamp_words, operation_words, line_words, IsQueueReply, IsReadable, IsHistoryInRange, is_line_due, MaySay, history_grammar, history_lines}
-use Rattle.history_text.proofs.NoSpaces.{IsInk, ink-operation, ink-count, words_of-ink, HasNo-spaced}
-use Rattle.history_text.proofs.Texts.{said, state-said, due-some, due-none, count-spelled, lines-said, history-spelled}
+use Rattle.history_text.specs.HistoryLines.{count_words, call_words, step_word, refusal_words, reply_words, stamp_words, operation_words, IsQueueReply, IsHistoryInRange, HasFirstFault, history_listing}
+use Rattle.history_text.proofs.NoSpaces.{ink-operation, ink-count, words_of-ink, HasNo-spaced}
+use Rattle.history_text.proofs.Texts.{IsListing-history, history-spelled, range-listed, listed-spelled}
 
 -- a number is no dash
 dash_no_number : (n : ℕ) → codes "-" ≢ numeral n
@@ -156,105 +154,37 @@ one-operation a b may may' e =
       reply = one-reply a.reply b.reply may may' reply i;
     }
 
--- the words of a line are in its letters
-ink-line : (s : HistoryDue) (r : HistoryLine) → MaySay s r → All IsInk (line_words r)
-ink-line First (Count count) may = ink-count count
-ink-line First (Operation o) may = absurd may
-ink-line (Operations left) (Count count) may = absurd may
-ink-line (Operations left) (Operation o) may = ink-operation o may
+-- the words of the first line tell the number
+one-count : (m n : ℕ) → count_words m ≡ count_words n → m ≡ n
+one-count m n e = let same : numeral m ≡ numeral n = cc in numeral_injective m n same
 
--- the words of a line are told by its bytes
-line_words-said : (s : HistoryDue) (r : HistoryLine) → MaySay s r → words_of (spaced (line_words r)) ≡ line_words r
-line_words-said s (Count count) may = words_of-ink _ _ (ink-line s (Count count) may)
-line_words-said s (Operation o) may = words_of-ink _ _ (ink-line s (Operation o) may)
-
-one-line : (s : HistoryDue) (r q : HistoryLine) → MaySay s r → MaySay s q → line_words r ≡ line_words q → r ≡ q
-one-line First (Count m) (Count n) may may' e = let same : numeral m ≡ numeral n = cc in ap (λ (n : ℕ). Count n) (numeral_injective m n same)
-one-line First (Count m) (Operation b) may may' e = absurd may'
-one-line First (Operation a) q may may' e = absurd may
-one-line (Operations left) (Count m) q may may' e = absurd may
-one-line (Operations left) (Operation a) (Count n) may may' e = absurd may'
-one-line (Operations left) (Operation a) (Operation b) may may' e = ap (λ (o : Stamped). Operation o) (one-operation a b may may' e)
-
--- the words of a line of a history tell what it says, and have no line feed
-pub IsSoundGrammar-history : IsSoundGrammar history_grammar
-IsSoundGrammar-history = record {
-  no_feed = λ s r may. HasNo-spaced (line_words r) (ink-line s r may);
-  one = λ s r q may may' e. one-line s r q may may' (sym (line_words-said s r may) ∙ ap words_of e ∙ line_words-said s q may');
+-- the lines of histories tell what they say, and have no line feed
+IsSoundListing-history : IsSoundListing history_listing
+IsSoundListing-history = record {
+  header_no_feed = λ count. HasNo-spaced (count_words count) (ink-count count);
+  one_header = λ m n e. one-count m n (sym (words_of-ink _ _ (ink-count m)) ∙ ap words_of e ∙ words_of-ink _ _ (ink-count n));
+  item_no_feed = λ o may. HasNo-spaced (operation_words o) (ink-operation o may);
+  one_item = λ a b may may' e. one-operation a b may may' (sym (words_of-ink _ _ (ink-operation a may)) ∙ ap words_of e ∙ words_of-ink _ _ (ink-operation b may'));
 }
-
--- operations that a line may say are due
-due-readable : (ops : List Stamped) (left : ℕ) → length ops ≤ left → All IsReadable ops → AreDue history_grammar (Operations left) (said ops)
-due-readable [] left enough all = tt
-due-readable (o ∷ ops) left enough all =
-    let readable = All-head IsReadable o ops all in
-    (due-some left (omega arith), readable.0, readable.1, due-readable ops (left - 1) (omega arith) (All-tail IsReadable o ops all))
-
--- the text of a history in range is in the grammar
-pub IsText-history : (ops : List Stamped) → IsHistoryInRange ops → IsText history_grammar First (history_lines ops) (history_text ops)
-IsText-history ops range =
-    let lines : lines_of history_grammar (history_lines ops) ≡ history_text ops = λ i. count-spelled (length ops) range.count i ++ lines-said ops range.each i in
-    record {
-      lines = record {
-        due = (refl, tt, range.count, due-readable ops (length ops) (omega arith) range.each);
-        spelled = sym lines ∙ sym (append-nil (lines_of history_grammar (history_lines ops)));
-      };
-      done = ap is_line_due (state-said ops (length ops)) ∙ due-none (length ops - length ops) (omega arith);
-    }
 
 -- one history a text
 pub one_history : (a b : List Stamped) → IsHistoryInRange a → IsHistoryInRange b → history_text a ≡ history_text b → a ≡ b
 one_history a b ra rb e =
-    let lines : history_lines a ≡ history_lines b = one_list history_grammar IsSoundGrammar-history First (history_lines a) (history_lines b) (history_text b)
-    (subst (IsText history_grammar First (history_lines a)) e (IsText-history a ra)) (IsText-history b rb) in
-    let saids : said a ≡ said b = cc in
-    said_injective a b saids
-  where
-    said_injective : (a b : List Stamped) → said a ≡ said b → a ≡ b
-    said_injective [] [] e = refl
-    said_injective [] (y ∷ b) e = absurd cc
-    said_injective (x ∷ a) [] e = absurd cc
-    said_injective (x ∷ a) (y ∷ b) e =
-        let head : x ≡ y = cc in
-        let tail : said a ≡ said b = cc in
-        λ i. head i ∷ said_injective a b tail i
+    (one_listing history_listing IsSoundListing-history (length a) (length b) a b (IsListing-history a ra) (IsListing-history b rb)
+    (history-spelled a ra ∙ e ∙ sym (history-spelled b rb))).1
 
 -- the text of a history in range has no faulty line
-pub no_fault_of_history : (ops : List Stamped) (number : ℕ) (cause : TextCause) → IsHistoryInRange ops → IsFirstFault history_grammar First (history_text ops) number cause → ⊥
-no_fault_of_history ops number cause range = no_fault history_grammar IsSoundGrammar-history First (history_lines ops) (history_text ops) number cause (IsText-history ops range)
+pub no_fault_of_history : (ops : List Stamped) (number : ℕ) (cause : TextCause) → IsHistoryInRange ops → ¬ HasFirstFault (history_text ops) number cause
+no_fault_of_history ops number cause range fault =
+    listing-no_fault history_listing IsSoundListing-history (length ops) ops number cause (IsListing-history ops range)
+    (subst (λ (text : List ℕ). HasFirstFault text number cause) (sym (history-spelled ops range)) fault)
 
 -- the first faulty line of a text is one
-pub one_fault_of_history : (text : List ℕ) (m n : ℕ) (c d : TextCause) → IsFirstFault history_grammar First text m c → IsFirstFault history_grammar First text n d → (m ≡ n) × (c ≡ d)
-one_fault_of_history = one_fault history_grammar IsSoundGrammar-history First
-
--- lines that are due after the first one are operations, as many as are due
-record AreOperations (left : ℕ) (rs : List HistoryLine) : Type 0 where
-  ops : List Stamped
-  lines : rs ≡ said ops
-  counted : length ops ≡ left
-
-operations_of : (rs : List HistoryLine) (left : ℕ) → AreDue history_grammar (Operations left) rs → is_line_due (state_after history_grammar (Operations left) rs) ≡ false → AreOperations left rs
-operations_of [] zero due done = record { ops = []; lines = refl; counted = refl }
-operations_of [] (suc left) due done = absurd cc
-operations_of (Count count ∷ rs) left due done = absurd due.1
-operations_of (Operation o ∷ rs) zero due done = absurd (let e : false ≡ true = due.0 in cc)
-operations_of (Operation o ∷ rs) (suc left) due done =
-    let less : suc left - 1 ≡ left = omega arith in
-    let later = operations_of rs left (subst (λ n. AreDue history_grammar (Operations n) rs) less due.3)
-    (subst (λ n. is_line_due (state_after history_grammar (Operations n) rs) ≡ false) less done) in
-    record { ops = o ∷ later.ops; lines = ap (λ (rs : List HistoryLine). Operation o ∷ rs) later.lines; counted = ap suc later.counted }
-
--- a text in the grammar is the text of a history in range
-history_of : (rs : List HistoryLine) (text : List ℕ) → IsText history_grammar First rs text → (ops : List Stamped) × IsHistoryInRange ops × (text ≡ history_text ops)
-history_of [] text is = absurd (let e : true ≡ false = is.done in cc)
-history_of (Operation o ∷ rs) text is = absurd is.lines.due.1
-history_of (Count count ∷ rs) text is =
-    let later = operations_of rs count is.lines.due.3 is.done in
-    let lines : Count count ∷ rs ≡ history_lines later.ops = λ i. Count (sym later.counted i) ∷ later.lines i in
-    let spelled = history-spelled later.ops text (subst (λ rs. IsText history_grammar First rs text) lines is) in
-    (later.ops, spelled.1, spelled.0)
+pub one_fault_of_history : (text : List ℕ) (m n : ℕ) (c d : TextCause) → HasFirstFault text m c → HasFirstFault text n d → (m ≡ n) × (c ≡ d)
+one_fault_of_history = listing-one_fault history_listing IsSoundListing-history
 
 -- no text is neither a history's nor faulty
 pub not_neither_of_history : (text : List ℕ) → ((ops : List Stamped) → IsHistoryInRange ops → text ≢ history_text ops)
-    → ((number : ℕ) (cause : TextCause) → ¬ IsFirstFault history_grammar First text number cause) → ⊥
-not_neither_of_history text none = not_neither history_grammar First text (λ rs is. let found = history_of rs text is in none found.0 found.1 found.2)
+    → ((number : ℕ) (cause : TextCause) → ¬ HasFirstFault text number cause) → ⊥
+not_neither_of_history text none =
+    listing-not_neither history_listing text (λ count ops is e. none ops (range-listed count ops is) (e ∙ listed-spelled count ops is))

@@ -1,15 +1,12 @@
 -- The lines of a history's text.
-use Rattle.std.proofs.Common.{◌≡◌, ℕ, zero, suc, ◌-◌, ◌<◌, List, [], ◌∷◌, ◌++◌, map, length, All, Option, Some, None, true, false, refl, sym, ap, ◌∙◌, arith, codes, append_assoc}
+use Rattle.std.proofs.Common.{◌≡◌, ℕ, List, [], ◌∷◌, ◌++◌, length, All, Option, Some, None, true, refl, sym, ap, ◌∙◌, arith, codes, append_assoc, subst}
 use Rattle.std.specs.List.{flat_map}
 use Rattle.std.specs.Fmt.{decimal}
 use Rattle.std.proofs.lemmas.List.{append-nil}
-use Rattle.std.proofs.lemmas.List.Elements.{All-nil, All-cons, All-head, All-tail}
-use Rattle.text_lines.specs.declared.causes.TextCause.{TextCause}
-use Rattle.text_lines.specs.declared.causes.TextCause.TheVariants.{End, Form, Range, Extra}
+use Rattle.std.proofs.lemmas.List.Elements.{All-head, All-tail}
 use Rattle.text_lines.specs.Lines.{line, spaced}
 use Rattle.text_lines.specs.Numerals.{numeral}
-use Rattle.text_lines.specs.Readings.{IsWrong}
-use Rattle.text_lines.specs.Grammars.{Says, AreDue, state_after, lines_of, IsText}
+use Rattle.text_lines.specs.Listings.{IsListing, listing_text}
 use Rattle.text_lines.proofs.Numerals.{numeral_decimal}
 use Rattle.history.specs.declared.refusals.Refusal.{Refusal}
 use Rattle.history.specs.declared.refusals.Refusal.TheVariants.{NoNode, WornOut, Busy, Closed}
@@ -21,8 +18,7 @@ use Rattle.history.specs.declared.operations.Stamped.{Stamped}
 use Rattle.history.specs.History.{may_refuse}
 use Rattle.history.specs.WornWords.{word_text}
 use Rattle.history_text.specs.HistoryText.{call_text, step_text, refusal_text, reply_text, operation_text, header_text, history_text}
-use Rattle.history_text.specs.HistoryLines.{HistoryLine, Count, Operation, First, Operations, call_words, step_word, refusal_words, reply_words, stamp_words, operation_words, IsQueueReply, IsCallInRange, IsStepInRange, IsReplyInRange, IsOperationInRange, IsReadable, IsHistoryInRange, is_line_due, history_grammar, history_lines}
-use Rattle.history_text.specs.HistoryReading.{labelled_number, SaysOperation, SaysCount, IsCount}
+use Rattle.history_text.specs.HistoryLines.{count_words, call_words, step_word, refusal_words, reply_words, stamp_words, operation_words, IsQueueReply, IsCallInRange, IsStepInRange, IsReplyInRange, IsReadable, IsCount, IsHistoryInRange, history_listing}
 
 -- words, each behind a space
 spaces : List (List ℕ) → List ℕ
@@ -99,65 +95,26 @@ operation-spelled o readable =
     ap (λ (all : List ℕ). all ++ 10 ∷ []) words ∙ joined (decimal o.actor) (call_text o.op) (decimal o.first) (step_text o.last) (step_text o.at) (reply_text o.reply)
 
 -- the first line
-pub count-spelled : (count : ℕ) → IsCount count → line (spaced (labelled_number (codes "history") count)) ≡ header_text count
+count-spelled : (count : ℕ) → IsCount count → line (spaced (count_words count)) ≡ header_text count
 unfolding header_text
 count-spelled count range = rw (numeral_decimal count (omega (arith, range))) refl
 
--- the operations as lines
-abbrev pub said : List Stamped → List HistoryLine
-said ops = map (λ o. Operation o) ops
-
--- the operations that are due are readable
-pub readable-due : (ops : List Stamped) (left : ℕ) → AreDue history_grammar (Operations left) (said ops) → All IsReadable ops
-readable-due [] left due = All-nil IsReadable
-readable-due (o ∷ ops) left due = All-cons IsReadable o ops (due.1, due.2) (readable-due ops (left - 1) due.3)
-
--- what is due after some operations
-pub state-said : (ops : List Stamped) (left : ℕ) → state_after history_grammar (Operations left) (said ops) ≡ Operations (left - length ops)
-state-said [] left = ap (λ (n : ℕ). Operations n) {x = left} {y = left - 0} (omega arith)
-state-said (o ∷ ops) left = state-said ops (left - 1) ∙ ap (λ (n : ℕ). Operations n) {x = left - 1 - length ops} {y = left - suc (length ops)} (omega arith)
-
--- a line is due while operations are left
-pub due-some : (left : ℕ) → 0 < left → is_line_due (Operations left) ≡ true
-due-some zero some = absurd (omega arith)
-due-some (suc left) some = refl
-
-pub due-none : (left : ℕ) → left ≡ 0 → is_line_due (Operations left) ≡ false
-due-none zero none = refl
-due-none (suc left) none = absurd (omega arith)
-
 -- the lines of operations
-pub lines-said : (ops : List Stamped) → All IsReadable ops → lines_of history_grammar (said ops) ≡ flat_map operation_text ops
-lines-said [] all = refl
-lines-said (o ∷ ops) all = λ i. operation-spelled o (All-head IsReadable o ops all) i ++ lines-said ops (All-tail IsReadable o ops all) i
+operations-spelled : (ops : List Stamped) → All IsReadable ops → flat_map (λ o. line (history_listing.item o)) ops ≡ flat_map operation_text ops
+operations-spelled [] all = refl
+operations-spelled (o ∷ ops) all = λ i. operation-spelled o (All-head IsReadable o ops all) i ++ operations-spelled ops (All-tail IsReadable o ops all) i
 
--- the text of the lines of a history is the history's text
-pub history-spelled : (ops : List Stamped) (text : List ℕ) → IsText history_grammar First (history_lines ops) text → (text ≡ history_text ops) × IsHistoryInRange ops
-history-spelled ops text is =
-    let due = is.lines.due in
-    let all : All IsReadable ops = readable-due ops (length ops) due.3 in
-    let lines : lines_of history_grammar (history_lines ops) ≡ history_text ops = λ i. count-spelled (length ops) due.2 i ++ lines-said ops all i in
-    (is.lines.spelled ∙ append-nil (lines_of history_grammar (history_lines ops)) ∙ lines, record { count = due.2; each = all })
+-- a history in range is a listing
+pub IsListing-history : (ops : List Stamped) → IsHistoryInRange ops → IsListing history_listing (length ops) ops
+IsListing-history ops range = record { announced = refl; header = range.count; each = range.each }
 
--- a line that says no operation, or one that is out of range
-pub wrong-operation : (left : ℕ) (says : List ℕ) (cause : TextCause) → IsWrong (SaysOperation says) IsOperationInRange cause
-    → IsWrong (Says history_grammar (Operations left) says) (history_grammar.in_range (Operations left)) cause
-wrong-operation left says End wrong = absurd wrong
-wrong-operation left says Form wrong = by
-  where
-    by : (r : HistoryLine) → ¬ Says history_grammar (Operations left) says r
-    by (Count count) s = absurd s.may
-    by (Operation o) s = wrong o (s.may, s.spelled)
-wrong-operation left says Range wrong = (Operation wrong.0, record { may = wrong.1.0; spelled = wrong.1.1 }, wrong.2)
-wrong-operation left says Extra wrong = absurd wrong
+-- the text of its lines is the history's text
+pub history-spelled : (ops : List Stamped) → IsHistoryInRange ops → listing_text history_listing (length ops) ops ≡ history_text ops
+history-spelled ops range = λ i. count-spelled (length ops) range.count i ++ operations-spelled ops range.each i
 
--- a first line that says no number of operations, or one that is out of range
-pub wrong-count : (says : List ℕ) (cause : TextCause) → IsWrong (SaysCount says) IsCount cause → IsWrong (Says history_grammar First says) (history_grammar.in_range First) cause
-wrong-count says End wrong = absurd wrong
-wrong-count says Form wrong = by
-  where
-    by : (r : HistoryLine) → ¬ Says history_grammar First says r
-    by (Count count) s = wrong count s.spelled
-    by (Operation o) s = absurd s.may
-wrong-count says Range wrong = (Count wrong.0, record { may = tt; spelled = wrong.1 }, wrong.2)
-wrong-count says Extra wrong = absurd wrong
+-- and each listing is a history in range, with its text
+pub range-listed : (count : ℕ) (ops : List Stamped) → IsListing history_listing count ops → IsHistoryInRange ops
+range-listed count ops is = record { count = subst IsCount is.announced is.header; each = is.each }
+
+pub listed-spelled : (count : ℕ) (ops : List Stamped) → IsListing history_listing count ops → listing_text history_listing count ops ≡ history_text ops
+listed-spelled count ops is = ap (λ (count : ℕ). listing_text history_listing count ops) is.announced ∙ history-spelled ops (range-listed count ops is)

@@ -1,12 +1,14 @@
 -- The grammar of histories: what each line may say, in which words, and which of this is in range.
-use Rattle.std.specs.Prelude.{◌≡◌, ◌≤◌, ◌-◌, ◌^◌, ℕ, zero, suc, List, [], ◌∷◌, ◌++◌, Option, Some, None, Bool, true, false, length, codes, map, All}
+use Rattle.std.specs.Prelude.{◌≡◌, ◌≤◌, ◌-◌, ◌^◌, ℕ, List, [], ◌∷◌, ◌++◌, Option, Some, None, true, length, codes, All}
 use Rattle.text_lines.specs.declared.causes.TextCause.{TextCause}
 use Rattle.text_lines.specs.Lines.{spaced}
 use Rattle.text_lines.specs.Numerals.{numeral, IsWithin}
 use Rattle.history.specs.Limits.{body_bits, actor_bits}
-use Rattle.text_lines.specs.Grammars.{Grammar, IsFirstFault}
+use Rattle.text_lines.specs.Grammars.{Grammar}
+use Rattle.text_lines.specs.Listings.{Listing, ListingDue, ListingLine, listing_grammar, IsFirstFaultIn}
+use Rattle.listings.specs.Refusals.{IsRefusalIn}
 use Rattle.history.specs.declared.refusals.Refusal.{Refusal}
-use Rattle.history.specs.declared.refusals.Refusal.TheVariants.{WornOut, Memory, Text}
+use Rattle.history.specs.declared.refusals.Refusal.TheVariants.{WornOut}
 use Rattle.history.specs.declared.operations.Op.{Op}
 use Rattle.history.specs.declared.operations.Op.TheVariants.{Enq, Deq, Shut}
 use Rattle.history.specs.declared.operations.Taken.{Taken}
@@ -16,16 +18,6 @@ use Rattle.history.specs.declared.operations.Stamped.{Stamped}
 use Rattle.history.specs.History.{may_refuse}
 use Rattle.history.specs.WornWords.{word_text}
 use Rattle.history_text.specs.HistoryText.{refusal_text}
-
--- what a line of a history says: how many operations there are, or one of them
-pub data HistoryLine : Type 0 where
-  Count : ℕ → HistoryLine
-  Operation : Stamped → HistoryLine
-
--- what is due: the first line, or so many operations
-pub data HistoryDue : Type 0 where
-  First : HistoryDue
-  Operations : ℕ → HistoryDue
 
 -- a call: `enq` and the body, `deq`, or `shut`
 abbrev pub call_words : Op → List (List ℕ)
@@ -64,10 +56,9 @@ stamp_words o =
 abbrev pub operation_words : Stamped → List (List ℕ)
 operation_words o = numeral o.actor ∷ call_words o.op ++ stamp_words o
 
--- the words of a line
-abbrev pub line_words : HistoryLine → List (List ℕ)
-line_words (Count count) = codes "history" ∷ numeral count ∷ []
-line_words (Operation o) = operation_words o
+-- the words of the first line
+abbrev pub count_words : ℕ → List (List ℕ)
+count_words count = codes "history" ∷ numeral count ∷ []
 
 -- a reply is none, or one that a queue may give
 abbrev pub IsQueueReply : Option Reply → Type 0
@@ -122,55 +113,42 @@ pub record IsOperationInRange (o : Stamped) : Type 0 where
 abbrev pub IsReadable : Stamped → Type 0
 IsReadable o = IsQueueReply o.reply × IsOperationInRange o
 
+-- there are at most 1,000,000 operations
+abbrev pub IsCount : ℕ → Type 0
+IsCount count = count ≤ 1000000
+
 -- a history that a text can hold: at most 1,000,000 operations, each of which a line may say
 pub record IsHistoryInRange (ops : List Stamped) : Type 0 where
-  pub count : length ops ≤ 1000000
+  pub count : IsCount (length ops)
   pub each : All IsReadable ops
 
--- whether a line is due
-abbrev pub is_line_due : HistoryDue → Bool
-is_line_due First = true
-is_line_due (Operations zero) = false
-is_line_due (Operations (suc left)) = true
+-- texts of histories: the first line says how many operations follow
+abbrev pub history_listing : Listing ℕ Stamped
+history_listing = record {
+  count = λ count. count;
+  header_in_range = IsCount;
+  header = λ count. spaced (count_words count);
+  may_say = λ o. IsQueueReply o.reply;
+  in_range = λ count o. IsOperationInRange o;
+  item = λ o. spaced (operation_words o);
+}
 
--- what a line may say: first how many operations there are, then an operation
-abbrev pub MaySay : HistoryDue → HistoryLine → Type 0
-MaySay First (Count count) = Unit {0}
-MaySay First (Operation o) = ⊥
-MaySay (Operations left) (Count count) = ⊥
-MaySay (Operations left) (Operation o) = IsQueueReply o.reply
+-- what is due in a text of a history
+abbrev pub HistoryDue : Type 0
+HistoryDue = ListingDue ℕ
 
--- there are at most 1,000,000 operations, and the numbers of each are in range
-abbrev pub IsLineInRange : HistoryLine → Type 0
-IsLineInRange (Count count) = count ≤ 1000000
-IsLineInRange (Operation o) = IsOperationInRange o
-
--- what is due after a line
-abbrev pub due_after : HistoryDue → HistoryLine → HistoryDue
-due_after First (Count count) = Operations count
-due_after First (Operation o) = First
-due_after (Operations left) said = Operations (left - 1)
+-- what a line of a history says: how many operations there are, or one of them
+abbrev pub HistoryLine : Type 0
+HistoryLine = ListingLine ℕ Stamped
 
 -- the grammar of histories
 abbrev pub history_grammar : Grammar HistoryDue HistoryLine
-history_grammar = record {
-  is_due = is_line_due;
-  may_say = MaySay;
-  in_range = λ due said. IsLineInRange said;
-  words = λ said. spaced (line_words said);
-  after = due_after;
-}
-
--- the lines of a history: how many operations there are, and each of them
-abbrev pub history_lines : List Stamped → List HistoryLine
-history_lines ops = Count (length ops) ∷ map (λ o. Operation o) ops
+history_grammar = listing_grammar history_listing
 
 -- the first faulty line of a text, as one of a history, has this number, and is wrong for this cause
 abbrev pub HasFirstFault : List ℕ → ℕ → TextCause → Type 0
-HasFirstFault text number cause = IsFirstFault history_grammar First text number cause
+HasFirstFault text number cause = IsFirstFaultIn history_listing text number cause
 
 -- the refusal of a text that is no history's: its first faulty line and what is wrong with it, or no room
 abbrev pub IsFirstFaultOfHistory : List ℕ → Refusal → Type 0
-IsFirstFaultOfHistory text (Text number cause) = HasFirstFault text number cause
-IsFirstFaultOfHistory text Memory = Unit {0}
-IsFirstFaultOfHistory text _ = ⊥
+IsFirstFaultOfHistory text refusal = IsRefusalIn history_listing text refusal

@@ -1,17 +1,15 @@
 -- What the readers of the parts of an operation's line look for.
-use Rattle.std.specs.Prelude.{◌≡◌, ◌≤◌, ℕ, List, [], ◌∷◌, ◌++◌, Option, Some, codes}
-use Rattle.text_lines.specs.Lines.{line, spaced}
+use Rattle.std.specs.Prelude.{◌≡◌, ℕ, List, [], ◌∷◌, Option, Some}
+use Rattle.text_lines.specs.Listings.{SaysHeader, SaysItem}
 use Rattle.text_lines.specs.Numerals.{numeral}
-use Rattle.text_lines.specs.Readings.{IsWrong}
 use Rattle.history.specs.declared.refusals.WornWord.{WornWord}
 use Rattle.history.specs.declared.refusals.Refusal.{Refusal}
-use Rattle.history.specs.declared.refusals.Refusal.TheVariants.{Text, Memory}
 use Rattle.history.specs.declared.operations.Taken.{Taken}
 use Rattle.history.specs.declared.operations.Reply.{Reply}
 use Rattle.history.specs.declared.operations.Reply.TheVariants.{Refused}
 use Rattle.history.specs.declared.operations.Stamped.{Stamped}
 use Rattle.history.specs.WornWords.{word_text}
-use Rattle.history_text.specs.HistoryLines.{step_word, value_words, refusal_words, reply_words, operation_words, IsQueueReply, IsOperationInRange}
+use Rattle.history_text.specs.HistoryLines.{count_words, step_word, value_words, refusal_words, reply_words, operation_words, history_listing, IsQueueReply}
 
 -- a word and the number behind it
 abbrev pub labelled_number : List ℕ → ℕ → List (List ℕ)
@@ -43,33 +41,15 @@ AreOfOperation words o = IsQueueReply o.reply × (words ≡ operation_words o)
 
 -- a line says an operation
 abbrev pub SaysOperation : List ℕ → Stamped → Type 0
-SaysOperation says o = IsQueueReply o.reply × (says ≡ spaced (operation_words o))
+SaysOperation says o = SaysItem history_listing says o
 
 -- these are the words of the first line
 abbrev pub AreOfCount : List (List ℕ) → ℕ → Type 0
-AreOfCount words count = words ≡ labelled_number (codes "history") count
+AreOfCount words count = words ≡ count_words count
 
 -- a line says how many operations there are
 abbrev pub SaysCount : List ℕ → ℕ → Type 0
-SaysCount says count = says ≡ spaced (labelled_number (codes "history") count)
-
--- there are at most 1,000,000 operations
-abbrev pub IsCount : ℕ → Type 0
-IsCount count = count ≤ 1000000
-
--- the first line of a text says how many operations there are, and the rest follows it
-abbrev pub IsAfterFirst : List ℕ → ℕ → List ℕ → Type 0
-IsAfterFirst text count rest = IsCount count × (text ≡ line (spaced (labelled_number (codes "history") count)) ++ rest)
-
--- the operation that a line says, with its numbers in range, is added to a list
-abbrev pub AddsOperation : List Stamped → List Stamped → List ℕ → Type 0
-AddsOperation old new says = (o : Stamped) × SaysOperation says o × IsOperationInRange o × (new ≡ old ++ o ∷ [])
-
--- the line of this number says no operation, or one that is out of range; or there was no room
-abbrev pub IsWrongOperation : ℕ → List ℕ → Refusal → Type 0
-IsWrongOperation number says (Text at cause) = (at ≡ number) × IsWrong (SaysOperation says) IsOperationInRange cause
-IsWrongOperation number says Memory = Unit {0}
-IsWrongOperation number says _ = ⊥
+SaysCount says count = SaysHeader history_listing says count
 
 -- a reply of one word
 abbrev pub IsPlainReply : List ℕ → Option Reply → Type 0

@@ -3,9 +3,9 @@ ghost use Rattle.std.specs.Prelude.{ℕ, Some};
 ghost use Rattle.text_lines.specs.Numerals.{IsWithin};
 ghost use Rattle.text_lines.specs.Readings.{ReadsBack, Reads, ReadsWords, ReadsLine};
 ghost use Rattle.history_text.specs.HistoryLines.{call_words, IsActor, IsBody, IsStep, IsCallInRange};
-ghost use Rattle.history_text.specs.HistoryLines.{IsStepInRange, IsReplyInRange, IsOperationInRange};
+ghost use Rattle.history_text.specs.HistoryLines.{IsStepInRange, IsReplyInRange, IsOperationInRange, IsCount};
 ghost use Rattle.history_text.specs.HistoryReading.{labelled_number, labelled_step};
-ghost use Rattle.history_text.specs.HistoryReading.{AreOfOperation, SaysOperation, AreOfCount, SaysCount, IsCount};
+ghost use Rattle.history_text.specs.HistoryReading.{AreOfOperation, SaysOperation, AreOfCount, SaysCount};
 
 use crate::replies::reply_of;
 use history::{Body, MOST_ACTOR, MOST_BODY, Op, Reply, Stamped};

@@ -1,19 +1,17 @@
 -- What the readers of the parts of a job's line look for.
-use Rattle.std.specs.Prelude.{◌≡◌, ℕ, List, [], ◌∷◌, ◌++◌, Option, Result, MatchOption, MatchResult, codes, map}
+use Rattle.std.specs.Prelude.{◌≡◌, ℕ, List, [], ◌∷◌, Option, Result, MatchOption, MatchResult, codes, map}
 use Rattle.std.specs.Borrow.{Bor}
 use Rattle.text_lines.specs.declared.causes.TextCause.{TextCause}
 use Rattle.text_lines.specs.declared.causes.TextCause.TheVariants.{Form}
-use Rattle.text_lines.specs.Lines.{line, words_of}
+use Rattle.text_lines.specs.Lines.{words_of}
 use Rattle.text_lines.specs.Numerals.{numeral}
 use Rattle.text_lines.specs.Readings.{IsWrong}
 use Rattle.text_lines.specs.Printable.{IsShort}
 use Rattle.text_lines.specs.Listings.{SaysItem, SaysHeader}
-use Rattle.history.specs.declared.refusals.Refusal.{Refusal}
-use Rattle.history.specs.declared.refusals.Refusal.TheVariants.{Text, Memory}
 use Rattle.job_results.specs.declared.jobs.Job.{Job}
 use Rattle.job_results.specs.declared.reading.ReadJob.{ReadJob}
 use Rattle.job_results.specs.declared.reading.ReadJob.TheVariants.{Add as AddRead, Mul as MulRead, Div as DivRead, Len as LenRead}
-use Rattle.job_results.specs.JobTexts.{SaidJob, Add, Mul, Div, Len, said_job, count_line, jobs_listing, IsJob, IsJobInRange, IsCount, AreNumbers}
+use Rattle.job_results.specs.JobTexts.{SaidJob, Add, Mul, Div, Len, said_job, jobs_listing, IsJob, IsJobInRange, AreNumbers}
 
 -- what was read of a job's line
 abbrev pub said_of : ReadJob → SaidJob
@@ -73,20 +71,6 @@ ReadsJob says result = MatchResult result
     (λ read. SaysJob says (said_of read) × IsJobInRange (said_of read))
     (IsWrong (SaysJob says) IsJobInRange)
 
--- the first line of a text says how many jobs there are, and the rest follows it
-abbrev pub IsAfterFirst : List ℕ → ℕ → List ℕ → Type 0
-IsAfterFirst text count rest = IsCount count × (text ≡ line (count_line count) ++ rest)
-
 -- what the lines of some jobs say
 abbrev pub said_jobs : List Job → List SaidJob
 said_jobs jobs = map said_job jobs
-
--- the job that a line says, in range, is added to a list
-abbrev pub AddsJob : List Job → List Job → List ℕ → Type 0
-AddsJob old new says = (job : Job) × SaysJob says (said_job job) × IsJobInRange (said_job job) × (new ≡ old ++ job ∷ [])
-
--- the line of this number says no job, or one that is out of range; or there was no room
-abbrev pub IsWrongJob : ℕ → List ℕ → Refusal → Type 0
-IsWrongJob number says (Text at cause) = (at ≡ number) × IsWrong (SaysJob says) IsJobInRange cause
-IsWrongJob number says Memory = Unit {0}
-IsWrongJob number says _ = ⊥

@@ -7,7 +7,7 @@ use Rattle.text_lines.specs.Numerals.{numeral, IsWithin}
 use Rattle.text_lines.specs.Printable.{IsPrintable, IsShort}
 use Rattle.text_lines.specs.Listings.{Listing, IsFirstFaultIn}
 use Rattle.history.specs.declared.refusals.Refusal.{Refusal}
-use Rattle.history.specs.declared.refusals.Refusal.TheVariants.{Memory, Text}
+use Rattle.listings.specs.Refusals.{IsRefusalIn}
 use Rattle.job_results.specs.declared.jobs.Job.{Job}
 use Rattle.job_results.specs.declared.jobs.Job.TheVariants.{Add as AddJob, Mul as MulJob, Div as DivJob, Len as LenJob}
 
@@ -90,6 +90,4 @@ HasFirstFault text number cause = IsFirstFaultIn jobs_listing text number cause
 
 -- the refusal of a text that is none of jobs: its first faulty line and what is wrong with it, or no room
 abbrev pub IsFirstFaultOfJobs : List ℕ → Refusal → Type 0
-IsFirstFaultOfJobs text (Text number cause) = HasFirstFault text number cause
-IsFirstFaultOfJobs text Memory = Unit {0}
-IsFirstFaultOfJobs text _ = ⊥
+IsFirstFaultOfJobs text refusal = IsRefusalIn jobs_listing text refusal

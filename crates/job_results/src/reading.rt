@@ -6,7 +6,7 @@ ghost use Rattle.job_results.specs.JobReading.{said_of, AreTwo, AreBoth, AreOfCo
 ghost use Rattle.job_results.specs.JobReading.{KeepsText, KeepsJob, ReadsWordsOfJob, ReadsJob};
 
 use crate::jobs::Job;
-use history::Refusal;
+use listings::ItemError;
 use std::alloc::Global;
 use text_lines::{TextCause, Words, printable_in};
 
@@ -108,9 +108,9 @@ fn numbers_of(mut words: Words) -> Result<Option<(u64, u64)>, TextCause>
 }
 
 /// The job with a text of its own.
-pub fn owned(alloc: Global, read: ReadJob) -> Result<Job, Refusal>
+pub fn owned(alloc: Global, read: ReadJob) -> Result<Job, ItemError>
     ensures ok { IfOk result (λ job. said_job job ≡ said_of read.entry) }
-    ensures err { IfErr result (λ refusal. refusal ≡ Refusal.Memory) }
+    ensures err { IfErr result (λ error. error ≡ ItemError.Memory) }
 {
     match read {
         ReadJob::Add(a, b) => Ok(Job::Add(a, b)),
@@ -118,7 +118,7 @@ pub fn owned(alloc: Global, read: ReadJob) -> Result<Job, Refusal>
         ReadJob::Div(a, b) => Ok(Job::Div(a, b)),
         ReadJob::Len(text) => match String::from_str(alloc, text) {
             Ok(text) => Ok(Job::Len(text)),
-            Err(_) => Err(Refusal::Memory),
+            Err(_) => Err(ItemError::Memory),
         },
     }
 }

@@ -1,2 +1,1 @@
 pub mod MailLines
-pub mod MailSteps

@@ -1,19 +1,16 @@
 -- What the readers of the parts of a line of mail look for.
-use Rattle.std.specs.Prelude.{◌≡◌, ℕ, List, [], ◌∷◌, ◌++◌, Option, Result, MatchOption, MatchResult, codes}
+use Rattle.std.specs.Prelude.{◌≡◌, ℕ, List, [], ◌∷◌, Option, Result, MatchOption, MatchResult, codes}
 use Rattle.std.specs.Borrow.{Bor}
 use Rattle.text_lines.specs.declared.causes.TextCause.{TextCause}
 use Rattle.text_lines.specs.declared.causes.TextCause.TheVariants.{Form}
-use Rattle.text_lines.specs.Lines.{line, words_of}
+use Rattle.text_lines.specs.Lines.{words_of}
 use Rattle.text_lines.specs.Numerals.{numeral}
 use Rattle.text_lines.specs.Printable.{IsShort}
 use Rattle.text_lines.specs.Readings.{IsWrong}
 use Rattle.text_lines.specs.Listings.{SaysItem, SaysHeader}
-use Rattle.history.specs.declared.refusals.Refusal.{Refusal}
-use Rattle.history.specs.declared.refusals.Refusal.TheVariants.{Text, Memory}
-use Rattle.mail_text.specs.declared.letters.Outgoing.{Outgoing}
 use Rattle.mail_text.specs.declared.reading.ReadLetter.{ReadLetter}
 use Rattle.mail_text.specs.declared.reading.Counts.{Counts}
-use Rattle.mail_text.specs.MailTexts.{MailHeader, SaidLetter, said_letter, mail_line, mail_listing, IsHeaderInRange, IsLetter, IsLetterInRange}
+use Rattle.mail_text.specs.MailTexts.{MailHeader, SaidLetter, mail_listing, IsHeaderInRange, IsLetter, IsLetterInRange}
 
 -- what was read of a first line
 abbrev pub header_in : Counts → MailHeader
@@ -75,18 +72,3 @@ abbrev pub ReadsLetter : (senders : ℕ) → List ℕ → Result ReadLetter Text
 ReadsLetter senders says result = MatchResult result
     (λ read. SaysLetter says (said_of read) × IsLetterInRange senders (said_of read))
     (IsWrong (SaysLetter says) (IsLetterInRange senders))
-
--- the first line of a text says how many senders and letters there are, and the rest follows it
-abbrev pub IsAfterFirst : List ℕ → MailHeader → List ℕ → Type 0
-IsAfterFirst text h rest = IsHeaderInRange h × (text ≡ line (mail_line h) ++ rest)
-
--- the letter that a line says, in range, is added to a list
-abbrev pub AddsLetter : (senders : ℕ) → List Outgoing → List Outgoing → List ℕ → Type 0
-AddsLetter senders old new says =
-    (letter : Outgoing) × SaysLetter says (said_letter letter) × IsLetterInRange senders (said_letter letter) × (new ≡ old ++ letter ∷ [])
-
--- the line of this number says no letter, or one that is out of range; or there was no room
-abbrev pub IsWrongLetter : (senders : ℕ) → ℕ → List ℕ → Refusal → Type 0
-IsWrongLetter senders number says (Text at cause) = (at ≡ number) × IsWrong (SaysLetter says) (IsLetterInRange senders) cause
-IsWrongLetter senders number says Memory = Unit {0}
-IsWrongLetter senders number says _ = ⊥

@@ -7,7 +7,7 @@ use Rattle.text_lines.specs.Numerals.{numeral, IsWithin}
 use Rattle.text_lines.specs.Printable.{IsPrintable, IsShort}
 use Rattle.text_lines.specs.Listings.{Listing, IsFirstFaultIn}
 use Rattle.history.specs.declared.refusals.Refusal.{Refusal}
-use Rattle.history.specs.declared.refusals.Refusal.TheVariants.{Memory, Text}
+use Rattle.listings.specs.Refusals.{IsRefusalIn}
 use Rattle.mail_text.specs.declared.letters.Outgoing.{Outgoing}
 
 -- what the first line says: how many senders there are, and how many letters follow
@@ -78,6 +78,4 @@ HasFirstFault text number cause = IsFirstFaultIn mail_listing text number cause
 
 -- the refusal of a text that is none of mail: its first faulty line and what is wrong with it, or no room
 abbrev pub IsFirstFaultOfMail : List ℕ → Refusal → Type 0
-IsFirstFaultOfMail text (Text number cause) = HasFirstFault text number cause
-IsFirstFaultOfMail text Memory = Unit {0}
-IsFirstFaultOfMail text _ = ⊥
+IsFirstFaultOfMail text refusal = IsRefusalIn mail_listing text refusal

@@ -1,14 +1,50 @@
 //! Mail from its text.
-ghost use Rattle.std.specs.Prelude.{◌≡◌, ◌++◌, ◌∷◌, [], IfOk, IfErr, OnOk};
-ghost use Rattle.text_lines.specs.Lines.{HasNo, line};
+ghost use Rattle.std.specs.Prelude.{◌≡◌, IfOk, IfErr};
 ghost use Rattle.mail_text.specs.MailTexts.{said_letters, mail_text, IsMailInRange, IsFirstFaultOfMail};
-ghost use Rattle.mail_text.specs.MailReading.{header_in, IsAfterFirst, AddsLetter, IsWrongLetter};
 
 use crate::letters::{Mail, Outgoing};
 use crate::reading::{Counts, counts_of, letter_of, owned};
 use history::Refusal;
+use listings::{ItemError, ListingFormat, parse_listing};
 use std::alloc::Global;
-use text_lines::{TextCause, line_at};
+use text_lines::TextCause;
+
+/// The format of mail.
+struct MailFormat;
+
+impl ListingFormat for MailFormat {
+    ghost use Rattle.mail_text.specs.MailTexts.{MailHeader, SaidLetter, said_letter, mail_listing};
+    ghost use Rattle.mail_text.specs.MailReading.{header_in};
+
+    type Header = Counts;
+
+    type Item = Outgoing;
+
+    ghost HeaderSaid = { MailHeader };
+
+    ghost ItemSaid = { SaidLetter };
+
+    ghost listing = { mail_listing };
+
+    ghost header_said = { header_in };
+
+    ghost item_said = { said_letter };
+
+    fn parse_header(line: &[u8]) -> Result<Counts, TextCause> {
+        counts_of(line)
+    }
+
+    fn count(header: &Counts) -> u64 {
+        header.letters
+    }
+
+    fn parse_item(alloc: Global, header: &Counts, line: &[u8]) -> Result<Outgoing, ItemError> {
+        match letter_of(line, header.senders) {
+            Ok(read) => owned(alloc, read),
+            Err(cause) => Err(ItemError::Wrong(cause)),
+        }
+    }
+}
 
 /// The mail that a text is: how many senders there are, and the letters in the order of its lines.
 ///
@@ -23,68 +59,9 @@ pub fn parse_mail(alloc: Global, text: &[u8]) -> Result<Mail, Refusal>
         IsMailInRange mail.senders (said_letters mail.letters.items)) }
     ensures err { IfErr result (IsFirstFaultOfMail text.now) }
 {
-    let (counts, mut rest) = first_line(text)?;
-    let mut letters = Vec::new(alloc);
-    for place in 0..counts.letters {
-        let (line, later) = due_line(2 + place, rest)?;
-        keep(alloc, &mut letters, counts.senders, 2 + place, line)?;
-        rest = later;
-    }
-    if rest.is_empty() {
-        Ok(Mail {
-            senders: counts.senders,
-            letters,
-        })
-    } else {
-        Err(Refusal::Text(2 + counts.letters, TextCause::Extra))
-    }
-}
-
-/// What the first line says, and what follows it.
-fn first_line(text: &[u8]) -> Result<(Counts, &[u8]), Refusal>
-    ensures ok { IfOk result (λ found. IsAfterFirst text.now (header_in found.0) found.1.now) }
-    ensures err { IfErr result (IsFirstFaultOfMail text.now) }
-{
-    let (line, rest) = due_line(1, text)?;
-    match counts_of(line) {
-        Ok(counts) => Ok((counts, rest)),
-        Err(cause) => Err(Refusal::Text(1, cause)),
-    }
-}
-
-/// The line of this number, which is due, and what follows it.
-fn due_line(number: u64, text: &[u8]) -> Result<(&[u8], &[u8]), Refusal>
-    ensures ok { IfOk result (λ found. HasNo 10 found.0.now
-        × (text.now ≡ line found.0.now ++ found.1.now)) }
-    ensures err { IfErr result (λ refusal. (refusal ≡ Refusal.Text number TextCause.End)
-        × HasNo 10 text.now) }
-{
-    line_at(text).ok_or(Refusal::Text(number, TextCause::End))
-}
-
-/// Adds the letter of a line, which has this number.
-fn keep(
-    alloc: Global,
-    letters: &mut Vec<Outgoing>,
-    senders: u16,
-    number: u64,
-    line: &[u8],
-) -> Result<(), Refusal>
-    ensures ok { OnOk result (AddsLetter senders letters.old.items letters.new.items line.now) }
-    ensures err { IfErr result (IsWrongLetter senders number line.now) }
-{
-    match letter_of(line, senders) {
-        Ok(read) => push_to(letters, owned(alloc, read)?),
-        Err(cause) => Err(Refusal::Text(number, cause)),
-    }
-}
-
-fn push_to(letters: &mut Vec<Outgoing>, letter: Outgoing) -> Result<(), Refusal>
-    ensures ok { OnOk result (letters.new.items ≡ letters.old.items ++ letter ∷ []) }
-    ensures err { IfErr result (λ refusal. refusal ≡ Refusal.Memory) }
-{
-    match letters.push(letter) {
-        Ok(()) => Ok(()),
-        Err(_) => Err(Refusal::Memory),
-    }
+    let (counts, letters) = parse_listing::<MailFormat>(alloc, text)?;
+    Ok(Mail {
+        senders: counts.senders,
+        letters,
+    })
 }

@@ -7,7 +7,7 @@ ghost use Rattle.mail_text.specs.MailReading.{said_of, KeepsText, KeepsHeader, K
 ghost use Rattle.mail_text.specs.MailReading.{ReadsWordsOfHeader, ReadsHeader, ReadsWordsOfLetter, ReadsLetter};
 
 use crate::letters::Outgoing;
-use history::Refusal;
+use listings::ItemError;
 use std::alloc::Global;
 use text_lines::{TextCause, Words, printable_in};
 
@@ -91,15 +91,15 @@ fn letter(from: Option<u64>, text: Option<&str>) -> Option<ReadLetter>
 }
 
 /// The letter with a text of its own.
-pub fn owned(alloc: Global, read: ReadLetter) -> Result<Outgoing, Refusal>
+pub fn owned(alloc: Global, read: ReadLetter) -> Result<Outgoing, ItemError>
     ensures ok { IfOk result (λ letter. said_letter letter ≡ said_of read.entry) }
-    ensures err { IfErr result (λ refusal. refusal ≡ Refusal.Memory) }
+    ensures err { IfErr result (λ error. error ≡ ItemError.Memory) }
 {
     match String::from_str(alloc, read.text) {
         Ok(text) => Ok(Outgoing {
             from: read.from,
             text,
         }),
-        Err(_) => Err(Refusal::Memory),
+        Err(_) => Err(ItemError::Memory),
     }
 }

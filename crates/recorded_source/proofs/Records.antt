@@ -2,10 +2,11 @@
 use Rattle.std.proofs.Common.{◌≡◌, ℕ, List, ◌++◌, true, false, refl, ap, ◌∙◌, Option, Some, None}
 use Rattle.text_lines.specs.Lines.{line}
 use Rattle.text_lines.specs.Grammars.{Says}
+use Rattle.text_lines.specs.Listings.{First, Header, Item}
 use Rattle.text_io.specs.Prefixes.{IsRefusedBy, IsRefusedReading}
 use Rattle.history.specs.declared.refusals.Refusal.{Refusal}
 use Rattle.history.specs.declared.refusals.Refusal.TheVariants.{Text, Memory}
-use Rattle.history_text.specs.HistoryLines.{HistoryLine, Count as HistoryCount, Operation as HistoryOperation, First, IsFirstFaultOfHistory, history_grammar}
+use Rattle.history_text.specs.HistoryLines.{HistoryLine, IsFirstFaultOfHistory, history_grammar}
 use Rattle.recording_text.specs.RecordingLines.{RecordingLine, Version, Count, Operation, VersionDue, IsFirstFaultOfRecording, recording_grammar}
 use Rattle.recorded_source.specs.EitherGrammars.{Start}
 use Rattle.recorded_source.specs.Given.{begins_as_recording, recorded_grammar, TellsFaultOfRecord, TellsFaultOfRecording}
@@ -21,10 +22,10 @@ no_recording text other says later split (Operation r) said = absurd said.may
 
 -- a text with this first byte has none of a history
 no_history : (text : List ℕ) → begins_as_recording text ≡ true → (says later : List ℕ) → text ≡ line says ++ later → (q : HistoryLine) → ¬ Says history_grammar First says q
-no_history text begins says later split (HistoryCount count) said =
+no_history text begins says later split (Header count) said =
     let other : begins_as_recording text ≡ false = ap begins_as_recording (split ∙ ap (λ (says : List ℕ). line says ++ later) said.spelled) in
     absurd cc
-no_history text begins says later split (HistoryOperation o) said = absurd said.may
+no_history text begins says later split (Item o) said = absurd said.may
 
 -- what is told of a text as a history, or as a recording, is so of a text of either
 pub refused-history : (text : List ℕ) (refusal : Refusal) → begins_as_recording text ≡ false → IsFirstFaultOfHistory text refusal → IsRefusedBy recorded_grammar Start text refusal

@@ -2,11 +2,12 @@
 use Rattle.std.specs.Prelude.{◌≡◌, ◌⊎◌, ℕ, Bool, false, nat_eq, if◌then◌else◌, List, Option, slice_get, Some, None, ⊤}
 use Rattle.std.specs.Option.{option_map_or}
 use Rattle.text_lines.specs.Grammars.{Grammar, IsFirstFault}
+use Rattle.text_lines.specs.Listings.{First}
 use Rattle.text_io.specs.Readings.{WereAll}
 use Rattle.history.specs.declared.operations.Stamped.{Stamped}
 use Rattle.history.specs.declared.refusals.Refusal.{Refusal}
 use Rattle.history.specs.declared.refusals.Refusal.TheVariants.{Text}
-use Rattle.history_text.specs.HistoryLines.{HistoryDue, HistoryLine, First, IsHistoryInRange, history_grammar}
+use Rattle.history_text.specs.HistoryLines.{HistoryDue, HistoryLine, IsHistoryInRange, history_grammar}
 use Rattle.history_text.specs.HistoryText.{history_text}
 use Rattle.recording_text.specs.Recordings.{Recorded}
 use Rattle.recording_text.specs.RecordingLines.{RecordingDue, RecordingLine, VersionDue, recording_grammar, recording_text, IsRecordingInRange, HasFirstFault}
