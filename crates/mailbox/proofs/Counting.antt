@@ -14,7 +14,8 @@ use Rattle.mailbox.specs.declared.parcels.Due.{Due}
 use Rattle.mailbox.specs.declared.receiver.Letter.{Letter}
 use Rattle.mailbox.specs.Plans.{plan_numbers}
 use Rattle.mailbox.specs.Offices.{marks}
-use Rattle.mailbox.specs.Posting.{IsNext, AreThoseDue, texts_of, BringTexts}
+use Rattle.mailbox.specs.Posting.{IsNext, IsNotNext, AreThoseDue, texts_of, BringTexts}
+use Rattle.mailbox.specs.Causes.{IsItsTurn}
 
 -- so many letters of each task are there, and they are the first that it is to send
 pub record AreCounted (lists : List (List (List ℕ))) (counts : List ℕ) (letters : List Letter) : Type 0 where
@@ -81,12 +82,79 @@ texts_of_other : (s : ℕ) (letter : Letter) (b : Bool) → nat_eq letter.from s
 texts_of_other s letter true e other = absurd (other (eqb-true letter.from s e))
 texts_of_other s letter false e other = ap (λ b. map (λ (l : Letter). l.text.now) (cond b (letter ∷ []) [])) e
 
+module _ (old : List ℕ) (sender : ℕ) (due : Due) (new : List ℕ) (next : IsNext old sender due new) where
+  at_here : get_or new due.task 0 ≡ due.place + 1
+  at_here = ap (λ ns. get_or ns due.task 0) next.counted ∙ get_or-set_same old due.task (due.place + 1) 0 next.within
+
+  other_place : (k : ℕ) → k ≢ due.task → get_or new k 0 ≡ get_or old k 0
+  other_place k other = ap (λ ns. get_or ns k 0) next.counted ∙ get_or-set_other old due.task k (due.place + 1) 0 other
+
+-- these are the numbers of letters of each task
+pub record AreNumbers (counts : List ℕ) (letters : List Letter) : Type 0 where
+  pub most : (k : ℕ) → k < length counts → get_or counts k 0 ≤ length letters
+  pub each : (k : ℕ) → k < length counts → get_or counts k 0 ≡ length (texts_of (k + 1) letters)
+
+-- numbers of 0 are those of no letters
+pub numbers_start : (counts : List ℕ) (letters : List Letter) → counts ≡ replicate (length counts) 0 → letters ≡ [] → AreNumbers counts letters
+numbers_start counts letters zeros none =
+    let zero_at : (k : ℕ) → get_or counts k 0 ≡ 0 = λ k. ap (λ cs. get_or cs k 0) zeros ∙ at-zeros (length counts) k in
+    record {
+      most = λ k short. let z = zero_at k in omega (arith, z);
+      each = λ k short. zero_at k ∙ sym (ap (λ ls. length (texts_of (k + 1) ls)) none);
+    }
+
+module _ (old : List ℕ) (letters : List Letter) (letter : Letter) (due : Due) (new : List ℕ) (was : AreNumbers old letters) (next : IsNext old letter.from due new) where
+  one_more : length (letters ++ letter ∷ []) ≡ length letters + 1
+  one_more = length-append letters (letter ∷ [])
+
+  number_here : get_or new due.task 0 ≡ length (texts_of (due.task + 1) (letters ++ letter ∷ []))
+  number_here =
+      let texts = texts_of (due.task + 1) letters in
+      let here = at_here old letter.from due new next in
+      let place = next.place in
+      let before = was.each due.task next.within in
+      let all = ap length (texts_of-append (due.task + 1) letters letter ∙ ap (λ ts. texts ++ ts) (texts_of_its (due.task + 1) letter next.from)) in
+      let many = length-append texts (letter.text.now ∷ []) in
+      omega (arith, here, place, before, all, many)
+
+  number_at : (k : ℕ) (b : Bool) → nat_eq k due.task ≡ b → k < length old → get_or new k 0 ≡ length (texts_of (k + 1) (letters ++ letter ∷ []))
+  number_at k true e short = subst (λ j. get_or new j 0 ≡ length (texts_of (j + 1) (letters ++ letter ∷ []))) (sym (eqb-true k due.task e)) number_here
+  number_at k false e short =
+      let other = eqb-false k due.task e in
+      let from = next.from in
+      let here = other_place old letter.from due new next k other in
+      let before = was.each k short in
+      let all = ap length (texts_of-append (k + 1) letters letter
+      ∙ ap (λ ts. texts_of (k + 1) letters ++ ts) (texts_of_other (k + 1) letter (nat_eq letter.from (k + 1)) refl (λ same. other (omega (arith, same, from))))
+      ∙ append-nil (texts_of (k + 1) letters)) in
+      omega (arith, here, before, all)
+
+  most_at : (k : ℕ) (b : Bool) → nat_eq k due.task ≡ b → k < length old → get_or new k 0 ≤ length (letters ++ letter ∷ [])
+  most_at k true e short =
+      let more = one_more in
+      let here = at_here old letter.from due new next in
+      let place = next.place in
+      let most = was.most due.task next.within in
+      subst (λ j. get_or new j 0 ≤ length (letters ++ letter ∷ [])) (sym (eqb-true k due.task e)) (omega (arith, here, place, most, more))
+  most_at k false e short =
+      let more = one_more in
+      let here = other_place old letter.from due new next k (eqb-false k due.task e) in
+      let most = was.most k short in
+      omega (arith, here, most, more)
+
+  -- one more letter is counted
+  pub numbers_then : (counts : List ℕ) (all : List Letter) → counts ≡ new → all ≡ letters ++ letter ∷ [] → AreNumbers counts all
+  numbers_then counts all same more =
+      let len = ap length next.counted ∙ length_set old due.task (due.place + 1) in
+      subst (λ ls. AreNumbers counts ls) (sym more) (subst (λ cs. AreNumbers cs (letters ++ letter ∷ [])) (sym same)
+      (record {
+        most = λ k short. most_at k (nat_eq k due.task) refl (omega (arith, short, len));
+        each = λ k short. number_at k (nat_eq k due.task) refl (omega (arith, short, len));
+      }))
+
 module _ (lists : List (List (List ℕ))) (old : List ℕ) (letters : List Letter) (letter : Letter) (due : Due) (new : List ℕ) (was : AreCounted lists old letters) (next : IsNext old letter.from due new) (fits : slice_get (get_or lists due.task []) due.place ≡ Some letter.text.now) where
   within : due.place < length (get_or lists due.task [])
   within = slice_get_within (get_or lists due.task []) due.place letter.text.now fits
-
-  at_here : get_or new due.task 0 ≡ due.place + 1
-  at_here = ap (λ ns. get_or ns due.task 0) next.counted ∙ get_or-set_same old due.task (due.place + 1) 0 next.within
 
   total_more : sum new ≡ length (letters ++ letter ∷ [])
   total_more =
@@ -100,7 +168,7 @@ module _ (lists : List (List (List ℕ))) (old : List ℕ) (letters : List Lette
   first_here : texts_of (due.task + 1) (letters ++ letter ∷ []) ≡ take (get_or new due.task 0) (get_or lists due.task [])
   first_here =
       let list = get_or lists due.task [] in
-      let here = at_here in
+      let here = at_here old letter.from due new next in
       let count : suc due.place ≡ get_or new due.task 0 = omega (arith, here) in
       texts_of-append (due.task + 1) letters letter
       ∙ ap (λ ts. ts ++ texts_of (due.task + 1) (letter ∷ [])) (was.first due.task next.within ∙ ap (λ m. take m list) next.place)
@@ -109,14 +177,11 @@ module _ (lists : List (List (List ℕ))) (old : List ℕ) (letters : List Lette
       ∙ sym (take-suc list due.place [] within)
       ∙ ap (λ m. take m list) count
 
-  other_place : (k : ℕ) → k ≢ due.task → get_or new k 0 ≡ get_or old k 0
-  other_place k other = ap (λ ns. get_or ns k 0) next.counted ∙ get_or-set_other old due.task k (due.place + 1) 0 other
-
   few_at : (k : ℕ) (b : Bool) → nat_eq k due.task ≡ b → k < length old → get_or new k 0 ≤ length (get_or lists k [])
   few_at k true e short =
       let same = eqb-true k due.task e in
-      subst (λ j. get_or new j 0 ≤ length (get_or lists j [])) (sym same) (let h = at_here in let w = within in omega (arith, h, w))
-  few_at k false e short = let o = other_place k (eqb-false k due.task e) in let f = was.few k short in omega (arith, o, f)
+      subst (λ j. get_or new j 0 ≤ length (get_or lists j [])) (sym same) (let h = at_here old letter.from due new next in let w = within in omega (arith, h, w))
+  few_at k false e short = let o = other_place old letter.from due new next k (eqb-false k due.task e) in let f = was.few k short in omega (arith, o, f)
 
   first_at : (k : ℕ) (b : Bool) → nat_eq k due.task ≡ b → k < length old → texts_of (k + 1) (letters ++ letter ∷ []) ≡ take (get_or new k 0) (get_or lists k [])
   first_at k true e short =
@@ -128,7 +193,7 @@ module _ (lists : List (List (List ℕ))) (old : List ℕ) (letters : List Lette
       ∙ ap (λ ts. texts_of (k + 1) letters ++ ts) (texts_of_other (k + 1) letter (nat_eq letter.from (k + 1)) refl (λ same. other (omega (arith, same, from))))
       ∙ append-nil (texts_of (k + 1) letters)
       ∙ was.first k short
-      ∙ ap (λ m. take m (get_or lists k [])) (sym (other_place k other))
+      ∙ ap (λ m. take m (get_or lists k [])) (sym (other_place old letter.from due new next k other))
 
   -- one more letter is counted
   counted_more : AreCounted lists new (letters ++ letter ∷ [])
@@ -190,3 +255,9 @@ counted_those o counts letters senders same counted lists plan many all =
 -- numbers that are written over as many are the list afterwards
 pub written_over : (n : ℕ) (new old : List ℕ) → n ≡ length new → take n (new ++ drop (length new) old) ≡ new
 written_over n new old as_many = ap (λ m. take m (new ++ drop (length new) old)) as_many ∙ take-append_seam new (drop (length new) old)
+
+-- a letter that isn't the next one of its task comes out of its turn
+pub out_of_turn : (counts : List ℕ) (letters : List Letter) (senders sender : ℕ) (due : Due) → AreNumbers counts letters → length counts ≡ senders → IsNotNext counts sender due → IsItsTurn senders letters sender due → ⊥
+out_of_turn counts letters senders sender due numbers same not turn =
+    let within : due.task < length counts = let w = turn.within in omega (arith, w, same) in
+    not turn.from within (numbers.each due.task within ∙ ap (λ s. length (texts_of s letters)) (sym turn.from) ∙ turn.place)

@@ -4,3 +4,5 @@ pub mod Counting
 pub mod Order
 pub mod Openings
 pub mod Delivering
+pub mod Telling
+pub mod Stopping

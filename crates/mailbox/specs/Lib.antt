@@ -4,3 +4,5 @@ pub mod Refusals
 pub mod Offices
 pub mod Openings
 pub mod Posting
+pub mod Causes
+pub mod Threads

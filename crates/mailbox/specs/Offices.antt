@@ -8,7 +8,7 @@ use Rattle.history.specs.declared.refusals.Refusal.{Refusal}
 use Rattle.history.specs.Answers.{Pushed, Popped, DidShut, FoundEmpty, PushRefused, EndsByTry}
 use Rattle.history.specs.Values.{pushed, OnlyPops}
 use Rattle.blocking_queue.specs.Queues.{queue_of}
-use Rattle.blocking_queue.specs.Waits.{Waited}
+use Rattle.blocking_queue.specs.Waits.{Waited, EmptySince}
 use Rattle.blocking_queue.specs.Answers.{Received, EndsAfterWait}
 use Rattle.mailbox.specs.Plans.{Fits}
 use Rattle.mailbox.specs.declared.office.Office.{Office}
@@ -57,6 +57,10 @@ pub record ShowsText {Q S T : Type 0} (bytes : T → List ℕ) (o : Office Q S) 
 -- the last letter that a sender stored is this text, at this index
 abbrev pub Stored : {Q S : Type 0} → Office Q S → Sender Q S → (index : ℕ) → (text : List ℕ) → Type 0
 Stored o s index text = ShowsText (λ (p : Parcel). string_bytes p.text) o s.last index text
+
+-- the last letter that a sender stored is stored as this one of those due
+abbrev pub StoredAs : {Q S : Type 0} → Sender Q S → Option Due → Type 0
+StoredAs s due = IfSome s.last (λ (w : Where Parcel). due ≡ w.value.due)
 
 -- the last letter that the receiver took is this text, at this index
 abbrev pub Read : {Q S : Type 0} → Office Q S → Receiver Q S → (index : ℕ) → (text : List ℕ) → Type 0
@@ -140,9 +144,11 @@ abbrev pub TakeAnswers : {Q S : Type 0} → (S → Known) → Office Q S → Rec
 TakeAnswers known o r None r' = FoundNone known r r'
 TakeAnswers known o r (Some letter) r' = TookText Popped known o r letter.from letter.text.now r'
 
--- there was no letter: the receiver waited
+-- there was no letter: the receiver waited, up to some moment, and found the queue empty after it
 pub record WaitedInVain {Q S : Type 0} (known : S → Known) (r r' : Receiver Q S) : Type 0 where
-  pub waited : Waited (known r.seat) (known r'.seat)
+  pub late : Known
+  pub waited : Waited (known r.seat) late
+  pub empty : EmptySince late (known r'.seat)
   pub last : r'.last ≡ r.last
   pub kept : has_lost r' ≡ false
 

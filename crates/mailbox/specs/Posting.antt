@@ -49,6 +49,10 @@ pub record IsNext (old : List ℕ) (sender : ℕ) (due : Due) (new : List ℕ) :
   pub place : get_or old due.task 0 ≡ due.place
   pub counted : new ≡ set old due.task (due.place + 1)
 
+-- a letter of this sender isn't the next one of its task: it is another sender's, or of no task, or out of its turn
+abbrev pub IsNotNext : (counts : List ℕ) → (sender : ℕ) → Due → Type 0
+IsNotNext counts sender due = sender ≡ due.task + 1 → due.task < length counts → get_or counts due.task 0 ≡ due.place → ⊥
+
 -- where as many letters are there as are due, they are those that are due
 abbrev pub AreThoseDue : {Q S : Type 0} → Office Q S → (senders : ℕ) → List Letter → Type 0
 AreThoseDue o senders letters = (lists : List (List (List ℕ))) → marks o ≡ plan_numbers lists → length lists ≡ senders → length letters ≡ sum_by length lists → BringTexts lists letters

@@ -68,6 +68,12 @@ EndsTake Lost = Unit {0}
 EndsTake Closed = Unit {0}
 EndsTake _ = ⊥
 
+-- letters of tasks may be taken up to such a refusal: a word was worn out, or a letter is lost
+abbrev pub EndsTaking : Refusal → Type 0
+EndsTaking (WornOut word) = Unit {0}
+EndsTaking Lost = Unit {0}
+EndsTaking _ = ⊥
+
 -- letters with a thread for each sender may be refused so: a send or a take was refused, but not as the queue was shut, there
 -- was no memory, or a letter is missing
 abbrev pub EndsPost : Refusal → Type 0

@@ -9,6 +9,7 @@ mod planning;
 mod posting;
 mod receiver;
 mod sender;
+mod taking;
 
 pub use office::Office;
 pub use posting::{Task, post};

@@ -1,22 +1,26 @@
 //! A thread for each sender, and the calling thread for the receiver.
-ghost use Rattle.std.specs.Prelude.{◌≡◌, ◌≢◌, ◌≤◌, true, None, [], length, map, replicate, vec_capacity, IfOk, IfErr, IfSome};
-ghost use Rattle.std.specs.List.{All};
+ghost use Rattle.std.specs.Prelude.{◌≡◌, ◌≢◌, ◌≤◌, [], ◌∷◌, length, map, vec_capacity, IfOk, IfErr, IfSome};
+ghost use Rattle.std.specs.List.{All, AllZip};
 ghost use Rattle.mailbox.specs.Deliveries.{InOrder};
 ghost use Rattle.mailbox.specs.Plans.{AreDue};
 ghost use Rattle.mailbox.specs.Offices.{IsSender, IsReceiver, marks, receiver_knows};
-ghost use Rattle.mailbox.specs.Posting.{IsTask, IsTaskAt, IsNext, Plans, BringTexts, AreThoseDue, Delivered, letters_of, texts_in, AddsEntries};
+ghost use Rattle.mailbox.specs.Posting.{IsTask, IsTaskAt, Plans, BringTexts, Delivered, letters_of, texts_in};
 ghost use Rattle.mailbox.specs.Refusals.{EndsDue, EndsPost};
+ghost use Rattle.mailbox.specs.Causes.{HasEnded, PostRefused};
+ghost use Rattle.mailbox.specs.Threads.{IsStartedFor, TellFirst};
 
-use crate::ending::{AllEnded, EndCounter, Ended, GivenUp};
+use crate::ending::{EndCounter, Ended, GivenUp};
 use crate::office::Office;
 use crate::parcels::Due;
 use crate::receiver::{Letter, Receiver};
 use crate::sender::Sender;
+use crate::taking::take_all;
 use history::{Fifo, Refusal};
 use std::alloc::Global;
+use std::snapshot::Snapshot;
 use std::sync::Wait;
 use std::thread;
-use std::thread::{JoinHandle, Scope, Threads};
+use std::thread::{Promise, PromisedHandle, Scope, Threads};
 
 /// A sender, and the texts that it is to send, in order.
 #[derive(Drop)]
@@ -38,8 +42,8 @@ fn send_texts<R: Wait, Q: Fifo + Drop>(
     requires office { IsSender Q.is_seat Q.permits Q.known office.now sender.old }
     requires due { AreDue (marks office.now) number 0 texts.items }
     ensures office { IsSender Q.is_seat Q.permits Q.known office.now sender.new }
-    ensures sent { result.refusal ≡ None
-        → AddsEntries Q.known sender.old (length texts.items) sender.new }
+    ensures ended { HasEnded Q.is_seat Q.known Q.push_cause office.now sender.old texts.items
+        result.refusal }
 {
     let until = GivenUp { counter: ended };
     let mut place = 0;
@@ -72,6 +76,8 @@ fn send_all<R: Wait, Q: Fifo + Drop>(
     ended: &EndCounter,
 ) -> Ended
     requires { IsTaskAt Q.is_seat Q.permits Q.known office.now number task }
+    ensures { HasEnded Q.is_seat Q.known Q.push_cause office.now task.sender task.texts.items
+        result.refusal }
 {
     let Task { mut sender, texts } = task;
     let end = send_texts(rt, office, number, &mut sender, texts, ended);
@@ -84,8 +90,29 @@ fn send_all<R: Wait, Q: Fifo + Drop>(
     end
 }
 
-// Starts the thread of a task's sender; none where no thread can be made, and the sender then counts as ended. The receiver
-// doesn't take letters yet, so none has to wake it.
+// That the sender of this task ends so in this office.
+#[derive(Drop)]
+struct Ends<Q: Fifo + Drop> {
+    office: Snapshot<Office<Q>>,
+    task: Snapshot<Task<Q>>,
+}
+
+impl<Q: Fifo + Drop> Promise<Ended> for Ends<Q> {
+    ghost use Rattle.mailbox.specs.Causes.{HasEnded};
+
+    ghost kept_by = { λ p ended. HasEnded Q.is_seat Q.known Q.push_cause p.office.value
+        p.task.value.sender p.task.value.texts.items ended.refusal };
+}
+
+// The thread of a task's sender, or that none could be made.
+#[derive(Drop)]
+enum Started<Q: Fifo + Drop> {
+    Running(PromisedHandle<Ended, Ends<Q>>),
+    Unstarted,
+}
+
+// Starts the thread of a task's sender. Where no thread can be made, the sender counts as ended; the receiver doesn't take
+// letters yet, so none has to wake it.
 fn start<'s, E, R: Threads + Wait + Sync, Q: Fifo + Sync + Drop>(
     scope: &Scope<'s, E>,
     rt: &'s R,
@@ -93,81 +120,51 @@ fn start<'s, E, R: Threads + Wait + Sync, Q: Fifo + Sync + Drop>(
     number: usize,
     task: Task<Q>,
     ended: &'s EndCounter,
-) -> Option<JoinHandle<Ended>>
+) -> Started<Q>
     requires { IsTaskAt Q.is_seat Q.permits Q.known office.now number task }
+    ensures { IsStartedFor office.now task result }
 {
-    let started = scope.spawn(
+    let promise = Ends {
+        office: Snapshot::of(office),
+        task: Snapshot::of(&task),
+    };
+    let started = scope.spawn_with(
+        promise,
         move || -> Ended
             requires { IsTaskAt Q.is_seat Q.permits Q.known office.now number task }
+            ensures { HasEnded Q.is_seat Q.known Q.push_cause office.entry.now task.sender
+                task.texts.items result.refusal }
         { send_all(rt, office, number, task, ended) },
     );
     match started {
-        Ok(handle) => Some(handle),
+        Ok(handle) => Started::Running(handle),
         Err(_) => {
             ended.ends_last();
-            None
+            Started::Unstarted
         }
     }
 }
 
-// Whether a letter of this sender is the next one of its task, so many of each being there already; it is then counted. The
-// sender of task 0 is number 1, and so on.
-fn is_next(counts: &mut [usize], from: u16, due: Due) -> bool
-    ensures { result ≡ true → IsNext counts.old from due counts.new }
+// Starts the thread of each task's sender, in their order.
+fn start_all<'s, E, R: Threads + Wait + Sync, Q: Fifo + Sync + Drop>(
+    scope: &Scope<'s, E>,
+    rt: &'s R,
+    office: &'s Office<Q>,
+    tasks: Vec<Task<Q>>,
+    mut threads: Vec<Started<Q>>,
+    ended: &'s EndCounter,
+) -> Vec<Started<Q>>
+    requires tasks { All (IsTask Q.is_seat Q.permits Q.known office.now) tasks.items }
+    requires plan { Plans office.now tasks.items }
+    requires none { threads.items ≡ [] }
+    requires room { length tasks.items ≤ vec_capacity threads }
+    ensures { AllZip (IsStartedFor office.now) tasks.items result.items }
 {
-    let Due { task, place } = due;
-    if task >= counts.len() || usize::from(from) != task + 1 || counts[task] != place {
-        return false;
+    for task in tasks {
+        let number = threads.len();
+        threads.push_reserved(start(scope, rt, office, number, task, ended));
     }
-    let Some(count) = place.checked_add(1) else {
-        return false;
-    };
-    counts[task] = count;
-    true
-}
-
-// Takes letters until so many are there, until the queue is shut and empty, or until all senders had ended before there was
-// none. There is a count for each sender.
-fn take_all<'a, R: Wait, Q: Fifo + Drop>(
-    rt: &R,
-    office: &'a Office<Q>,
-    receiver: &mut Receiver<Q>,
-    mut letters: Vec<Letter<'a>>,
-    due: usize,
-    mut counts: Vec<usize>,
-    ended: &EndCounter,
-) -> Result<Vec<Letter<'a>>, Refusal>
-    requires office { IsReceiver Q.is_seat Q.permits Q.known office.now receiver.old }
-    requires none { letters.items ≡ [] }
-    requires room { due ≤ vec_capacity letters }
-    requires zero { counts.items ≡ replicate (length counts.items) 0 }
-    ensures office { IsReceiver Q.is_seat Q.permits Q.known office.now receiver.new }
-    ensures order { InOrder (receiver_knows Q.known receiver.new) }
-    ensures delivered { IfOk result (λ v. Delivered Q.known receiver.old v.items receiver.new) }
-    ensures most { IfOk result (λ v. length v.items ≤ due) }
-    ensures texts { IfOk result (λ v. AreThoseDue office.now (length counts.items) v.items) }
-    ensures refusal { IfErr result EndsPost }
-{
-    let until = AllEnded { counter: ended };
-    for _ in rt.forever() {
-        if letters.len() >= due {
-            return Ok(letters);
-        }
-        match receiver.recv_until(rt, office, &until) {
-            Ok(Some(letter)) => {
-                let Some(place) = receiver.last_due(office) else {
-                    return Err(Refusal::Lost);
-                };
-                if !is_next(&mut counts, letter.from, place) {
-                    return Err(Refusal::Lost);
-                }
-                letters.push_reserved(letter);
-            }
-            Ok(None) | Err(Refusal::Closed) => return Ok(letters),
-            Err(refusal) => return Err(refusal),
-        }
-    }
-    unreachable!()
+    threads
 }
 
 // What is answered of a sender's refusal: that its letters are lost, where it found the queue shut.
@@ -183,16 +180,25 @@ fn answered(refusal: Option<Refusal>) -> Option<Refusal>
     }
 }
 
-// Waits for the senders' threads; what is answered of the first sender that was refused.
-fn join_all<R: Threads + Wait>(rt: &R, threads: Vec<Option<JoinHandle<Ended>>>) -> Option<Refusal>
-    ensures { IfSome result EndsPost }
+// What is told of a sender, once its thread has ended.
+fn join_one<R: Threads + Wait, Q: Fifo + Drop>(rt: &R, thread: Started<Q>) -> Option<Refusal>
+    ensures told { TellFirst Q.is_seat Q.known Q.push_cause (thread ∷ []) result }
+    ensures refusal { IfSome result EndsPost }
+{
+    match thread {
+        Started::Running(handle) => answered(handle.join(rt).refusal()),
+        Started::Unstarted => Some(Refusal::Memory),
+    }
+}
+
+// Waits for the senders' threads; what is told of the first sender that was refused.
+fn join_all<R: Threads + Wait, Q: Fifo + Drop>(rt: &R, threads: Vec<Started<Q>>) -> Option<Refusal>
+    ensures first { TellFirst Q.is_seat Q.known Q.push_cause threads.items result }
+    ensures refusal { IfSome result EndsPost }
 {
     let mut first = None;
     for thread in threads {
-        let refusal = match thread {
-            Some(handle) => answered(handle.join(rt).refusal()),
-            None => Some(Refusal::Memory),
-        };
+        let refusal = join_one(rt, thread);
         if first.is_none() {
             first = refusal;
         }
@@ -230,6 +236,8 @@ fn run<'s, 'a: 's, E, R: Threads + Wait + Sync, Q: Fifo + Sync + Drop>(
     ensures all { IfOk result (λ v. length v.items ≡ letters_of tasks.items) }
     ensures texts { IfOk result (λ v. BringTexts (map texts_in tasks.items) v.items) }
     ensures refusal { IfErr result EndsPost }
+    ensures caused { IfErr result (λ refusal. PostRefused Q.is_seat Q.known Q.push_cause office.now
+        tasks.items receiver.old refusal receiver.new) }
 {
     let senders = tasks.len();
     let Some(due) = count_letters(&tasks) else {
@@ -246,10 +254,7 @@ fn run<'s, 'a: 's, E, R: Threads + Wait + Sync, Q: Fifo + Sync + Drop>(
     let Ok(()) = threads.reserve(senders) else {
         return Err(Refusal::Memory);
     };
-    for task in tasks {
-        let number = threads.len();
-        threads.push_reserved(start(scope, rt, office, number, task, ended));
-    }
+    let threads = start_all(scope, rt, office, tasks, threads, ended);
     let taken = take_all(rt, office, receiver, letters, due, counts, ended);
     give_up(office, ended);
     let refused = join_all(rt, threads);
@@ -298,6 +303,13 @@ pub fn post<'a, R: Threads + Wait + Sync, Q: Fifo + Sync + Drop>(
     ensures all { IfOk result.1 (λ v. length v.items ≡ letters_of tasks.items) }
     ensures texts { IfOk result.1 (λ v. BringTexts (map texts_in tasks.items) v.items) }
     ensures refusal { IfErr result.1 EndsPost }
+    //= letters/post_refused: Letters that aren't posted: at `Memory` the receiver may be as it was, before any thread. Or
+    //=   a take was refused, by `WornOut` with nothing taken, or by `Lost`, where a letter is lost or out of its turn. Or
+    //=   all were taken that were there, fewer than the tasks have: then the first sender that was refused is told, by
+    //=   what it was refused, with its cause, by `Memory` where it had no thread, by `Lost` where it found the queue shut;
+    //=   and `Lost`, where none was. Each sender had sent all, or as many as were before the refused one.
+    ensures caused { IfErr result.1 (λ refusal. PostRefused Q.is_seat Q.known Q.push_cause
+        office.now tasks.items receiver refusal result.0) }
 {
     let counter = EndCounter::new(tasks.len());
     let ended = &counter;
@@ -314,6 +326,8 @@ pub fn post<'a, R: Threads + Wait + Sync, Q: Fifo + Sync + Drop>(
             ensures all { IfOk result.1 (λ v. length v.items ≡ letters_of tasks.items) }
             ensures texts { IfOk result.1 (λ v. BringTexts (map texts_in tasks.items) v.items) }
             ensures refusal { IfErr result.1 EndsPost }
+            ensures caused { IfErr result.1 (λ refusal. PostRefused Q.is_seat Q.known Q.push_cause
+                office.entry.now tasks.items receiver refusal result.0) }
         {
             let mut receiver = receiver;
             let letters = run(scope, rt, alloc, office, tasks, &mut receiver, ended);

@@ -206,6 +206,7 @@ impl<Q: Fifo + Drop> Receiver<Q> {
         ensures order { InOrder (receiver_knows Q.known self.new) }
         ensures refused { IfErr result
             (λ refusal. refusal ≢ Lost → TookNothing RecvRefused Q.known self.old refusal self.new) }
+        ensures lost { result ≡ Err Lost → Loses Received Q.known self.old self.new }
         ensures refusal { IfErr result EndsTake }
     {
         if self.has_lost() {

@@ -1,10 +1,10 @@
 //! Senders of letters.
-ghost use Rattle.std.specs.Prelude.{◌≡◌, ◌≤◌, Err, OnOk, IfOk, IfErr, string_bytes};
+ghost use Rattle.std.specs.Prelude.{◌≡◌, ◌≤◌, Err, Some, OnOk, IfOk, IfErr, string_bytes};
 ghost use Rattle.history.specs.declared.refusals.Refusal.TheVariants.{Memory, BadSize};
 ghost use Rattle.history.specs.Answers.{StopsShut, EndsShut};
 ghost use Rattle.mailbox.specs.Refusals.{StopsStore, StopsSend, EndsSend, EndsDue, HandsOn};
 ghost use Rattle.mailbox.specs.Plans.{Fits, IsDue};
-ghost use Rattle.mailbox.specs.Offices.{IsSender, marks, Stored, Sent, SentNothing, HasNoBody};
+ghost use Rattle.mailbox.specs.Offices.{IsSender, marks, Stored, StoredAs, Sent, SentNothing, HasNoBody};
 ghost use Rattle.mailbox.specs.Offices.{HasStored, HasSentTheSame, DidShutOffice};
 ghost use Rattle.mailbox.specs.Offices.{SendHadCause, SendEnded};
 
@@ -35,6 +35,7 @@ impl<Q: Fifo + Drop> Sender<Q> {
         ensures stored { IfOk result (λ body. Stored office.now self.new body (string_bytes text)) }
         ensures memory { result ≡ Err Memory → self.new ≡ self.old }
         ensures no_body { result ≡ Err BadSize → HasNoBody office.now self.old self.new text }
+        ensures due { OnOk result (StoredAs self.new due) }
         ensures refusal { IfErr result StopsStore }
     {
         let Ok(pushed) = office.letters.push_shown(rt, Parcel { due, text }) else {
@@ -127,6 +128,7 @@ impl<Q: Fifo + Drop> Sender<Q> {
         ensures refused { IfErr result (λ refusal. SentNothing Q.known self.old refusal self.new) }
         ensures memory { result ≡ Err Memory → self.new ≡ self.old }
         ensures no_body { result ≡ Err BadSize → HasNoBody office.now self.old self.new text }
+        ensures as_due { OnOk result (StoredAs self.new (Some due)) }
         ensures refusal { IfErr result EndsDue }
         ensures stored { IfErr result (HandsOn (λ _. HasStored office.now self.new text)) }
         ensures caused { IfErr result

@@ -18,7 +18,6 @@ use std::thread::Threads;
 const GREATEST_COUNT: u64 = 1_099_511_627_775;
 
 /// Three letters of two senders come in the order in which they were sent; then there is none.
-/// A mutant, by hand: a `try_send` that is always `Busy` fails here.
 #[test]
 fn in_the_order_sent(rt: HostRuntime) -> Result<(), Fail> {
     let (queue, seats, receiver) = mail_queue::<NonBlockingAlgorithm>(rt.alloc(), 7, 100, 2)?;

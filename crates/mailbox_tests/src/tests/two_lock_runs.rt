@@ -27,7 +27,6 @@ const GREATEST_COUNT: u64 = 1_099_511_627_775;
 const TRIES: u32 = 100;
 
 /// Three letters of two senders come in the order in which they were sent; then there is none.
-/// A mutant, by hand: a `try_send` that is always `Busy` fails here.
 #[test]
 fn in_the_order_sent(rt: HostRuntime) -> Result<(), Fail> {
     let (queue, seats, receiver) = mail_queue::<TwoLockAlgorithm>(rt.alloc(), 7, 100, 2)?;
@@ -227,7 +226,6 @@ fn letters_come_through_a_small_queue(rt: HostRuntime) -> Result<(), Fail> {
 
 /// A letter that isn't the next one of its sender's is lost, or that is of no task; so are those of an office that was shut
 /// before.
-/// A mutant, by hand: a `post` that tells `NoNode` for such a letter fails here.
 #[test]
 fn letters_that_are_not_due_are_lost(rt: HostRuntime) -> Result<(), Fail> {
     let (queue, seats, receiver) = mail_queue::<TwoLockAlgorithm>(rt.alloc(), 7, 100, 2)?;

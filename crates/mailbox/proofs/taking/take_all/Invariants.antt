@@ -3,8 +3,8 @@ use Rattle.mailbox.specs.Deliveries.{InOrder}
 use Rattle.mailbox.specs.Plans.{plan_numbers}
 use Rattle.mailbox.specs.Offices.{IsReceiver, marks}
 use Rattle.mailbox.specs.Posting.{Delivered}
-use Rattle.mailbox.proofs.Counting.{AreCounted}
-use Rattle.mailbox.proofs.posting.take_all.Given as goal
+use Rattle.mailbox.proofs.Counting.{AreCounted, AreNumbers}
+use Rattle.mailbox.proofs.taking.take_all.Given as goal
 
 abbrev pub invariant-loop : goal.invariant-loop
 invariant-loop g l = record {
@@ -16,5 +16,6 @@ invariant-loop g l = record {
   delivered : Delivered g.Q.Fifo.known l.fn.receiver l.letters.items l.receiver;
   senders : length l.counts.items ≡ length l.fn.counts.items;
   counted : (lists : List (List (List ℕ))) → marks l.fn.office ≡ plan_numbers lists → AreCounted lists l.counts.items l.letters.items;
+  numbers : AreNumbers l.counts.items l.letters.items;
   order : InOrder (g.Q.Fifo.known l.receiver.seat);
 }

@@ -1,0 +1,44 @@
+-- Letters that were taken, and then none, or a refusal.
+use Rattle.std.proofs.Common.{◌≡◌, ◌≢◌, refl, subst, inl, inr, ℕ, List}
+use Rattle.std.specs.Prelude.{Option, IfSome}
+use Rattle.history.specs.declared.refusals.Refusal.{Refusal}
+use Rattle.history.specs.declared.refusals.Refusal.TheVariants.{Closed, Lost}
+use Rattle.history.specs.Seats.{Known}
+use Rattle.history.specs.Answers.{EndsPop}
+use Rattle.blocking_queue.specs.Answers.{Received, RecvRefused}
+use Rattle.mailbox.specs.declared.office.Office.{Office}
+use Rattle.mailbox.specs.declared.parcels.Due.{Due}
+use Rattle.mailbox.specs.declared.receiver.Letter.{Letter}
+use Rattle.mailbox.specs.declared.receiver.Receiver.{Receiver}
+use Rattle.mailbox.specs.Offices.{TookText, TookNothing, Loses, LastIs, WaitedInVain}
+use Rattle.mailbox.specs.Posting.{Delivered}
+use Rattle.mailbox.specs.Causes.{IsItsTurn, TookAllThere, TookUntil}
+
+closed≢lost : Closed ≢ Lost
+closed≢lost same = subst EndsPop same tt
+
+module _ {Q S : Type 0} (known : S → Known) (r : Receiver Q S) (letters : List Letter) (last r' : Receiver Q S) (taken : Delivered known r letters last) where
+  -- the receiver waited in vain
+  pub all_there_open : WaitedInVain known last r' → TookAllThere known r letters r'
+  all_there_open none = record { last = last; delivered = taken; none = inl none }
+
+  -- it found the queue shut and empty
+  pub all_there_shut : (Closed ≢ Lost → TookNothing RecvRefused known last Closed r') → TookAllThere known r letters r'
+  all_there_shut none = record { last = last; delivered = taken; none = inr (none closed≢lost) }
+
+  module _ (o : Office Q S) (senders : ℕ) where
+    -- a take was refused
+    pub until_refused : (refusal : Refusal) → (refusal ≢ Lost → TookNothing RecvRefused known last refusal r') → (refusal ≡ Lost → Loses Received known last r') → TookUntil known o senders r refusal r'
+    until_refused refusal nothing lost =
+        record { letters = letters; last = last; delivered = taken; stops = record { nothing = nothing; lost = λ is. inl (lost is) } }
+
+    -- a letter was taken out of its turn
+    pub until_out_of_turn : (letter : Letter) (due : Option Due) → TookText Received known o last letter.from letter.text.now r' → LastIs r' due → IfSome due (λ d. IsItsTurn senders letters letter.from d → ⊥)
+        → TookUntil known o senders r Lost r'
+    until_out_of_turn letter due took is out =
+        record {
+          letters = letters;
+          last = last;
+          delivered = taken;
+          stops = record { nothing = λ other. absurd (other refl); lost = λ _. inr (record { letter = letter; took = took; due = due; is = is; out = out }) };
+        }
