@@ -1,5 +1,5 @@
 """The picture that is due of a schedule, by its trace as traced.py finds it, docs/LINES.md and docs/PICTURES.md alone; the
-timeline of a history."""
+timeline of a history; the picture of a reason, by what is told of it."""
 import os
 import re
 
@@ -9,6 +9,7 @@ NAMES = {"1": "NoNode", "2": "WornOut", "3": "Busy", "16": "Closed"}
 EXCHANGES = set("N4 N5 F3 E9 E13 E17 D10 D13 A3 A5 B1 S4 S5 S6 S8".split())
 ROW = re.compile(r"(\d+) (\d+) (\w+) (?:(gives)|(.+) found (.+) now (.+?))(?: reply (.+))?")
 STAND = re.compile(r"(\d+) at (\w+) (.+) holds (.+)")
+TIMES = re.compile(r".* (?:first|from) (\d+) (?:last|to) (-|\d+)(?: at (-|\d+))? reply .*")
 OPERATION = re.compile(r"(\d+) (enq \d+|deq|shut) first (\d+) last (-|\d+) at (-|\d+) reply (.+)")
 
 
@@ -154,18 +155,13 @@ def due(schedule, **view):
     return fault or written
 
 
-def timeline(history, width=80, first=1, last=0, actor=0, legend=0):
-    """The timeline of a history's text."""
-    ops = [OPERATION.fullmatch(line).groups() for line in history.split("\n")[1:-1]]
-    number = lambda text: None if text == "-" else int(text)
-    ops = [(int(me), call, int(f), number(l), number(at), reply) for me, call, f, l, at, reply in ops]
-    end = max([0] + [n for op in ops for n in op[2:5] if n])
-    width = max(40, min(width, 190))
-    columns, to = width // 2, min(last or first + 99, end)
+def scaled(ops, first, to, columns, actor=0):
+    """Which of operations, each an actor, a first and a last number and its place, are shown from one number to another, and their
+    bars."""
     place = lambda n: max(n - first, 0) * columns // (max(to - first, 0) + 1)
-    shown = [op for op in ops if op[2] <= to and (op[3] is None or first <= op[3]) and actor in (0, op[0])]
-    rows = []
-    for me, call, f, l, at, reply in shown:
+    for index, (me, f, l, at) in enumerate(ops):
+        if f > to or l is not None and l < first or actor not in (0, me):
+            continue
         bar = [" "] * columns
         goes_on = l is None or l > to
         start, stop = place(f), columns - 1 if goes_on else place(l)
@@ -175,25 +171,71 @@ def timeline(history, width=80, first=1, last=0, actor=0, legend=0):
             bar[stop] = ">" if goes_on else "|"
         if at is not None and first <= at <= to:
             bar[place(at)] = "*"
-        text = f"{me:>6} {''.join(bar)} {call} -> {named(reply)}"
+        yield index, "".join(bar)
+
+
+def number(text):
+    return None if text == "-" else int(text)
+
+
+def greatest(ops):
+    """The greatest number of operations."""
+    return max([0] + [n for op in ops for n in op[1:] if n])
+
+
+def timeline(history, width=80, first=1, last=0, actor=0, legend=0):
+    """The timeline of a history's text."""
+    told = [OPERATION.fullmatch(line).groups() for line in history.split("\n")[1:-1]]
+    ops = [(int(me), int(f), number(l), number(at)) for me, _, f, l, at, _ in told]
+    end = greatest(ops)
+    width = max(40, min(width, 190))
+    to = min(last or first + 99, end)
+    rows = []
+    for index, bar in scaled(ops, first, to, width // 2, actor):
+        me, call, *_, reply = told[index]
+        text = f"{me:>6} {bar} {call} -> {named(reply)}"
         rows.append(text if len(text) <= width else text[: width - 1] + "~")
-    rows.append(f"steps {first} to {to} of {end}, operations {len(shown)} of {len(ops)}")
+    rows.append(f"steps {first} to {to} of {end}, operations {len(rows)} of {len(ops)}")
+    return "".join(f"{row}\n" for row in rows)
+
+
+def reason(text, why, width=80, first=1, last=0, actor=0):
+    """The picture of a reason of a recorded history's text, by what `msq place --why` writes: the line that tells the reason, and
+    the lines of its operations with their numbers."""
+    head, *told = why.splitlines()
+    of_reason = {int(line.split()[0]) for line in told}
+    before = 2 if text.startswith("msq") else 1
+    lines, ops = text.split("\n")[before:-1], []
+    for line in lines:
+        f, l, at = TIMES.fullmatch(line).groups()
+        # Each operation of a recording is the actor 1's.
+        ops.append((1 if before == 2 else int(line.split()[0]), int(f), number(l), number(at or "-")))
+    own = [op for index, op in enumerate(ops) if index + 1 + before in of_reason]
+    first, end = max(first, min(n for op in own for n in op[1:3] if n)), greatest(own)
+    to = min(last or end, end)
+    rows = [head]
+    for index, bar in scaled(ops, first, to, max(40, min(width, 190)) // 2, actor):
+        at = index + 1 + before
+        rows.append(f"{'!' if at in of_reason else ' '} {bar} {at} {lines[index]}")
+    rows.append(f"times 0 to {max(to - first, 0)} from {first}, operations {len(rows) - 1} of {len(ops)}")
     return "".join(f"{row}\n" for row in rows)
 
 
 LOOKS = {"usual": "\033[0m", "bright": "\033[0;1;32m", "dim": "\033[0;2m"}
 
 
-def coloured(text, is_timeline):
-    """A picture or a timeline with its colours: a code wherever bytes look otherwise than the one before."""
+def coloured(text, kind):
+    """What is drawn of a picture, a timeline or a reason with its colours: a code wherever bytes look otherwise than the one before."""
     told, last = "", "usual"
     for row in text.splitlines(keepends=True):
         star, bar = row.find("*"), row.find(" |") + 1
         for column, byte in enumerate(row):
             look = "usual"
-            if byte == "*" or not is_timeline and 0 <= star < column and byte != "\n":
+            if kind == "reason":
+                look = "bright" if row[0] == "!" and byte != "\n" else "usual"
+            elif byte == "*" or kind == "picture" and 0 <= star < column and byte != "\n":
                 look = "bright"
-            if not is_timeline and 0 < bar <= column and byte != "\n":
+            if kind == "picture" and 0 < bar <= column and byte != "\n":
                 look = "dim"
             told, last = told + (LOOKS[look] if look != last else "") + byte, look
     return told

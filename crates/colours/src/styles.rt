@@ -1,4 +1,4 @@
-//! How the bytes of a drawing look: green and bright where an operation takes effect, dim beside the actors.
+//! How the bytes of a drawing look: green and bright where an operation takes effect or is of a reason, dim beside the actors.
 ghost use Rattle.std.specs.Prelude.{◌≡◌, ◌≤◌, length};
 ghost use Rattle.colours.specs.Plain.{IsColour};
 
@@ -9,6 +9,8 @@ pub enum Drawing {
     Picture,
     /// The timeline of a history: its stars are bright.
     Timeline,
+    /// The picture of a reason: a row that begins with ! is bright.
+    Reason,
 }
 
 /// How a byte looks.
@@ -42,6 +44,8 @@ impl Shown {
     pub(crate) fn then(self, drawing: Drawing, byte: u8) -> Shown {
         let look = match (drawing, self.byte, byte) {
             (_, _, b'\n') => Look::Usual,
+            (Drawing::Reason, b'\n', b'!') => Look::Bright,
+            (Drawing::Reason, _, _) => self.look,
             (_, _, b'*') => Look::Bright,
             (Drawing::Timeline, _, _) => Look::Usual,
             (Drawing::Picture, b' ', b'|') => Look::Dim,

@@ -111,13 +111,13 @@ abbrev pub run_app : App
 run_app = with_rule (file_app (codes "run")) (flag_rule (codes "EXPAND") (codes "expand"))
 
 -- the command `show`, with a FILE, so many columns, a first and a last step, an actor, whether it is a history, whether a page is
--- written, whether lines are told, and when it has colours
+-- written, whether a reason is drawn, whether lines are told, and when it has colours
 abbrev pub show_app : TextRow → App
 show_app whens =
-    with_rule (with_rule (with_rule (with_rule (with_rule (with_rule (with_rule (with_rule (file_app (codes "show")) (number_rule (codes "WIDTH") (codes "width") 40 190 (codes "80")))
+    with_rule (with_rule (with_rule (with_rule (with_rule (with_rule (with_rule (with_rule (with_rule (file_app (codes "show")) (number_rule (codes "WIDTH") (codes "width") 40 190 (codes "80")))
     (number_rule (codes "FROM") (codes "from") 1 (2 ^ 64 - 1) (codes "1"))) (number_rule (codes "TO") (codes "to") 0 (2 ^ 64 - 1) (codes "0")))
     (number_rule (codes "ACTOR") (codes "actor") 0 65535 (codes "0"))) (flag_rule (codes "HISTORY") (codes "history")))
-    (flag_rule (codes "HTML") (codes "html"))) (flag_rule (codes "LINES") (codes "lines"))) (color_rule whens)
+    (flag_rule (codes "HTML") (codes "html"))) (flag_rule (codes "WHY") (codes "why"))) (flag_rule (codes "LINES") (codes "lines"))) (color_rule whens)
 
 -- the command `place`, with a FILE, so many steps, whether the lines of a reason are told, and what the queue holds at the start
 abbrev pub place_app : App
@@ -223,6 +223,7 @@ pub record IsViewOf (options : List Row) (view : View) : Type 0 where
   pub actor : SaysNumber (one_of (codes "ACTOR") options) 0 view.actor
   pub history : SaysFlag (one_of (codes "HISTORY") options) view.is_history
   pub page : SaysFlag (one_of (codes "HTML") options) view.is_page
+  pub reason : SaysFlag (one_of (codes "WHY") options) view.draws_reason
   pub legend : SaysFlag (one_of (codes "LINES") options) view.has_legend
   pub colours : view.colours ≡ colours_named (first_of (codes "COLOR") options)
 

@@ -59,6 +59,8 @@ pub struct View {
     pub is_history: bool,
     /// Whether a page is written that steps through the run.
     pub is_page: bool,
+    /// Whether what is found of a recorded history is drawn, as the reason why it isn't linearizable.
+    pub draws_reason: bool,
     /// Whether a picture tells what the lines in its rows do.
     pub has_legend: bool,
     /// When a picture has colours.
@@ -74,7 +76,7 @@ pub enum Task {
     Expand,
     /// Tells each step of the schedule in it.
     Trace,
-    /// Draws the run of the schedule in it, or the timeline of the history.
+    /// Draws the run of the schedule in it, the timeline of the history, or what is found of a recorded one.
     Show(View),
     /// Judges the history in it.
     Check,

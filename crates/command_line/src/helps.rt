@@ -31,6 +31,7 @@ pub(crate) const SHOW: &str = "Examples:
   msq show --width 100 --lines examples/first_run.schedule
   msq show --html examples/reused_node.schedule
   msq show --history examples/first_run.history
+  msq show --why examples/overtaken.recording
   msq show --html --history examples/overtaken.recording
 
 The texts: docs/FORMATS.md, Schedule, History and Recording; what is drawn: docs/PICTURES.md";

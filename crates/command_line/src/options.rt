@@ -43,6 +43,7 @@ pub(crate) fn view_in(options: &ArgMatches<'_>) -> View
         actor: number_in(options, "ACTOR", 0),
         is_history: flag_in(options, "HISTORY"),
         is_page: flag_in(options, "HTML"),
+        draws_reason: flag_in(options, "WHY"),
         has_legend: flag_in(options, "LINES"),
         colours: colours_in(options),
     }

@@ -38,6 +38,10 @@ pub(crate) fn show_command<'a>(
     let command = command.arg(page.help(
         "Writes a page for a browser that goes through the run or the history",
     ))?;
+    let why = flag_option(alloc, "WHY", "why");
+    let command = command.arg(why.help(
+        "Draws the reason why a history or a recording isn't linearizable",
+    ))?;
     let lines = flag_option(alloc, "LINES", "lines");
     let command = command.arg(lines.help(
         "Tells behind a picture what each line in its rows does",

@@ -50,14 +50,26 @@ Draws-carried options frames meanings given before a b after same kept d =
     record {
       view = d.view;
       asked = d.asked;
-      timeline = λ on off. let t = d.timeline on off in record { operations = t.operations; read = t.read; written = carried _ t.written };
+      timeline = λ on off no. let t = d.timeline on off no in record { operations = t.operations; read = t.read; written = carried _ t.written };
       history_page = λ on page.
           let p = d.history_page on page in
           record { text = p.text; operations = p.operations; bytes = p.bytes; history = p.history; found = p.found; written = carried _ p.written };
       page = λ off on.
           let p = d.page off on in
           record { schedule = p.schedule; in_range = p.in_range; read = p.read; holds = (p.holds.0, p.holds.1, carried _ p.holds.2) };
-      picture = λ off page.
-          let p = d.picture off page in
+      picture = λ off page no.
+          let p = d.picture off page no in
           record { schedule = p.schedule; in_range = p.in_range; read = p.read; holds = (p.holds.0, p.holds.1, carried _ p.holds.2) };
+      found = λ on page.
+          let f = d.found on page in
+          record {
+            text = f.text;
+            operations = f.operations;
+            answer = f.answer;
+            history = f.history;
+            answers = f.answers;
+            cause = f.cause;
+            right = f.right;
+            written = carried _ f.written;
+          };
     }

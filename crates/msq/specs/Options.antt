@@ -10,6 +10,7 @@ use Rattle.page_engine.specs.Histories.{WritesHistoryPage}
 use Rattle.msq.specs.declared.options.Frames.{Frames}
 use Rattle.show_engine.specs.declared.framing.Meaning.{Meaning}
 use Rattle.show_engine.specs.declared.framing.View.{View}
+use Rattle.show_engine.specs.Found.{DrawsFound}
 use Rattle.show_engine.specs.Showing.{WritesPicture}
 use Rattle.show_engine.specs.Telling.{WritesTimeline}
 use Rattle.placing.specs.declared.answers.Placed.{Placed}
@@ -36,14 +37,16 @@ abbrev pub has_colours : Asked → (is_usual : Bool) → Bool
 has_colours options is_usual = if options.is_page then false else colours_at options.colours is_usual
 
 -- known bytes were the text of a history, if the options say so, or else of a schedule; its page in its frame was written, or its
--- timeline or its picture of the view that they ask for. A page tells what a search of at most a million steps finds of a history
+-- timeline or its picture of the view that they ask for, or what is found of a recorded history, if they say so. A page, or a picture
+-- of what is found, tells of a search of at most a million steps
 pub record Draws (options : Asked) (frames : Frames) (meanings : List Meaning) (given : Option (List ℕ)) (old new : SinkState) : Type 0 where
   pub view : View
   pub asked : IsViewOf options meanings view
-  pub timeline : options.is_history ≡ true → options.is_page ≡ false → WritesTimeline view given old new
+  pub timeline : options.is_history ≡ true → options.is_page ≡ false → options.draws_reason ≡ false → WritesTimeline view given old new
   pub history_page : options.is_history ≡ true → options.is_page ≡ true → WritesHistoryPage frames.history given 1000000 old new
   pub page : options.is_history ≡ false → options.is_page ≡ true → WritesPage frames.run given old new
-  pub picture : options.is_history ≡ false → options.is_page ≡ false → WritesPicture view given old new
+  pub picture : options.is_history ≡ false → options.is_page ≡ false → options.draws_reason ≡ false → WritesPicture view given old new
+  pub found : options.draws_reason ≡ true → options.is_page ≡ false → DrawsFound view given 1000000 old new
 
 -- the texts that are held, where some are
 abbrev pub held_texts : Option (Bor (List (Bor (List ℕ)))) → Option (List (List ℕ))

@@ -52,6 +52,7 @@ const ACT: &str =
 pub(crate) fn due_at(command: &Command, text: &[u8], line: u64) -> &'static str {
     match command.task {
         Task::Show(view) if view.is_history && view.is_page => recorded(text, line),
+        Task::Show(view) if view.draws_reason && !view.is_page => recorded(text, line),
         Task::Show(view) if view.is_history => history(line),
         Task::Check => history(line),
         Task::Place(_) if command.held.is_some() => recording(line),

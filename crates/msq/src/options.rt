@@ -20,13 +20,14 @@ use history::Refusal;
 use job_engine::{JobQueue, work_text};
 use page_engine::{Frame, history_page, page_text};
 use place_engine::{Told, place_holding, place_text};
-use show_engine::{Meaning, View, show_history, show_text};
+use show_engine::{Meaning, View, show_found, show_history, show_text};
 use std::alloc::Global;
 use std::sync::Wait;
 use std::thread::Threads;
 use text_io::{Sink, Source};
 
-/// How many steps a search for an order takes at most, of which a page tells: as many as where the words of `place` don't say it.
+/// How many steps a search for an order takes at most, of which a page or a picture tells: as many as where the words of `place`
+/// don't say it.
 const PAGE_STEPS: u64 = 1_000_000;
 
 /// What pages have around what they show.
@@ -45,8 +46,8 @@ fn legend_by<'a>(options: Asked, meanings: &'a [Meaning<'a>]) -> &'a [Meaning<'a
     if options.has_legend { meanings } else { &[] }
 }
 
-/// Draws the schedule, or the history, that a source gives, by the options of `show`, with these meanings of lines where they ask
-/// for a legend; or writes the page of either, in its frame.
+/// Draws the schedule, or the history, or what is found of a recorded history, that a source gives, by the options of `show`, with
+/// these meanings of lines where they ask for a legend; or writes the page of a schedule or a history, in its frame.
 pub(crate) fn show_by<'a, S: Source, W: Sink>(
     alloc: Global,
     options: Asked,
@@ -56,8 +57,9 @@ pub(crate) fn show_by<'a, S: Source, W: Sink>(
     writer: &mut W,
 ) -> Result<(), Fault>
     //= program/show_options: At Ok `show_by`, which `msq show` calls, has drawn what its options ask for: the picture of a
-    //=   schedule, or the timeline of a history, of just that width, those steps and that actor, with a legend or without
-    //=   one; or the page around the schedule's trace, or around the history and what is found of it.
+    //=   schedule, the timeline of a history, or what is found of a recorded history, of just that width, those steps and
+    //=   that actor, with a legend or without one; or the page around the schedule's trace, or around the history and what
+    //=   is found of it.
     ensures drawn { OnOk result (Draws options frames.now meanings.now (S.state reader.old).left
         (W.state writer.old) (W.state writer.new)) }
 {
@@ -70,6 +72,10 @@ pub(crate) fn show_by<'a, S: Source, W: Sink>(
     };
     if options.is_page {
         return page_by(alloc, options, frames, reader, writer);
+    }
+    if options.draws_reason {
+        show_found(alloc, reader, writer, view, PAGE_STEPS)?;
+        return Ok(());
     }
     if options.is_history {
         show_history(alloc, reader, writer, view)?;
@@ -135,6 +141,15 @@ pub(crate) fn wants_colours(options: Asked, is_usual: bool) -> bool
     }
 }
 
+/// What is drawn by the options of `show`.
+fn drawing_by(options: Asked) -> Drawing {
+    match (options.draws_reason, options.is_history) {
+        (true, _) => Drawing::Reason,
+        (false, true) => Drawing::Timeline,
+        (false, false) => Drawing::Picture,
+    }
+}
+
 /// Has a sink hand on the last of what was drawn, and answers what became of it.
 fn finished<W: Sink>(drawn: Result<(), Fault>, sink: &mut Coloured<W>) -> Result<(), Fault>
     ensures same { OnOk result (result ≡ drawn) }
@@ -164,12 +179,7 @@ pub(crate) fn show_coloured<'a, S: Source, W: Sink>(
     ensures drawn { OnOk result.0 (Draws options frames.now meanings.now (S.state reader.old).left
         (plain_state (W.state writer)) (plain_state (W.state result.1))) }
 {
-    let drawing = if options.is_history {
-        Drawing::Timeline
-    } else {
-        Drawing::Picture
-    };
-    let mut coloured = Coloured::new(writer, drawing);
+    let mut coloured = Coloured::new(writer, drawing_by(options));
     let drawn = show_by(alloc, options, frames, meanings, reader, &mut coloured);
     let outcome = finished(drawn, &mut coloured);
     (outcome, coloured.into_inner())

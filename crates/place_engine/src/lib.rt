@@ -11,4 +11,5 @@ mod why;
 
 pub use answering::{Told, place_text};
 pub use holding::place_holding;
-pub use telling::tell;
+pub use telling::{no_line, tell};
+pub use why::{lines_of, places_of, push_given};

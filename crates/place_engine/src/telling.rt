@@ -101,8 +101,9 @@ fn reason_lines(
     Ok(lines)
 }
 
-// The line that tells a reason.
-fn no_line(alloc: Global, reason: &Reason, count: u64) -> Result<Vec<u8>, AllocError>
+/// The line that tells a reason, where the first so many operations push what is held at the start. It takes memory, and doesn't
+/// wait.
+pub fn no_line(alloc: Global, reason: &Reason, count: u64) -> Result<Vec<u8>, AllocError>
     ensures { IfOk result (λ line. line.items ≡ no_text count reason.now) }
 {
     let mut line = Vec::new(alloc);

@@ -84,8 +84,9 @@ fn push_held_text(into: &mut Vec<u8>, place: u64, text: &[u8]) -> Result<(), All
     push_numbered(into, place, text)
 }
 
-// Puts the line of the operation at this place, with its number, behind other bytes.
-fn push_given(
+/// Puts the line of the operation at this place, from 1, with its number, behind other bytes, where so many lines come before that of
+/// the first one; nothing where there is no such line. It takes memory, and doesn't wait.
+pub fn push_given(
     into: &mut Vec<u8>,
     lines: &[&[u8]],
     header: u64,
@@ -117,8 +118,8 @@ fn push_numbered(into: &mut Vec<u8>, number: u64, says: &[u8]) -> Result<(), All
     Ok(())
 }
 
-// The lines of a text: what stands between its line feeds.
-pub(crate) fn lines_of(alloc: Global, text: &[u8]) -> Result<Vec<&[u8]>, AllocError>
+/// The lines of a text: what stands between its line feeds. It takes memory, and doesn't wait.
+pub fn lines_of(alloc: Global, text: &[u8]) -> Result<Vec<&[u8]>, AllocError>
     ensures { IfOk result (λ lines. map bytes_of lines.items ≡ lines_in text.now) }
 {
     let mut lines = Vec::new(alloc);
@@ -131,8 +132,9 @@ pub(crate) fn lines_of(alloc: Global, text: &[u8]) -> Result<Vec<&[u8]>, AllocEr
     Ok(lines)
 }
 
-// The places of the operations of a reason.
-fn places_of(alloc: Global, reason: &Reason) -> Result<Vec<u64>, AllocError>
+/// The places of the operations of a reason: that which it is of, and the others, in the order of its line. It takes memory, and
+/// doesn't wait.
+pub fn places_of(alloc: Global, reason: &Reason) -> Result<Vec<u64>, AllocError>
     ensures { IfOk result (λ places. places.items ≡ texts.places_of reason.now) }
 {
     let mut places = Vec::new(alloc);

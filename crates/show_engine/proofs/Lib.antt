@@ -8,3 +8,6 @@ mod Shown
 mod Links
 mod Gives
 mod Told
+mod RowsBeside
+mod ToldFound
+mod WholePictures

@@ -10,3 +10,5 @@ pub mod Stopping
 pub mod Scales
 pub mod Timelines
 pub mod Telling
+pub mod Reasons
+pub mod Found

@@ -60,7 +60,7 @@ fn mark_in(scale: Scale, operation: &Stamped, column: u64) -> u8
 }
 
 /// Puts an operation's bar at the end of a line.
-fn push_bar(line: &mut Line, scale: Scale, operation: &Stamped)
+pub(crate) fn push_bar(line: &mut Line, scale: Scale, operation: &Stamped)
     requires fits { IsFitting scale }
     requires shown { operation.now.first ≤ scale.to }
     requires room { length line.old + scale.columns ≤ LINE_ROOM }

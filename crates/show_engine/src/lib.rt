@@ -1,8 +1,10 @@
-//! The engine of `msq show`: from the text of a schedule to a picture of its run, and from that of a history to a timeline.
+//! The engine of `msq show`: from the text of a schedule to a picture of its run, and from that of a history to a timeline, or to
+//! a picture of what is found of it.
 #![tactic(auto)]
 
 mod accesses;
 mod bars;
+mod beside;
 mod cells;
 mod chains;
 mod counting;
@@ -12,6 +14,7 @@ mod engine;
 mod framing;
 mod legends;
 mod moving;
+mod reasons;
 mod rows;
 mod scales;
 mod standing;
@@ -20,4 +23,5 @@ mod timeline;
 pub use accesses::ACCESSES;
 pub use engine::show_text;
 pub use framing::{Meaning, View};
+pub use reasons::show_found;
 pub use timeline::show_history;

@@ -80,22 +80,34 @@ const EXPLAINED: [(&[&str], bool); 18] = [
     (&["explain", "1"], false),
 ];
 
-/// Words that ask for a picture, its columns, its first and its last step, its actor, whether it is of a history, and the file.
-const PICTURES: [(&[&str], [u64; 4], [bool; 2], &str); 6] = [
-    (&["show", "a"], [80, 1, 0, 0], [false, false], "a"),
+/// Words that ask for a picture, its columns, its first and its last step, its actor, whether it is of a history, whether lines are
+/// told, whether a reason is drawn, and the file.
+const PICTURES: [(&[&str], [u64; 4], [bool; 3], &str); 7] = [
+    (&["show", "a"], [80, 1, 0, 0], [false, false, false], "a"),
     (
         &["show", "--width", "40", "-"],
         [40, 1, 0, 0],
-        [false, false],
+        [false, false, false],
         "-",
     ),
     (
         &["show", "--history", "a"],
         [80, 1, 0, 0],
-        [true, false],
+        [true, false, false],
         "a",
     ),
-    (&["show", "a", "--lines"], [80, 1, 0, 0], [false, true], "a"),
+    (
+        &["show", "a", "--lines"],
+        [80, 1, 0, 0],
+        [false, true, false],
+        "a",
+    ),
+    (
+        &["show", "--why", "a"],
+        [80, 1, 0, 0],
+        [false, false, true],
+        "a",
+    ),
     (
         &[
             "show",
@@ -110,13 +122,13 @@ const PICTURES: [(&[&str], [u64; 4], [bool; 2], &str); 6] = [
             18_446_744_073_709_551_614,
             0,
         ],
-        [false, false],
+        [false, false, false],
         "a",
     ),
     (
         &["show", "--width=190", "a", "--actor", "65535", "--history"],
         [190, 1, 0, 65_535],
-        [true, false],
+        [true, false, false],
         "a",
     ),
 ];
@@ -134,7 +146,7 @@ const COLOURED: [(&[&str], Colours); 5] = [
 ];
 
 /// Words that ask for no command, and the status.
-const OTHERS: [(&[&str], u8); 60] = [
+const OTHERS: [(&[&str], u8); 61] = [
     (&["run"], 2),
     (&["run", "a", "b"], 2),
     (&["run", "--fast", "a"], 2),
@@ -150,6 +162,7 @@ const OTHERS: [(&[&str], u8); 60] = [
     (&["show", "a", "--to", "18446744073709551616"], 2),
     (&["show", "a", "--actor", "65536"], 2),
     (&["show", "a", "--history=true"], 2),
+    (&["show", "a", "--why=true"], 2),
     (&["show", "a", "--color"], 2),
     (&["show", "a", "--color", "yes"], 2),
     (&["show", "a", "--colour", "never"], 2),
@@ -271,7 +284,7 @@ fn reads_what_a_picture_shows(rt: HostRuntime) -> Result<(), Fail> {
                     view.to,
                     u64::from(view.actor),
                 ],
-                [view.is_history, view.has_legend],
+                [view.is_history, view.has_legend, view.draws_reason],
                 file.as_str(),
             )),
             _ => None,

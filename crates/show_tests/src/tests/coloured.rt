@@ -32,10 +32,24 @@ const BRIGHT_BARS: &str = "\x1b[0m     1 |=\x1b[0;1;32m*\x1b[0m|    enq 5 -> don
      3     \x1b[0;1;32m*\x1b[0m=> enq 6 -> -
 ";
 
+const BESIDE: &str = "no 2 Late 1
+  |==|  4 owner deq from 1 to 3 reply closed
+!  *|=| 5 5 enq 4 first 3 last 5 at 2 reply done
+times 0 to 4 from 1, operations 2 of 3
+";
+
+/// The row of the reason's operation.
+const BRIGHT_BESIDE: &str = "\x1b[0mno 2 Late 1
+  |==|  4 owner deq from 1 to 3 reply closed
+\x1b[0;1;32m!  *|=| 5 5 enq 4 first 3 last 5 at 2 reply done\x1b[0m
+times 0 to 4 from 1, operations 2 of 3
+";
+
 /// What is drawn, a text of it, and the same with colours.
-const COLOURED: [(Drawing, &str, &str); 3] = [
+const COLOURED: [(Drawing, &str, &str); 4] = [
     (Drawing::Picture, ROWS, BRIGHT_ROWS),
     (Drawing::Timeline, BARS, BRIGHT_BARS),
+    (Drawing::Reason, BESIDE, BRIGHT_BESIDE),
     (Drawing::Timeline, "", ""),
 ];
 

@@ -29,8 +29,11 @@ returns c =
     let six : app_of c.in_ok-command-7.command
     ≡ with_rule (with_rule (with_rule (with_rule (with_rule (with_rule (file_app (codes "show")) width) from) to) actor) (flag_rule (codes "HISTORY") (codes "history"))) (flag_rule (codes "HTML") (codes "html")) =
     c.in_ok-command-7.ensures.shape (ap (λ a. a.global) c.help-6.ensures ∙ c.flag_option-page.ensures.local) ∙ ap₂ with_rule five page_is in
-    let lines_is : rule_of c.help-7.result ≡ flag_rule (codes "LINES") (codes "lines") = ap rule_of c.help-7.ensures ∙ c.flag_option-lines.ensures.rule in
-    let seven : app_of c.in_ok-command-8.command
-    ≡ with_rule (with_rule (with_rule (with_rule (with_rule (with_rule (with_rule (file_app (codes "show")) width) from) to) actor) (flag_rule (codes "HISTORY") (codes "history"))) (flag_rule (codes "HTML") (codes "html"))) (flag_rule (codes "LINES") (codes "lines")) =
-    c.in_ok-command-8.ensures.shape (ap (λ a. a.global) c.help-7.ensures ∙ c.flag_option-lines.ensures.local) ∙ ap₂ with_rule six lines_is in
-    IfOk-weaker c.arg-8.result _ _ (λ r h. h.shape c.color_option.ensures.local ∙ ap₂ with_rule seven c.color_option.ensures.rule) c.arg-8.ensures
+    let base = with_rule (with_rule (with_rule (with_rule (with_rule (with_rule (file_app (codes "show")) width) from) to) actor) (flag_rule (codes "HISTORY") (codes "history"))) (flag_rule (codes "HTML") (codes "html")) in
+    let why_is : rule_of c.help-7.result ≡ flag_rule (codes "WHY") (codes "why") = ap rule_of c.help-7.ensures ∙ c.flag_option-why.ensures.rule in
+    let seven : app_of c.in_ok-command-8.command ≡ with_rule base (flag_rule (codes "WHY") (codes "why")) =
+    c.in_ok-command-8.ensures.shape (ap (λ a. a.global) c.help-7.ensures ∙ c.flag_option-why.ensures.local) ∙ ap₂ with_rule six why_is in
+    let lines_is : rule_of c.help-8.result ≡ flag_rule (codes "LINES") (codes "lines") = ap rule_of c.help-8.ensures ∙ c.flag_option-lines.ensures.rule in
+    let eight : app_of c.in_ok-command-9.command ≡ with_rule (with_rule base (flag_rule (codes "WHY") (codes "why"))) (flag_rule (codes "LINES") (codes "lines")) =
+    c.in_ok-command-9.ensures.shape (ap (λ a. a.global) c.help-8.ensures ∙ c.flag_option-lines.ensures.local) ∙ ap₂ with_rule seven lines_is in
+    IfOk-weaker c.arg-9.result _ _ (λ r h. h.shape c.color_option.ensures.local ∙ ap₂ with_rule eight c.color_option.ensures.rule) c.arg-9.ensures

@@ -11,9 +11,10 @@ returns-then-options g c =
       drawn = OnOk-either asked.is_history c.page_by.result _ _ _ c.page_by.ensures.run c.page_by.ensures.history (λ run history. record {
         view = record { width = asked.width; from = asked.from; to = asked.to; actor = asked.actor; legend = c.legend_by.result };
         asked = record { width = refl; first = refl; last = refl; actor = refl; legend = c.legend_by.ensures };
-        timeline = λ on off. absurd (false≢true (sym off ∙ c.if-options.true));
+        timeline = λ on off none. absurd (false≢true (sym off ∙ c.if-options.true));
         history_page = λ on page. history on;
         page = λ off page. run off;
-        picture = λ off no. absurd (false≢true (sym no ∙ c.if-options.true));
+        picture = λ off no none. absurd (false≢true (sym no ∙ c.if-options.true));
+        found = λ on no. absurd (false≢true (sym no ∙ c.if-options.true));
       });
     }
