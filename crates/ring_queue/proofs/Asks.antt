@@ -1,14 +1,14 @@
 -- What the lines ask of a ring's table.
-use Rattle.std.proofs.Common.{◌≡◌, ℕ, ◌+◌, ◌<◌, Bool, true, false, if◌then◌else◌, List, [], ◌∷◌, Option, sym, refl, ap, ◌∙◌, subst, arith, ⊎_elim, inl, ◌++◌, append-nil, append_assoc}
+use Rattle.std.proofs.Common.{◌≡◌, ℕ, ◌<◌, Bool, true, false, if◌then◌else◌, List, [], ◌∷◌, Option, sym, refl, ap, ◌∙◌, subst, arith, ⊎_elim, inl, ◌++◌, append-nil, append_assoc}
 use Rattle.atomic_table.specs.Table.{Me, Allows, carried_after}
 use Rattle.atomic_table.specs.Seated.{TableId}
 use Rattle.history.specs.declared.operations.Entry.{Entry}
 use Rattle.history.specs.declared.operations.Entry.TheVariants.{Shut}
 use Rattle.node_arena.specs.Deeds.{closed}
 use Rattle.ring_queue.specs.declared.seats.Seat.{Seat}
-use Rattle.ring_queue.specs.Plans.{Layout, IsTable, words_of, slots_of}
+use Rattle.ring_queue.specs.Plans.{Layout, IsTable, words_of}
 use Rattle.ring_queue.specs.Seeing.{SeatView, seated, knows}
-use Rattle.ring_queue.specs.Beside.{Beside, EffectBy, HoldsBy, IsReadyBy, KnowsNow, Moves, Stays, TellsBeside, TellsQuiet}
+use Rattle.ring_queue.specs.Beside.{Beside, EffectBy, HoldsBy, IsReadyBy, Moves, Stays, TellsBeside, TellsQuiet}
 use Rattle.ring_queue.specs.Seats.{view, Sits}
 use Rattle.ring_queue.proofs.Calls.{Does}
 use Rattle.ring_queue.proofs.Lifts.{allows_beside}

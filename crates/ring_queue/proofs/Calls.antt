@@ -1,5 +1,5 @@
 -- What the lines ask of the table, and what they answer.
-use Rattle.std.proofs.Common.{false, ◌≡◌, ℕ, ◌+◌, ◌-◌, ◌%◌, ◌^◌, length, ◌<◌, ◌≤◌, List, [], ◌∷◌, get_or, set, Option, Some, slice_get, sym, refl, ap, ◌∙◌, subst, arith}
+use Rattle.std.proofs.Common.{◌≡◌, ℕ, ◌+◌, ◌-◌, ◌%◌, length, ◌<◌, ◌≤◌, List, [], ◌∷◌, get_or, set, Option, sym, subst, arith}
 use Rattle.std.proofs.lemmas.List.{set-get_or}
 use Rattle.std.proofs.lemmas.Option.{slice_get_within}
 use Rattle.atomic_table.specs.Seated.{TableId}
@@ -7,12 +7,12 @@ use Rattle.ring_queue.specs.declared.seats.Seat.{Seat}
 use Rattle.history.specs.declared.operations.Entry.{Entry}
 use Rattle.history.specs.declared.operations.Taken.{Taken}
 use Rattle.ring_queue.specs.Words.{face, slot_word}
-use Rattle.ring_queue.specs.Plans.{Layout, IsTable}
+use Rattle.ring_queue.specs.Plans.{Layout}
 use Rattle.ring_queue.specs.Seeing.{SeatView, claimed, found}
-use Rattle.ring_queue.specs.Rule.{put, Ring, Holds}
-use Rattle.ring_queue.specs.Steps.{Rests, PlaceFilled, FrontFound, NextFound, Tells}
+use Rattle.ring_queue.specs.Rule.{put, Ring}
+use Rattle.ring_queue.specs.Steps.{Rests, PlaceFilled, FrontFound, NextFound}
 use Rattle.ring_queue.specs.Seats.{view, Sits}
-use Rattle.ring_queue.proofs.Tables.{Extends, its_seat, one_seat}
+use Rattle.ring_queue.proofs.Tables.{Extends}
 use Rattle.ring_queue.proofs.Lines.{reads_front, reads_next}
 use Rattle.ring_queue.proofs.Fills.{fills_place}
 

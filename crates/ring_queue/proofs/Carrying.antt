@@ -1,5 +1,5 @@
 -- A line of a ring keeps the rule of the slots too: what it adds to the history of numbers, it adds to that of values.
-use Rattle.std.proofs.Common.{◌≡◌, ◌≢◌, ℕ, ◌+◌, ◌*◌, ◌<◌, ◌≤◌, ◌⊎◌, inl, inr, ⊎_elim, Bool, true, false, if◌then◌else◌, Option, Some, None, List, [], ◌∷◌, ◌++◌, zero, suc, length, get_or, set, map, take, sym, refl, ap, ◌∙◌, subst, arith, append-nil, append_assoc}
+use Rattle.std.proofs.Common.{◌≡◌, ◌≢◌, ℕ, ◌+◌, ◌<◌, ◌≤◌, ◌⊎◌, inl, inr, ⊎_elim, Bool, true, false, if◌then◌else◌, Option, Some, None, List, [], ◌∷◌, ◌++◌, zero, suc, length, get_or, set, map, take, sym, refl, ap, ◌∙◌, subst, arith, append-nil, append_assoc}
 use Rattle.std.proofs.lemmas.List.{length-set, get_or-set_same, get_or-set_other, get_or-take, take-set-le}
 use Rattle.std.proofs.Math.Seq.{take-set-lt}
 use mathlib.Core.Option.{some, none, some-injective, some-ne-none}
@@ -26,7 +26,7 @@ use Rattle.node_arena.proofs.Loads.{runs_to_pop}
 use Rattle.node_arena.proofs.KnownValues.{all_on}
 use Rattle.ring_queue.specs.Plans.{Layout, words_of}
 use Rattle.ring_queue.specs.Seeing.{SeatView, View, seated, knows}
-use Rattle.ring_queue.specs.Rule.{Ring, Holds, put}
+use Rattle.ring_queue.specs.Rule.{Ring, put}
 use Rattle.ring_queue.specs.Beside.{Beside, plain_of, plain_state, hand_in, hand_at, Begins, Carried, HoldsValues, KnowsValues, Effect, IsReadyFor}
 use Rattle.ring_queue.proofs.Tables.{HoldsWith, Extends, its_seat, one_seat}
 use Rattle.ring_queue.proofs.Calls.{Does}

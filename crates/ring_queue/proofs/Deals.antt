@@ -1,11 +1,11 @@
 -- The opening keeps the rule, and so does a seat that is dealt.
-use Rattle.std.proofs.Common.{◌≡◌, ◌≢◌, ◌⊎◌, ℕ, ◌+◌, ◌-◌, ◌*◌, ◌/◌, ◌%◌, ◌^◌, ◌<◌, ◌≤◌, Bool, false, List, [], ◌∷◌, ◌++◌, zero, suc, length, get_or, set, Some, None, slice_get, sym, refl, ap, ◌∙◌, subst, ⊎_elim, inl, inr, arith}
+use Rattle.std.proofs.Common.{◌≡◌, ◌≢◌, ◌⊎◌, ℕ, ◌+◌, ◌*◌, ◌/◌, ◌%◌, ◌^◌, ◌<◌, ◌≤◌, Bool, false, List, [], ◌∷◌, ◌++◌, zero, suc, length, get_or, set, Some, None, slice_get, sym, refl, ap, ◌∙◌, subst, ⊎_elim, inl, inr, arith}
 use Rattle.std.proofs.Math.Arith.{digits_div, digits_mod}
 use Rattle.std.proofs.lemmas.Option.{none-some}
 use Rattle.std.proofs.lemmas.List.Elements.{All-nil}
 use mathlib.Core.Option.{some, some-injective, some-ne-none}
 use lib.ListN.{get_elem?}
-use Rattle.atomic_table.specs.Table.{Me, Splits, opening}
+use Rattle.atomic_table.specs.Table.{Splits, opening}
 use Rattle.atomic_table.proofs.Lists.{at_set}
 use Rattle.history.specs.declared.operations.Entry.{Entry}
 use Rattle.history.specs.Seats.{IsNoted, IsPermitted, IsSound}
@@ -14,10 +14,9 @@ use Rattle.ring_queue.specs.declared.roles.Role.{Role}
 use Rattle.ring_queue.specs.declared.queue.RingQueue.{RingQueue}
 use Rattle.ring_queue.specs.declared.seats.Seat.{Seat}
 use Rattle.ring_queue.specs.Making.{IsDealt, AreDealt, HasSlots, IsMade, IsMadeFor}
-use Rattle.ring_queue.specs.Steps.{Rests}
 use Rattle.ring_queue.specs.Words.{parity, slot_word}
-use Rattle.ring_queue.specs.Plans.{Layout, IsPlanned, IsTable, permits_of}
-use Rattle.ring_queue.specs.Seeing.{SeatView, View, keeper, seated, members, new_seat, knows, known_by, dealt_left, dealt_right}
+use Rattle.ring_queue.specs.Plans.{Layout, IsPlanned, permits_of}
+use Rattle.ring_queue.specs.Seeing.{SeatView, View, keeper, seated, members, new_seat, known_by, dealt_left, dealt_right}
 use Rattle.ring_queue.specs.Rule.{put, total, Ring, Holds, first_view}
 use Rattle.ring_queue.proofs.Puts.{put_here, put_else, total_bound}
 use Rattle.ring_queue.proofs.Keeps.{cell}

@@ -1,19 +1,13 @@
 -- A token that gathers those of seats that are closed.
-use Rattle.std.proofs.Common.{◌≡◌, ◌≢◌, ℕ, ◌<◌, List, [], ◌∷◌, ◌++◌, length, map, set, sym, refl, ap, ◌∙◌, subst, ⊎_elim}
-use Rattle.std.specs.List.{All}
+use Rattle.std.proofs.Common.{◌≡◌, ◌≢◌, ℕ, ◌<◌, List, [], ◌∷◌, ◌++◌, length, set, sym, refl, ap, ◌∙◌, subst, ⊎_elim}
 use mathlib.Core.Option.{some}
-use mathlib.Core.List.{map-append}
 use lib.ListN.{get_elem?}
-use Rattle.atomic_table.specs.Table.{Me, Joins, Enters}
-use Rattle.atomic_table.specs.Seated.{TableId}
+use Rattle.atomic_table.specs.Table.{Joins, Enters}
 use Rattle.atomic_table.proofs.Lists.{at_set, set_else}
 use Rattle.history.specs.declared.operations.Entry.{Entry}
 use Rattle.ring_queue.specs.Plans.{Layout}
-use Rattle.ring_queue.specs.Seeing.{SeatView, View, keeper, gathered, seated, spent, members, both_of}
-use Rattle.ring_queue.specs.Rule.{put, Holds, Opens}
-use Rattle.ring_queue.specs.Seats.{view}
-use Rattle.ring_queue.specs.Queues.{IsQueueSeat}
-use Rattle.ring_queue.specs.Closing.{HasToken, HasGathered}
+use Rattle.ring_queue.specs.Seeing.{SeatView, View, keeper, gathered, seated, spent, members}
+use Rattle.ring_queue.specs.Rule.{put, Holds}
 use Rattle.ring_queue.proofs.Puts.{put_here, put_else}
 use Rattle.ring_queue.proofs.Tables.{HoldsWith}
 use Rattle.ring_queue.proofs.Deals.{at_end}

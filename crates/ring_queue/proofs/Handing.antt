@@ -1,5 +1,5 @@
 -- A seat gets a slot by its flag, and gives it back: the rule holds, and nothing else that the seat knows changes.
-use Rattle.std.proofs.Common.{◌≡◌, ◌≢◌, ℕ, suc, ◌+◌, ◌-◌, ◌*◌, ◌%◌, ◌<◌, ◌≤◌, Bool, true, false, if◌then◌else◌, nat_eq, List, [], ◌∷◌, length, get_or, Option, None, sym, refl, ap, ◌∙◌, subst, arith}
+use Rattle.std.proofs.Common.{◌≡◌, ◌≢◌, ℕ, suc, ◌+◌, ◌-◌, ◌%◌, ◌<◌, Bool, true, false, if◌then◌else◌, nat_eq, List, [], ◌∷◌, length, get_or, Option, None, sym, refl, ap, ◌∙◌, subst, arith}
 use Rattle.std.proofs.Math.Logic.{∥∥₁_map}
 use Rattle.std.proofs.lemmas.List.{set-get_or}
 use mathlib.Core.Bool.{true≢false}
@@ -20,7 +20,7 @@ use Rattle.ring_queue.specs.Plans.{Layout, IsTable, words_of, slots_of, permits_
 use Rattle.ring_queue.specs.Seeing.{SeatView, seated, knows, known_by}
 use Rattle.ring_queue.specs.Steps.{Rests}
 use Rattle.ring_queue.specs.Beside.{Beside, CarriedBy, HoldsValues, HoldsBy, KnowsBy, KnowsNow, with_hand}
-use Rattle.ring_queue.specs.Seats.{Sits, IsReady, HasNoSlot, view}
+use Rattle.ring_queue.specs.Seats.{IsReady, HasNoSlot, view}
 use Rattle.ring_queue.specs.Hands.{HasSlot, KeepsKnown, WasTaken, AllTaken, IsMissed}
 use Rattle.ring_queue.proofs.Carrying.{gets_slot, frees_slot}
 

@@ -1,6 +1,5 @@
 -- What a seat knows of values is so.
-use Rattle.std.proofs.Common.{◌≡◌, ℕ, Bool, true, false, List, [], sym, refl, ap, ◌∙◌, subst, arith}
-use mathlib.Core.Option.{some}
+use Rattle.std.proofs.Common.{◌≡◌, Bool, true, false, List, [], sym, refl, ap, ◌∙◌, subst, arith}
 use Rattle.history.specs.declared.operations.Entry.{Entry}
 use Rattle.node_arena.specs.Beside.{slots_in}
 use Rattle.node_arena.specs.Deeds.{Deed, Runs, Matches}

@@ -32,3 +32,4 @@ pub mod Moved
 pub mod Handing
 pub mod Vacant
 pub mod ValueEnds
+pub mod Closed

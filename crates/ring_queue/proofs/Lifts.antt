@@ -1,23 +1,23 @@
 -- What the rule of the queue alone asks and allows, said of a table with slots: no slot moves.
-use Rattle.std.proofs.Common.{◌≡◌, ◌≢◌, ◌⊎◌, ℕ, ◌+◌, ◌*◌, ◌<◌, ◌≤◌, Bool, true, false, ⊎_elim, List, [], ◌∷◌, ◌++◌, zero, suc, length, map, take, set, get_or, Option, sym, refl, ap, ◌∙◌, subst, arith, append-nil}
+use Rattle.std.proofs.Common.{◌≡◌, ◌≢◌, ℕ, ◌+◌, ◌<◌, ◌≤◌, Bool, true, false, ⊎_elim, List, [], ◌∷◌, ◌++◌, zero, suc, length, map, take, set, get_or, Option, sym, refl, ap, ◌∙◌, subst, append-nil}
 use Rattle.std.proofs.lemmas.List.{get_or-take, set-get_or, length-set}
 use Rattle.std.proofs.Math.Seq.{take-set-lt}
 use mathlib.Core.List.{map-append}
 use mathlib.Core.Option.{some, none, some-ne-none}
 use mathlib.Core.Option as maybe
 use lib.ListN.{get_elem?}
-use Rattle.atomic_table.specs.Table.{State, Me, Act, keeps, Valid, carried_after, stepped, Allows, Splits, Joins, Enters, opening, Final, Seen}
+use Rattle.atomic_table.specs.Table.{State, Me, Act, keeps, Valid, carried_after, stepped, Allows, Splits, Joins, Enters, Final, Seen}
 use Rattle.atomic_table.proofs.Lists.{at_map, at_set, set_else}
 use Rattle.history.specs.declared.operations.Entry.{Entry}
 use Rattle.node_arena.specs.Beside.{flag_at, home_at}
 use Rattle.node_arena.specs.Deeds.{Deed, Matches}
 use Rattle.node_arena.specs.Slots.{item_of}
-use Rattle.node_arena.proofs.Lifts.{map_set, take_full}
+use Rattle.node_arena.proofs.Lifts.{map_set}
 use Rattle.node_arena.proofs.Riding.{rides_same}
 use Rattle.ring_queue.specs.Plans.{Layout, words_of}
 use Rattle.ring_queue.specs.Seeing.{SeatView, View, gathered, seated, paired, knows}
-use Rattle.ring_queue.specs.Rule.{Holds, Ring, put, first_view}
-use Rattle.ring_queue.specs.Beside.{Beside, plain_of, plain_state, hand_in, hand_at, Begins, Carried, CarriedBy, HoldsFor, HoldsValues, KnowsBy, KnowsValues, KnowsNow, GrowsBy, IsReadyBy, TellsBeside, MeetsBeside, alone, onward, first_beside, first_beside_of, second_beside_of}
+use Rattle.ring_queue.specs.Rule.{Holds}
+use Rattle.ring_queue.specs.Beside.{Beside, plain_of, plain_state, hand_in, hand_at, Begins, Carried, CarriedBy, HoldsFor, HoldsValues, IsReadyBy, TellsBeside, MeetsBeside, alone, first_beside_of, second_beside_of}
 use Rattle.ring_queue.specs.Meeting.{learned}
 use Rattle.ring_queue.proofs.Tables.{HoldsWith, its_seat, one_seat}
 use Rattle.ring_queue.proofs.Calls.{Does}

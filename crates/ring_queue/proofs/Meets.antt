@@ -1,14 +1,13 @@
 -- Seats that meet.
 use Rattle.std.proofs.Common.{◌≡◌, ◌≢◌, ◌⊎◌, ℕ, ◌+◌, ◌^◌, ◌<◌, List, [], ◌∷◌, ◌++◌, zero, suc, length, set, sym, refl, ap, ◌∙◌, subst, ⊎_elim, inl, inr, arith}
-use Rattle.std.proofs.lemmas.List.{set-get_or}
 use mathlib.Core.Option.{some, some-injective, some-ne-none}
 use lib.ListN.{get_elem?}
-use Rattle.atomic_table.specs.Table.{State, Me, Splits, Joins, Allows, keeps}
+use Rattle.atomic_table.specs.Table.{State, Splits, Joins}
 use Rattle.atomic_table.proofs.Lists.{at_set, set_else, set_again}
 use Rattle.history.specs.declared.operations.Entry.{Entry}
 use Rattle.history.specs.Answers.{SeesMore}
 use Rattle.ring_queue.specs.Plans.{Layout}
-use Rattle.ring_queue.specs.Seeing.{Stage, rests, saw, claimed, found, SeatView, View, keeper, seated, paired, spent, members, knows, knows_second, known_by, both_of, first_of, second_of}
+use Rattle.ring_queue.specs.Seeing.{Stage, rests, saw, claimed, found, SeatView, View, keeper, seated, paired, spent, members, known_by}
 use Rattle.ring_queue.specs.Rule.{HasClaimed, Stands, SeatOk, total, put, Ring, Holds}
 use Rattle.ring_queue.specs.Meeting.{learned, Met}
 use Rattle.ring_queue.proofs.Keeps.{renewed}

@@ -9,10 +9,10 @@ use mathlib.Core.Option.{some}
 use Rattle.atomic_table.specs.Table.{Me}
 use Rattle.atomic_table.specs.Seated.{TableId}
 use Rattle.history.specs.declared.operations.Entry.{Entry}
-use Rattle.history.specs.declared.operations.Entry.TheVariants.{Push, Pop, Shut}
+use Rattle.history.specs.declared.operations.Entry.TheVariants.{Push, Pop}
 use Rattle.history.specs.declared.operations.Taken.{Taken}
 use Rattle.history.specs.declared.refusals.Refusal.{Refusal}
-use Rattle.node_arena.specs.Deeds.{Deed, Runs, item, pushed, popped}
+use Rattle.node_arena.specs.Deeds.{Deed, item, pushed, popped}
 use Rattle.node_arena.specs.Beside.{slots_in}
 use Rattle.node_arena.proofs.Lifts.{none_held}
 use Rattle.node_arena.proofs.Loads.{length-matches}

@@ -1,11 +1,11 @@
 -- What calls ask of a ring's table beside steps, at their names.
-use Rattle.std.proofs.Common.{◌≡◌, ℕ, ◌+◌, ◌-◌, ◌*◌, ◌<◌, ◌≤◌, Bool, true, false, if◌then◌else◌, List, [], ◌∷◌, ◌++◌, length, map, take, Option, Some, slice_get, sym, refl, ap, ◌∙◌, subst, arith}
+use Rattle.std.proofs.Common.{◌≡◌, ℕ, ◌-◌, ◌≤◌, Bool, false, if◌then◌else◌, List, [], ◌∷◌, ◌++◌, length, map, take, Option, Some, slice_get, sym, refl, ap, ◌∙◌, subst, arith}
 use Rattle.std.specs.List.{All}
 use Rattle.std.proofs.lemmas.List.Elements.{All-append, All-cons, All-nil}
 use mathlib.Core.List.{IsPrefix}
 use mathlib.Core.Option.{none}
 use mathlib.Core.List.{map-append}
-use Rattle.atomic_table.specs.Table.{Me, Splits, Joins, Allows, Enters, Final, Seen, opening}
+use Rattle.atomic_table.specs.Table.{Me, Splits, Joins, Allows, Enters, Final, Seen}
 use Rattle.atomic_table.specs.Seated.{TableId}
 use Rattle.atomic_table.specs.declared.shared.Seat.{Seat as Token}
 use Rattle.history.specs.declared.operations.Entry.{Entry}
@@ -17,10 +17,10 @@ use Rattle.ring_queue.specs.declared.roles.Role.{Role}
 use Rattle.ring_queue.specs.declared.queue.RingQueue.{RingQueue}
 use Rattle.ring_queue.specs.declared.seats.Seat.{Seat}
 use Rattle.ring_queue.specs.Plans.{Layout, IsPlanned, IsTable, words_of, slots_of, permits_of}
-use Rattle.ring_queue.specs.Seeing.{SeatView, View, keeper, gathered, seated, paired, spent, new_seat, knows, knows_second, known_by, both_of, first_of, second_of, dealt_left, dealt_right}
-use Rattle.ring_queue.specs.Rule.{Holds, first_view}
+use Rattle.ring_queue.specs.Seeing.{SeatView, View, keeper, gathered, seated, paired, spent, new_seat, knows, known_by, both_of, first_of, second_of, dealt_left, dealt_right}
+use Rattle.ring_queue.specs.Rule.{Holds}
 use Rattle.ring_queue.specs.Steps.{Rests}
-use Rattle.ring_queue.specs.Beside.{Beside, HasNone, HoldsBy, HoldsFor, MeetsBeside, OpensBeside, first_beside, left_dealt, right_dealt, left_as_it_is, knows_nothing, both_beside, first_beside_of, second_beside_of}
+use Rattle.ring_queue.specs.Beside.{Beside, HasNone, HoldsBy, MeetsBeside, OpensBeside, left_dealt, right_dealt, left_as_it_is, knows_nothing, both_beside, first_beside_of, second_beside_of}
 use Rattle.ring_queue.specs.Making.{IsDealt}
 use Rattle.ring_queue.specs.Closing.{HasToken, HasGathered}
 use Rattle.ring_queue.specs.Seats.{HasNoSlot, deeds_of, view}

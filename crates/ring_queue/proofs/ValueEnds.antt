@@ -1,7 +1,7 @@
 -- The end of a ring that carries values: those left are what the history of values leads to.
-use Rattle.std.proofs.Common.{◌≡◌, ℕ, zero, suc, ◌+◌, ◌-◌, ◌*◌, ◌%◌, ◌^◌, ◌<◌, ◌≤◌, true, false, Bool, if◌then◌else◌, nat_eq, nat_le, IsTrue, List, [], ◌∷◌, map, length, take, get_or, mod-lt, Option, Some, slice_get, sym, refl, ap, subst, ◌∙◌, append-nil, arith}
+use Rattle.std.proofs.Common.{◌≡◌, ℕ, zero, suc, ◌+◌, ◌-◌, ◌*◌, ◌%◌, ◌^◌, ◌<◌, ◌≤◌, true, false, Bool, if◌then◌else◌, nat_eq, nat_le, IsTrue, List, [], ◌∷◌, map, length, take, mod-lt, Option, Some, sym, refl, ap, subst, ◌∙◌, append-nil, arith}
 use Rattle.std.specs.List.{All}
-use Rattle.std.proofs.lemmas.List.{get_or-take, length-map}
+use Rattle.std.proofs.lemmas.List.{get_or-take}
 use mathlib.Core.Option.{some}
 use lib.ListN.{get_elem?}
 use Rattle.atomic_table.specs.Table.{Final, Seen}
@@ -25,14 +25,13 @@ use Rattle.ring_queue.specs.declared.seats.Seat.{Seat}
 use Rattle.ring_queue.specs.Words.{slot_word}
 use Rattle.ring_queue.specs.Plans.{Layout, words_of, permits_of}
 use Rattle.ring_queue.specs.Seeing.{View, gathered}
-use Rattle.ring_queue.specs.Rule.{Ring}
 use Rattle.ring_queue.specs.Steps.{Rests, taken_in}
 use Rattle.ring_queue.specs.Beside.{Beside, plain_of, Carried, CarriedBy, HoldsBy}
 use Rattle.ring_queue.specs.Seats.{known_of, view}
 use Rattle.ring_queue.specs.Moments.{head_in, tail_in}
 use Rattle.ring_queue.specs.Remains.{word_of, values_from, HasWords, was_shut_in}
 use Rattle.ring_queue.specs.Closing.{ClosesValues, EachBegins}
-use Rattle.ring_queue.proofs.Ends.{Ends, got_map, closes_all, has_words, head_is_low, few_left, values_are, shut_is}
+use Rattle.ring_queue.proofs.Ends.{Ends, got_map, closes_all, has_words, head_is_low, few_left}
 
 -- what is left at the end of a table whose words and slots were these, by a token that gathered seats: the numbers left are those of
 -- slots in which the values lie to which the deeds lead, and what each seat had seen begins these

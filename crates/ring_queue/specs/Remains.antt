@@ -1,5 +1,5 @@
 -- What is left in a ring, by the words of its table.
-use Rattle.std.specs.Prelude.{◌≡◌, ℕ, zero, suc, ◌+◌, ◌*◌, ◌%◌, ◌^◌, ◌≤◌, Bool, if◌then◌else◌, nat_eq, nat_le, List, [], ◌∷◌, length, slice_index_or}
+use Rattle.std.specs.Prelude.{ℕ, zero, suc, ◌+◌, ◌*◌, ◌%◌, ◌^◌, ◌≤◌, Bool, if◌then◌else◌, nat_eq, nat_le, List, [], ◌∷◌, length, slice_index_or}
 use Rattle.history.specs.declared.operations.Taken.{Taken}
 use Rattle.ring_queue.specs.Words.{slot_word}
 use Rattle.ring_queue.specs.Steps.{taken_in}

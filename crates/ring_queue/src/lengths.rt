@@ -2,8 +2,8 @@
 ghost use Rattle.std.specs.Prelude.{[], ◌∷◌, ◌≡◌, ◌^◌, ◌<◌, ◌≤◌};
 ghost use Rattle.ring_queue.specs.Steps.{HoldsSoMany};
 ghost use Rattle.ring_queue.specs.Seeing.{found};
-ghost use Rattle.ring_queue.specs.Seats.{IsReady, KeepsName, KeepsStored, known_of, view};
-ghost use Rattle.ring_queue.specs.Queues.{IsQueueSeat};
+ghost use Rattle.ring_queue.specs.Seats.{IsReady, KeepsName, KeepsSlots, KeepsStored, known_of, view};
+ghost use Rattle.ring_queue.specs.Queues.{IsQueueSeat, IsRingSeat};
 ghost use Rattle.ring_queue.specs.Lengths.{FoundSo, WasSoLong, LeavesPushes, FrontSays, ShutSays};
 
 use crate::acts::PARITY;
@@ -48,6 +48,7 @@ impl<T> RingQueue<T> {
         requires ready { IsReady self.now.plan self.now.table.shared.table_id seat.old }
         requires found { (view seat.old).stage ≡ found (word ∷ []) }
         ensures seat { IsReady self.now.plan self.now.table.shared.table_id seat.new }
+        ensures slots { KeepsSlots seat.old seat.new }
         ensures stored { KeepsStored seat.old seat.new }
         ensures says { FrontSays self.now.plan seat.old seat.new result }
     {
@@ -67,6 +68,7 @@ impl<T> RingQueue<T> {
     fn shut_emptiness(&self, seat: &mut Seat<T>) -> Emptiness
         requires { IsReady self.now.plan self.now.table.shared.table_id seat.old }
         ensures seat { IsReady self.now.plan self.now.table.shared.table_id seat.new }
+        ensures slots { KeepsSlots seat.old seat.new }
         ensures stored { KeepsStored seat.old seat.new }
         ensures says { ShutSays self.now.plan seat.old seat.new result }
     {
@@ -105,22 +107,7 @@ impl<T> RingQueue<T> {
         //=   isn't filled. It is in no call, as before.
         ensures found { FoundSo self.now.plan (known_of seat.old) result (known_of seat.new) }
     {
-        self.look_at_head(seat);
-        let tail = self.see_tail(seat);
-        if tail == seat.head {
-            return Emptiness::Empty;
-        }
-        if tail == seat.head + SHUT {
-            return Emptiness::ShutEmpty;
-        }
-        if tail >= SHUT {
-            return self.shut_emptiness(seat);
-        }
-        self.look_at_head(seat);
-        if tail <= seat.head {
-            return Emptiness::Moved;
-        }
-        Emptiness::Holds
+        self.emptiness_in(seat)
     }
 
     /// How many values the ring holds, as bounds of what it held at a moment no older than what the seat had seen before: one
@@ -143,19 +130,9 @@ impl<T> RingQueue<T> {
         //=   the pops that it has newly seen and, of a ring that is shut, all reserves. It is in no call, as before.
         ensures long { WasSoLong self.now.plan (known_of seat.old) result (known_of seat.new) }
     {
-        let reserve = self.all_reserves();
-        self.look_at_head(seat);
-        let first = seat.head;
-        let tail = self.see_tail(seat);
-        self.look_at_head(seat);
-        let places = tail % SHUT;
-        Len {
-            least: places
-                .saturating_sub(seat.head)
-                .saturating_sub(spare(tail, reserve)),
-            most: places - first,
-        }
+        self.len_in(seat)
     }
+
     /// How many values may still be pushed at least before a push is refused `WornOut`: while fewer take effect, none is. By one
     /// load, of Tail. Takes no memory and doesn't wait.
     ///
@@ -171,6 +148,72 @@ impl<T> RingQueue<T> {
         //= ring/left (seat, left): A seat that looks how many pushes its ring has left is told no more than are left after some
         //=   history that begins with what the seat had seen and that it has now seen, and just as many where the ring wasn't
         //=   shut there. It is in no call, as before.
+        ensures left { LeavesPushes self.now.plan (known_of seat.old) result (known_of seat.new) }
+    {
+        self.left_in(seat)
+    }
+
+    /// Whether the ring is empty, as `emptiness` tells, of a ring that carries values too. Takes no memory and doesn't wait.
+    pub fn emptiness_in(&self, seat: &mut Seat<T>) -> Emptiness
+        requires { IsRingSeat self.now seat.old }
+        ensures seat { IsRingSeat self.now seat.new }
+        //= ring/look_slots: A look at how many values a ring holds, or how many pushes it has left, moves no slot.
+        ensures slots { KeepsSlots seat.old seat.new }
+        ensures stored { KeepsStored seat.old seat.new }
+        //= ring/emptiness
+        ensures found { FoundSo self.now.plan (known_of seat.old) result (known_of seat.new) }
+    {
+        self.look_at_head(seat);
+        let tail = self.see_tail(seat);
+        if tail == seat.head {
+            return Emptiness::Empty;
+        }
+        if tail == seat.head + SHUT {
+            return Emptiness::ShutEmpty;
+        }
+        if tail >= SHUT {
+            return self.shut_emptiness(seat);
+        }
+        self.look_at_head(seat);
+        if tail <= seat.head {
+            return Emptiness::Moved;
+        }
+        Emptiness::Holds
+    }
+
+    /// How many values the ring holds, as `len` tells, of a ring that carries values too. Takes no memory and doesn't wait.
+    pub fn len_in(&self, seat: &mut Seat<T>) -> Len
+        requires { IsRingSeat self.now seat.old }
+        ensures seat { IsRingSeat self.now seat.new }
+        //= ring/look_slots
+        ensures slots { KeepsSlots seat.old seat.new }
+        ensures stored { KeepsStored seat.old seat.new }
+        //= ring/len
+        ensures long { WasSoLong self.now.plan (known_of seat.old) result (known_of seat.new) }
+    {
+        let reserve = self.all_reserves();
+        self.look_at_head(seat);
+        let first = seat.head;
+        let tail = self.see_tail(seat);
+        self.look_at_head(seat);
+        let places = tail % SHUT;
+        Len {
+            least: places
+                .saturating_sub(seat.head)
+                .saturating_sub(spare(tail, reserve)),
+            most: places - first,
+        }
+    }
+
+    /// How many values may still be pushed, as `left` tells, of a ring that carries values too. Takes no memory and doesn't
+    /// wait.
+    pub fn left_in(&self, seat: &mut Seat<T>) -> u64
+        requires { IsRingSeat self.now seat.old }
+        ensures seat { IsRingSeat self.now seat.new }
+        //= ring/look_slots
+        ensures slots { KeepsSlots seat.old seat.new }
+        ensures stored { KeepsStored seat.old seat.new }
+        //= ring/left
         ensures left { LeavesPushes self.now.plan (known_of seat.old) result (known_of seat.new) }
     {
         let plan = self.sizes();

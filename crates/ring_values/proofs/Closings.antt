@@ -37,7 +37,7 @@ use Rattle.ring_values.specs.Telling.{seen_by, known_by}
 use Rattle.ring_values.specs.Sound.{seen_matches}
 
 module _ {A : Type 0} where
-  pushing-is : (e : Entry) (d : Deed A) → Matches (e ∷ []) (d ∷ []) → is_pushing d ≡ is_push e
+  pub pushing-is : (e : Entry) (d : Deed A) → Matches (e ∷ []) (d ∷ []) → is_pushing d ≡ is_push e
   pushing-is (Push n b) (did_push k x) m = refl
   pushing-is (Pop n t) (did_pop k u) m = refl
   pushing-is (Shut n) (did_shut k) m = refl

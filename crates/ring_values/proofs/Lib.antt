@@ -3,3 +3,4 @@ pub mod Pushed
 pub mod Popped
 pub mod Opened
 pub mod Closings
+pub mod Looked

@@ -6,3 +6,4 @@ pub mod Pushes
 pub mod Pops
 pub mod Remains
 pub mod Closing
+pub mod Looks

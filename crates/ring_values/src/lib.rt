@@ -3,6 +3,7 @@
 
 mod carrier;
 mod closing;
+mod looks;
 mod popping;
 mod pushing;
 mod queue;

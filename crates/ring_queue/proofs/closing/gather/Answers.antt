@@ -1,4 +1,4 @@
-use Rattle.std.proofs.Common.{ap, All, subst}
+use Rattle.std.proofs.Common.{All, subst}
 use Rattle.std.proofs.lemmas.List.Elements.{All-head, All-rest, All-same}
 use Rattle.ring_queue.specs.Closing.{HasToken}
 use Rattle.node_arena.proofs.Lifts.{none_held}

@@ -1,4 +1,4 @@
-use Rattle.std.proofs.Common.{◌+◌, ◌*◌, length, ap, ◌∙◌, arith}
+use Rattle.std.proofs.Common.{length, ap, ◌∙◌, arith}
 use Rattle.node_arena.specs.Beside.{slots_in}
 use Rattle.ring_queue.specs.Plans.{Layout}
 use Rattle.ring_queue.specs.Seeing.{dealt_left, dealt_right}

@@ -1,6 +1,6 @@
-use Rattle.std.proofs.Common.{ap, ◌∙◌}
+use Rattle.std.proofs.Common.{ap}
 use Rattle.ring_queue.specs.Plans.{Layout}
-use Rattle.ring_queue.proofs.Vacant.{opens_first, laid_first}
+use Rattle.ring_queue.proofs.Vacant.{opens_first}
 use Rattle.ring_queue.proofs.making.built.Goals as goal
 
 pub vacant-requires : goal.vacant-requires

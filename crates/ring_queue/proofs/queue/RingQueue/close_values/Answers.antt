@@ -1,12 +1,8 @@
-use Rattle.std.proofs.Common.{◌≡◌, ℕ, ◌+◌, ◌-◌, ◌*◌, ◌<◌, ◌≤◌, Bool, true, if◌then◌else◌, length, sym, subst, ap, ◌∙◌, arith, All}
-use Rattle.std.specs.Slots.{slots_items, slots_counts}
+use Rattle.std.proofs.Common.{◌≡◌, Bool, if◌then◌else◌, ap, arith}
+use Rattle.std.specs.Slots.{slots_items}
 use Rattle.ring_queue.specs.Plans.{Layout, slots_of}
-use Rattle.ring_queue.specs.Moments.{head_in, tail_in}
-use Rattle.ring_queue.specs.Remains.{values_from, HasWords, was_shut_in}
-use Rattle.ring_queue.specs.Closing.{ClosesValues}
-use Rattle.ring_queue.proofs.Alls.{are_all}
+use Rattle.ring_queue.proofs.Closed.{values_closed}
 use Rattle.ring_queue.proofs.Tokens.{enters, bring_tokens, took_none}
-use Rattle.ring_queue.proofs.ValueEnds.{values_end_as, words_there, low_there, room_there, closes_values}
 use Rattle.ring_queue.proofs.queue.RingQueue.close_values.Goals as goal
 
 pub load_new_seat-requires : goal.load_new_seat-requires
@@ -27,37 +23,26 @@ take_all-slots-requires-clause-room g c =
 
 pub rest_of-rest-requires-clause-words : goal.rest_of-rest-requires-clause-words
 rest_of-rest-requires-clause-words g c =
-    let q = c.args.self in
-    let seats = c.args.seats.items in
-    let end = values_end_as q.plan q.table.shared.key seats _ c.gather.new.gatherer.me.0 _ _ q.laid.key c.requires.carries c.gather.ensures.seat c.close_with-closed.ensures.values.2 in
-    let there = words_there q seats _ _ c.gather.new.gatherer.me.0 end (λ k d lt. (c.requires.seats k d lt).rests) (are_all q.plan _ seats c.requires.seats end.ends.apart c.requires.all) in
-    let P : ℕ × _ → Type 0 = λ y. HasWords y.0 y.1 in
-    subst P (λ i. (ap (λ (z : Layout). z.slots) (sym c.plan.view_is) i, ap slots_items (sym c.take_all-slots.ensures.words) i)) there
+    let same = ap (λ (z : Layout). z.slots) c.plan.view_is in
+    let taken = c.take_all-slots.ensures in
+    (values_closed c.args.self c.args.seats.items c.requires.seats c.requires.all c.requires.carries _ _ c.gather.new.gatherer.me.0 _ _ _ _ same (ap slots_items taken.words) taken.items c.gather.ensures.seat c.gather.ensures.others c.close_with-closed.ensures.values.2).there
 
 pub rest_of-rest-requires-clause-low : goal.rest_of-rest-requires-clause-low
 rest_of-rest-requires-clause-low g c =
-    let q = c.args.self in
-    let seats = c.args.seats.items in
-    let end = values_end_as q.plan q.table.shared.key seats _ c.gather.new.gatherer.me.0 _ _ q.laid.key c.requires.carries c.gather.ensures.seat c.close_with-closed.ensures.values.2 in
-    let low = low_there q seats _ _ c.gather.new.gatherer.me.0 end (λ k d lt. (c.requires.seats k d lt).rests) (are_all q.plan _ seats c.requires.seats end.ends.apart c.requires.all) in
-    omega (arith, low, ap (λ (z : Layout). z.slots) c.plan.view_is, ap (λ x. head_in (slots_items x)) c.take_all-slots.ensures.words)
+    let same = ap (λ (z : Layout). z.slots) c.plan.view_is in
+    let taken = c.take_all-slots.ensures in
+    (values_closed c.args.self c.args.seats.items c.requires.seats c.requires.all c.requires.carries _ _ c.gather.new.gatherer.me.0 _ _ _ _ same (ap slots_items taken.words) taken.items c.gather.ensures.seat c.gather.ensures.others c.close_with-closed.ensures.values.2).low
 
 pub rest_of-rest-requires-clause-room : goal.rest_of-rest-requires-clause-room
 rest_of-rest-requires-clause-room g c =
-    let q = c.args.self in
-    let seats = c.args.seats.items in
-    let end = values_end_as q.plan q.table.shared.key seats _ c.gather.new.gatherer.me.0 _ _ q.laid.key c.requires.carries c.gather.ensures.seat c.close_with-closed.ensures.values.2 in
-    let room = room_there q seats _ _ c.gather.new.gatherer.me.0 end (λ k d lt. (c.requires.seats k d lt).rests) (are_all q.plan _ seats c.requires.seats end.ends.apart c.requires.all) in
-    omega (arith, room, c.requires.numbers.enough, ap (λ x. head_in (slots_items x)) c.take_all-slots.ensures.words, ap (λ x. tail_in (slots_items x)) c.take_all-slots.ensures.words)
+    let same = ap (λ (z : Layout). z.slots) c.plan.view_is in
+    let taken = c.take_all-slots.ensures in
+    let few = (values_closed c.args.self c.args.seats.items c.requires.seats c.requires.all c.requires.carries _ _ c.gather.new.gatherer.me.0 _ _ _ _ same (ap slots_items taken.words) taken.items c.gather.ensures.seat c.gather.ensures.others c.close_with-closed.ensures.values.2).few in
+    omega (arith, few, same, c.requires.numbers.enough)
 
 pub returns : goal.returns
 returns g c =
-    let q = c.args.self in
-    let seats = c.args.seats.items in
-    let end = values_end_as q.plan q.table.shared.key seats _ c.gather.new.gatherer.me.0 _ _ q.laid.key c.requires.carries c.gather.ensures.seat c.close_with-closed.ensures.values.2 in
-    let told = c.rest_of-rest.ensures in
     let same = ap (λ (z : Layout). z.slots) c.plan.view_is in
-    let words = ap slots_items c.take_all-slots.ensures.words in
-    subst (λ inside. ClosesValues q seats c.rest_of-rest.result inside) (sym c.take_all-slots.ensures.items)
-    (closes_values q seats _ _ c.gather.new.gatherer.me.0 end (λ k d lt. (c.requires.seats k d lt).rests) (are_all q.plan _ seats c.requires.seats end.ends.apart c.requires.all) c.rest_of-rest.result c.gather.ensures.others
-    (told.left ∙ (λ i. values_from (same i) (words i) (head_in (words i)) (tail_in (words i) - head_in (words i)))) (omega (arith, told.taken, same, ap head_in words)) told.whole (told.shut ∙ ap was_shut_in words))
+    let taken = c.take_all-slots.ensures in
+    let told = c.rest_of-rest.ensures in
+    (values_closed c.args.self c.args.seats.items c.requires.seats c.requires.all c.requires.carries _ _ c.gather.new.gatherer.me.0 _ _ _ _ same (ap slots_items taken.words) taken.items c.gather.ensures.seat c.gather.ensures.others c.close_with-closed.ensures.values.2).closes c.rest_of-rest.result told.left told.taken told.whole told.shut

@@ -1,4 +1,4 @@
-use Rattle.std.proofs.Common.{◌≡◌, Bool, ◌∷◌, ◌+◌, ◌*◌, length, refl, sym, subst, ap, ◌∙◌, arith}
+use Rattle.std.proofs.Common.{◌≡◌, Bool, ◌∷◌, length, refl, sym, subst, ap, ◌∙◌, arith}
 use Rattle.node_arena.specs.Beside.{AllBegin, slots_in}
 use Rattle.node_arena.proofs.Lifts.{none_held, none_hand}
 use Rattle.ring_queue.specs.Plans.{Layout}

@@ -1,6 +1,6 @@
 use Rattle.std.proofs.Common.{Some}
 use Rattle.history.proofs.Learning.{answers_then}
-use Rattle.ring_queue.proofs.Moved.{stays_on, then_takes, turn_moves}
+use Rattle.ring_queue.proofs.Moved.{then_takes, turn_moves}
 use Rattle.ring_queue.proofs.Turns.{turn_after}
 use Rattle.ring_queue.proofs.queue.RingQueue.pop_turn.Goals as goal
 

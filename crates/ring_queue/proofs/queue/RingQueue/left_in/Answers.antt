@@ -2,7 +2,7 @@ use Rattle.std.proofs.Common.{rules, ◌≡◌, ℕ, ◌-◌, ◌%◌, ◌^◌, 
 use Rattle.ring_queue.specs.Plans.{Layout}
 use Rattle.ring_queue.specs.Seats.{known_of}
 use Rattle.ring_queue.proofs.Bounds.{left_by_tail}
-use Rattle.ring_queue.proofs.queue.RingQueue.left.Goals as goal
+use Rattle.ring_queue.proofs.queue.RingQueue.left_in.Goals as goal
 
 pub returns-clause-left : goal.returns-clause-left
 returns-clause-left g c =

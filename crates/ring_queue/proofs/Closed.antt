@@ -1,0 +1,72 @@
+-- The end of a ring by all its seats, at the names of a call.
+use Rattle.std.proofs.Common.{◌≡◌, ℕ, ◌+◌, ◌-◌, ◌≤◌, Bool, true, false, if◌then◌else◌, List, length, map, Option, sym, subst, ap, ◌∙◌, arith}
+use Rattle.std.specs.List.{All}
+use Rattle.std.proofs.lemmas.List.{length-map}
+use Rattle.atomic_table.specs.Table.{Final, Seen}
+use Rattle.history.specs.declared.rests.Rest.{Rest}
+use Rattle.history.specs.Rests.{left_of, taken_of, whole_of, was_shut_of}
+use Rattle.history.specs.Closing.{Closes}
+use Rattle.node_arena.specs.Beside.{AllBegin}
+use Rattle.node_arena.specs.Deeds.{Deed}
+use Rattle.ring_queue.specs.declared.queue.RingQueue.{RingQueue}
+use Rattle.ring_queue.specs.declared.seats.Seat.{Seat}
+use Rattle.ring_queue.specs.Plans.{permit_of}
+use Rattle.ring_queue.specs.Seeing.{gathered}
+use Rattle.ring_queue.specs.Steps.{Rests}
+use Rattle.ring_queue.specs.Beside.{Beside, HoldsBy}
+use Rattle.ring_queue.specs.Seats.{known_of, view}
+use Rattle.ring_queue.specs.Queues.{IsQueueSeat, IsRingSeat, permits_in}
+use Rattle.ring_queue.specs.Moments.{head_in, tail_in}
+use Rattle.ring_queue.specs.Remains.{values_from, HasWords, was_shut_in}
+use Rattle.ring_queue.specs.Closing.{ClosesValues, EachBegins}
+use Rattle.ring_queue.proofs.Alls.{are_all}
+use Rattle.ring_queue.proofs.Ends.{closes_all, has_words, head_is_low, few_left}
+use Rattle.ring_queue.proofs.Tokens.{carries_none, ends_alone}
+use Rattle.ring_queue.proofs.ValueEnds.{values_end_as, words_there, low_there, room_there, closes_values}
+
+-- words are those of a closed ring with so many slots: the values between Head and Tail have room in a list with room for one of
+-- each slot, and where that is told of the end, the ring is closed so
+pub record IsClosed (slots : ℕ) (words : List ℕ) (Told : Rest → Type 0) : Type 0 where
+  pub there : HasWords slots words
+  pub low : slots ≤ head_in words
+  pub few : tail_in words - head_in words ≤ slots
+  pub closes : (rest : Rest) → left_of rest ≡ values_from slots words (head_in words) (tail_in words - head_in words) → taken_of rest + slots ≡ head_in words → whole_of rest ≡ true → was_shut_of rest ≡ was_shut_in words → Told rest
+
+-- a ring of numbers
+module _ {T : Type 0} (q : RingQueue T) (seats : List (Seat T)) (ready : All (IsQueueSeat q) seats) (all : length seats ≡ length (permits_in q)) where
+  numbers : q.plan.carries ≡ false
+  numbers = let roles = length-map q.plan.roles permit_of in let seated = q.laid.planned.seated in carries_none q seats ready (omega (arith, all, roles, seated))
+
+  -- its table has no slots
+  pub no_slots : q.table.shared.table_id.slots ≡ 0
+  no_slots = q.laid.slots ∙ ap (λ (b : Bool). if b then q.plan.slots else 0) numbers
+
+  -- and is closed by all its seats
+  pub numbers_closed : (slots id : ℕ) (w : Beside T) (words : List ℕ) (inside : List (Option T)) → slots ≡ q.plan.slots → length words ≡ q.table.shared.table_id.words → w.plain ≡ gathered (map view seats) → Final {S = Option T} (Seen (HoldsBy q.table.shared.key) id w) words inside
+      → IsClosed slots words (Closes (permits_in q) (map known_of seats))
+  numbers_closed slots id w words inside same count is f =
+      let end = ends_alone q.plan q.table.shared.key q.table.shared.table_id seats id w words inside q.laid numbers count is f in
+      let rested : All (λ s. Rests (view s).stage) seats = λ k d lt. (ready k d lt).ready.rests in
+      let every = are_all q.plan q.table.shared.table_id seats (λ k d lt. (ready k d lt).ready) end.apart all in
+      subst (λ (m : ℕ). IsClosed m words (Closes (permits_in q) (map known_of seats))) (sym same) (record {
+        there = has_words q.plan words seats end rested every;
+        low = head_is_low q.plan words seats end rested every;
+        few = few_left q.plan words seats end rested every;
+        closes = λ rest left taken whole shut. (closes_all q.plan words seats end rested every rest left taken whole shut).0;
+      })
+
+-- a ring that carries values, once what lay in its slots was taken out
+module _ {T : Type 0} (q : RingQueue T) (seats : List (Seat T)) (ready : All (IsRingSeat q) seats) (all : length seats ≡ length (permits_in q)) (carries : q.plan.carries ≡ true) where
+  pub values_closed : (slots id : ℕ) (w : Beside T) (words kept : List ℕ) (inside came : List (Option T)) → slots ≡ q.plan.slots → kept ≡ words → came ≡ inside → w.plain ≡ gathered (map view seats) → ((ds : List (Deed T)) → AllBegin w.others ds → EachBegins seats ds)
+      → Final {S = Option T} (Seen (HoldsBy q.table.shared.key) id w) words inside → IsClosed slots kept (λ rest. ClosesValues q seats rest came)
+  values_closed slots id w words kept inside came same words_same out is begin f =
+      let end = values_end_as q.plan q.table.shared.key seats id w words inside q.laid.key carries is f in
+      let rested : All (λ s. Rests (view s).stage) seats = λ k d lt. (ready k d lt).rests in
+      let every = are_all q.plan q.table.shared.table_id seats ready end.ends.apart all in
+      let P : ℕ × List ℕ × List (Option T) → Type 0 = λ y. IsClosed y.0 y.1 (λ rest. ClosesValues q seats rest y.2) in
+      subst P (λ i. (sym same i, sym words_same i, sym out i)) (record {
+        there = words_there q seats words inside w end rested every;
+        low = low_there q seats words inside w end rested every;
+        few = room_there q seats words inside w end rested every;
+        closes = λ rest left taken whole shut. closes_values q seats words inside w end rested every rest begin left taken whole shut;
+      })

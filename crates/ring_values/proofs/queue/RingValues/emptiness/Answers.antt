@@ -1,0 +1,13 @@
+use Rattle.ring_queue.proofs.Moved.{none_stays}
+use Rattle.ring_values.specs.Queues.{ring_of}
+use Rattle.ring_values.proofs.Looked.{found}
+use Rattle.ring_values.proofs.queue.RingValues.emptiness.Goals as goal
+
+pub returns-clause-seat : goal.returns-clause-seat
+returns-clause-seat g c = let told = c.emptiness_in.ensures in record { ready = told.seat; none_out = none_stays c.args.seat.now c.emptiness_in.new.seat told.slots c.requires.none_out }
+
+pub returns-clause-found : goal.returns-clause-found
+returns-clause-found g c =
+    let q = c.args.self.now in
+    let told = c.emptiness_in.ensures in
+    found (ring_of q) q.carries c.args.seat.now c.emptiness_in.new.seat c.requires.ready told.seat told.slots c.emptiness_in.result told.found
