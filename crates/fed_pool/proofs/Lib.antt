@@ -11,4 +11,5 @@ mod Posts
 mod Seats
 mod Ending
 mod Closing
+mod Closed
 mod Starting

@@ -16,18 +16,19 @@ use Rattle.fed_pool.specs.Pools.{IsLineOf, takes, gives}
 use Rattle.fed_pool.specs.Ends.{AllEnded}
 use Rattle.fed_pool.proofs.Going.{begins}
 use Rattle.fed_pool.proofs.Lines.{count, others_are, last_is, last_may, last_new}
-use Rattle.fed_pool.proofs.Posts.{posts_are}
+use Rattle.fed_pool.proofs.Posts.{on, posts_are}
 use Rattle.fed_pool.proofs.Closing.{as_many}
 
 -- a list's last element is put behind the others, whatever these are called
 split_by : {X : Type 0} {xs ys zs : List X} (x : X) → xs ≡ ys ++ x ∷ [] → zs ≡ ys → xs ≡ zs ++ x ∷ []
 split_by x one other = one ∙ ap (λ l. l ++ x ∷ []) (sym other)
 
-module _ {Q S V U T A F : Type 0} (is_seat : Q → S → Type 0) (permits : Q → List Permit) (known : S → KnownOf (Numbered T))
-    (is_seat' : V → U → Type 0) (permits' : V → List Permit) (known' : U → KnownOf (Done A)) (answers : T → A → Type 0) (stands : F → List T → List (Done A) → Type 0)
-    (queue : Q) (results : V) (seats takers : List S) (seats' givers : List U) (s : S) (u : U) (ps : List (Post S U))
+module _ {Q S V U T A : Type 0} {is_seat : Q → S → Type 0} {permits : Q → List Permit} {known : S → KnownOf (Numbered T)}
+    {is_seat' : V → U → Type 0} {permits' : V → List Permit} {known' : U → KnownOf (Done A)}
+    {queue : Q} {results : V} {seats takers : List S} {seats' givers : List U} (s : S) (u : U) (ps : List (Post S U))
+    (line : IsLineOf is_seat permits known queue seats) (line' : IsLineOf is_seat' permits' known' results seats')
     (last : seats ≡ takers ++ s ∷ []) (last' : seats' ≡ givers ++ u ∷ []) (first : map takes ps ≡ takers) (first' : map gives ps ≡ givers)
-    (line : IsLineOf is_seat permits known queue seats) (line' : IsLineOf is_seat' permits' known' results seats') where
+    {q : Q} {v : V} (same : q ≡ queue) (same' : v ≡ results) where
   split : seats ≡ map takes ps ++ s ∷ []
   split = split_by s last first
 
@@ -35,31 +36,44 @@ module _ {Q S V U T A F : Type 0} (is_seat : Q → S → Type 0) (permits : Q �
   split' = split_by u last' first'
 
   -- the posts of its workers
-  pub new_posts : All (IsPost is_seat permits known is_seat' permits' known' queue results) ps
+  pub new_posts : All (IsPost is_seat permits known is_seat' permits' known' q v) ps
   new_posts =
-      posts_are is_seat permits known is_seat' permits' known' queue results ps (others_are is_seat permits known queue seats (map takes ps) s split line)
-      (others_are is_seat' permits' known' results seats' (map gives ps) u split' line')
+      on (λ q v. All (IsPost is_seat permits known is_seat' permits' known' q v) ps) (sym same) (sym same')
+      (posts_are is_seat permits known is_seat' permits' known' queue results ps (others_are is_seat permits known queue seats (map takes ps) s split line) (others_are is_seat' permits' known' results seats' (map gives ps) u split' line'))
 
-  abbrev leader : F → Leader S U F
-  leader feed = record { tasks = s; results = u; feed = feed; given = 0; awaited = 0 }
+  module _ {F : Type 0} (answers : T → A → Type 0) (stands : F → List T → List (Done A) → Type 0) (feed : F) where
+    abbrev leader : Leader S U F
+    leader = record { tasks = s; results = u; feed = feed; given = 0; awaited = 0 }
 
-  -- who hands out the tasks
-  pub new_leader : (feed : F) → stands feed [] [] → IsLeading is_seat permits known is_seat' permits' known' answers stands queue results (leader feed)
-  new_leader feed so =
-      begins is_seat permits known is_seat' permits' known' answers stands queue results s u feed (last_is is_seat permits known queue seats (map takes ps) s split line)
-      (last_may is_seat permits known queue seats (map takes ps) s split line) (last_new is_seat permits known queue seats (map takes ps) s split line)
-      (last_is is_seat' permits' known' results seats' (map gives ps) u split' line') (last_may is_seat' permits' known' results seats' (map gives ps) u split' line')
-      (last_new is_seat' permits' known' results seats' (map gives ps) u split' line') so
+    -- who hands out the tasks
+    pub new_leader : stands feed [] [] → IsLeading is_seat permits known is_seat' permits' known' answers stands q v leader
+    new_leader so =
+        on (λ q v. IsLeading is_seat permits known is_seat' permits' known' answers stands q v leader) (sym same) (sym same')
+        (begins is_seat permits known is_seat' permits' known' answers stands queue results s u feed (last_is is_seat permits known queue seats (map takes ps) s split line) (last_may is_seat permits known queue seats (map takes ps) s split line) (last_new is_seat permits known queue seats (map takes ps) s split line)
+        (last_is is_seat' permits' known' results seats' (map gives ps) u split' line') (last_may is_seat' permits' known' results seats' (map gives ps) u split' line') (last_new is_seat' permits' known' results seats' (map gives ps) u split' line') so)
 
-  -- once its workers have ended
-  pub new_ended : (feed : F) (crew : Crew S U F A) → HasEnded is_seat permits known is_seat' permits' known' answers stands queue results (leader feed) crew.led
-      → AllZip (IsServed is_seat permits known is_seat' permits' known' answers queue results) ps crew.workers.items → AllEnded is_seat permits known is_seat' permits' known' answers stands queue results crew
-  new_ended feed crew led back =
-      record { seats = seats; seats' = seats'; line = line; line' = line'; posts = ps; leader = leader feed; split = split; split' = split'; led = led; back = back }
+    module _ {crew : Crew S U F A} (led : HasEnded is_seat permits known is_seat' permits' known' answers stands q v leader crew.led)
+        (back : AllZip (IsServed is_seat permits known is_seat' permits' known' answers q v) ps crew.workers.items) where
+      -- once its workers have ended
+      pub new_ended : {q' : Q} {v' : V} → q' ≡ q → v' ≡ v → AllEnded is_seat permits known is_seat' permits' known' answers stands q' v' crew
+      new_ended one other =
+          on (λ q v. AllEnded is_seat permits known is_seat' permits' known' answers stands q v crew) (sym (one ∙ same)) (sym (other ∙ same'))
+          (record {
+            seats = seats;
+            seats' = seats';
+            line = line;
+            line' = line';
+            posts = ps;
+            leader = leader;
+            split = split;
+            split' = split';
+            led = on (λ q v. HasEnded is_seat permits known is_seat' permits' known' answers stands q v leader crew.led) same same' led;
+            back = on (λ q v. AllZip (IsServed is_seat permits known is_seat' permits' known' answers q v) ps crew.workers.items) same same' back;
+          })
 
   -- there is one seat more than workers
-  pub new_many : (q : Q) (v : V) (ws : List (Served S U A)) → AllZip (IsServed is_seat permits known is_seat' permits' known' answers q v) ps ws → length seats ≡ length ws + 1
-  new_many q v ws back =
+  pub new_many : (answers : T → A → Type 0) (ws : List (Served S U A)) → AllZip (IsServed is_seat permits known is_seat' permits' known' answers q v) ps ws → length seats ≡ length ws + 1
+  new_many answers ws back =
       let many = as_many is_seat permits known is_seat' permits' known' answers q v ps ws back in
       let all = count is_seat permits known queue seats (map takes ps) s split line in
       let len = length-map ps takes in

@@ -2,3 +2,4 @@ mod Seats
 mod Finishing
 mod Ending
 mod Moving
+mod Closed
