@@ -26,17 +26,17 @@ extern "C" {
 /* So many bytes keep two seats apart: each call writes its seat, and processors fetch lines of 64 bytes by twos. */
 #define MSQ_APART 128
 
-/* Where a seat lies, leased or not. */
+/* Where a seat lies, and its role, which is 0 while the seat is leased. */
 struct msq_place {
     msq_seat seat;
-    char apart[MSQ_APART - sizeof(msq_seat)];
+    uint8_t free_role;
+    char apart[MSQ_APART - sizeof(msq_seat) - sizeof(uint8_t)];
 };
 
 /* A queue with its seats. All zeros are none. */
 typedef struct msq_queue {
     struct msq_place *places;
-    uint8_t *roles;      /* of each place the role of its seat */
-    uint8_t *free_roles; /* the same, and 0 while the seat is leased */
+    uint8_t *roles; /* of each place the role of its seat */
     size_t count;
     size_t room; /* for all values that the queue may hold */
     void *block; /* the memory of the places, the first of which begins with a line of the cache */
@@ -67,7 +67,7 @@ MSQ_INLINE void msq_queue_drop(msq_queue *queue);
 
 /* Gives back the memory of the places. */
 MSQ_INLINE void msq_queue_free(msq_queue *queue) {
-    const msq_queue none = {NULL, NULL, NULL, 0, 0, NULL, {{0, 0, {0}}, {0, 0, {0}}, 0}};
+    const msq_queue none = {NULL, NULL, 0, 0, NULL, {{0, 0, {0}}, {0, 0, {0}}, 0}};
     free(queue->block);
     free(queue->roles);
     *queue = none;
@@ -76,15 +76,14 @@ MSQ_INLINE void msq_queue_free(msq_queue *queue) {
 /* Memory for so many places; whether there is. */
 MSQ_INLINE bool msq_queue_room(msq_queue *queue, const uint8_t *roles, size_t count) {
     queue->block = malloc((count + 1) * sizeof *queue->places);
-    queue->roles = (uint8_t *)malloc(2 * count);
+    queue->roles = (uint8_t *)malloc(count);
     if (queue->block == NULL || queue->roles == NULL) {
         return false;
     }
     queue->places = (struct msq_place *)(((uintptr_t)queue->block + MSQ_APART - 1) / MSQ_APART * MSQ_APART);
-    queue->free_roles = queue->roles + count;
     queue->count = count;
     for (size_t place = 0; place < count; place++) {
-        queue->roles[place] = queue->free_roles[place] = roles[place];
+        queue->roles[place] = queue->places[place].free_role = roles[place];
     }
     return true;
 }
@@ -116,8 +115,8 @@ MSQ_INLINE uint32_t msq_queue_create(msq_queue *queue, uint32_t kind, uint32_t n
 /* Whether the seat of a place was free, and is now the caller's. */
 MSQ_INLINE bool msq_lease_at(msq_queue *queue, size_t place) {
     uint8_t role = queue->roles[place];
-    return __atomic_load_n(&queue->free_roles[place], __ATOMIC_SEQ_CST) == role &&
-           __atomic_compare_exchange_n(&queue->free_roles[place], &role, 0, false, __ATOMIC_SEQ_CST, __ATOMIC_SEQ_CST);
+    return __atomic_load_n(&queue->places[place].free_role, __ATOMIC_SEQ_CST) == role &&
+           __atomic_compare_exchange_n(&queue->places[place].free_role, &role, 0, false, __ATOMIC_SEQ_CST, __ATOMIC_SEQ_CST);
 }
 
 MSQ_INLINE msq_seat *msq_lease(msq_queue *queue, uint32_t role) {
@@ -132,7 +131,7 @@ MSQ_INLINE msq_seat *msq_lease(msq_queue *queue, uint32_t role) {
 MSQ_INLINE void msq_release(msq_queue *queue, msq_seat *seat) {
     if (seat != NULL) {
         size_t place = (size_t)((struct msq_place *)(void *)seat - queue->places);
-        __atomic_store_n(&queue->free_roles[place], queue->roles[place], __ATOMIC_SEQ_CST);
+        __atomic_store_n(&queue->places[place].free_role, queue->roles[place], __ATOMIC_SEQ_CST);
     }
 }
 

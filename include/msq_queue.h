@@ -63,18 +63,25 @@ MSQ_INLINE uint32_t msq_queue_left(msq_queue *queue, msq_remaining *left);
  */
 MSQ_INLINE uint32_t msq_destroy(msq_queue *queue, msq_free_one free_one, void *context);
 
-/*
- * A seat that may do what this role does, once there is one; none of no queue. Each thread begins at a place of its own, by where
- * its stack lies, so that two rarely try the same one.
- */
+/* The place where this thread begins to look for a seat, modulo how many there are: another one for each of so many threads. */
+MSQ_INLINE size_t msq_first_place(void) {
+    static size_t next;
+    static __thread size_t mine;
+    if (mine == 0) {
+        mine = __atomic_fetch_add(&next, 1, __ATOMIC_SEQ_CST) + 1;
+    }
+    return mine;
+}
+
+/* A seat that may do what this role does, once there is one; none of no queue. */
 MSQ_INLINE msq_seat *msq_lease_for(msq_queue *queue, uint32_t role) {
-    const size_t first = (size_t)((uintptr_t)&role >> 20);
     while (queue->count > 0) {
+        size_t place = msq_first_place() % queue->count;
         for (size_t k = 0; k < queue->count; k++) {
-            const size_t place = (first + k) % queue->count;
             if ((queue->roles[place] & role) == role && msq_lease_at(queue, place)) {
                 return &queue->places[place].seat;
             }
+            place = place + 1 < queue->count ? place + 1 : 0;
         }
         sched_yield();
     }

@@ -329,7 +329,7 @@ static void end(bool sleeps) {
     const unsigned due = left, seats = (unsigned)queue.count;
     uint32_t code;
     for (size_t k = 0; k < queue.count; k++) {
-        if (queue.free_roles[k] != queue.roles[k]) {
+        if (queue.places[k].free_role != queue.roles[k]) {
             is_wrong("a seat isn't back");
             return;
         }

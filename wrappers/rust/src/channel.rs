@@ -222,8 +222,24 @@ pub fn bounded_for<T: Send>(
     capacity: u32,
     threads: u16,
 ) -> Result<(Sender<T>, Receiver<T>), Refusal> {
+    bounded_of(Kind::NonBlocking, capacity, threads)
+}
+
+/// As [`bounded_for`], over a queue of this kind: a ring takes the least time, and of a ring a thread that stops in a push holds up
+/// those that pop.
+///
+/// ```
+/// let (sender, receiver) = msq::channel::bounded_of(msq::Kind::Ring, 2, 8).unwrap();
+/// sender.send("a text".to_string()).unwrap();
+/// assert_eq!(receiver.recv().unwrap(), "a text");
+/// ```
+pub fn bounded_of<T: Send>(
+    kind: Kind,
+    capacity: u32,
+    threads: u16,
+) -> Result<(Sender<T>, Receiver<T>), Refusal> {
     let shared = Arc::new(Shared {
-        queue: Pooled::new(Kind::NonBlocking, capacity, threads)?,
+        queue: Pooled::new(kind, capacity, threads)?,
         senders: AtomicUsize::new(1),
         receivers: AtomicUsize::new(1),
     });
