@@ -164,6 +164,27 @@ uint32_t msq_try_pop(msq_seat *seat, uint32_t turns, msq_value *value);
 uint32_t msq_try_shut(msq_seat *seat, uint32_t turns);
 
 /*
+ * Pushes these bodies in their order, each as msq_try_push does, until one is refused: how many were pushed goes to `pushed`, and
+ * the code is that of the one which was refused, or of the last one. Pushes of other seats may come between. No bodies are
+ * pushed by any seat, and without a seat 0 is written.
+ */
+uint32_t msq_push_all(msq_seat *seat, const uint64_t *bodies, size_t bodies_len, uint32_t turns, size_t *pushed);
+
+/*
+ * Pops values, as many as there is room for, each as msq_try_pop does, until the queue is found empty or a pop is refused: they
+ * go to `values`, from the front, and how many to `popped`. The code is that of the pop that took none, or of the last one.
+ * Pops of other seats may come between. Without a seat 0 is written.
+ */
+uint32_t msq_pop_up_to(msq_seat *seat, uint32_t turns, msq_value *values, size_t values_len, size_t *popped);
+
+/*
+ * Tells a seat that may push and pop whether to keep the node that its pop frees for its next push, which a new seat gives back:
+ * both then spare their steps at the free list, and the node is no room for others. Another seat, and one of MSQ_RING, is as
+ * before. MSQ_OK or MSQ_NO_SEAT.
+ */
+uint32_t msq_keep_nodes(msq_seat *seat, bool keeps);
+
+/*
  * Whether the queue holds a value, as it was at a moment of this call, by any seat: the code is that of a pop there, which
  * isn't made. MSQ_OK where it holds one; MSQ_EMPTY where it is empty, MSQ_CLOSED where it is shut too, so that nothing comes
  * any more; MSQ_BUSY where pops took effect meanwhile, or where a MSQ_RING is shut and the push at its front, done or refused,
@@ -466,6 +487,40 @@ MSQ_INLINE uint32_t msq_checked_shut(msq_seat *seat, uint32_t turns) {
     return code;
 }
 
+MSQ_INLINE uint32_t msq_checked_push_all(msq_seat *seat, const uint64_t *bodies, size_t bodies_len, uint32_t turns,
+                                         size_t *pushed) {
+    struct msq_call call;
+    *pushed = 0;
+    if (!msq_begin(&call, seat, 1)) {
+        return MSQ_TWO_CALLS;
+    }
+    uint32_t code = msq_push_all(seat, bodies, bodies_len, turns, pushed);
+    msq_end(&call);
+    return code;
+}
+
+MSQ_INLINE uint32_t msq_checked_pop_up_to(msq_seat *seat, uint32_t turns, msq_value *values, size_t values_len,
+                                          size_t *popped) {
+    struct msq_call call;
+    *popped = 0;
+    if (!msq_begin(&call, seat, 1)) {
+        return MSQ_TWO_CALLS;
+    }
+    uint32_t code = msq_pop_up_to(seat, turns, values, values_len, popped);
+    msq_end(&call);
+    return code;
+}
+
+MSQ_INLINE uint32_t msq_checked_keep_nodes(msq_seat *seat, bool keeps) {
+    struct msq_call call;
+    if (!msq_begin(&call, seat, 1)) {
+        return MSQ_TWO_CALLS;
+    }
+    uint32_t code = msq_keep_nodes(seat, keeps);
+    msq_end(&call);
+    return code;
+}
+
 MSQ_INLINE uint32_t msq_checked_emptiness(msq_seat *seat) {
     struct msq_call call;
     if (!msq_begin(&call, seat, 1)) {
@@ -562,6 +617,10 @@ MSQ_INLINE void msq_checked_drop(msq_seat *seat) {
 #define msq_try_push(seat, body, turns) msq_checked_push(seat, body, turns)
 #define msq_try_pop(seat, turns, value) msq_checked_pop(seat, turns, value)
 #define msq_try_shut(seat, turns) msq_checked_shut(seat, turns)
+#define msq_push_all(seat, bodies, bodies_len, turns, pushed) msq_checked_push_all(seat, bodies, bodies_len, turns, pushed)
+#define msq_pop_up_to(seat, turns, values, values_len, popped)                                                         \
+    msq_checked_pop_up_to(seat, turns, values, values_len, popped)
+#define msq_keep_nodes(seat, keeps) msq_checked_keep_nodes(seat, keeps)
 #define msq_emptiness(seat) msq_checked_emptiness(seat)
 #define msq_len(seat, length) msq_checked_len(seat, length)
 #define msq_left(seat, left) msq_checked_left(seat, left)

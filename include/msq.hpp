@@ -70,6 +70,16 @@ public:
         return answer([&] { return msq_shut_wake(&raw_, bells(), turns); });
     }
 
+    // Many at one call, as msq_push_all and msq_pop_up_to: how many were pushed, or popped, is told.
+    msq_code try_push_all(const uint64_t *bodies, size_t bodies_len, size_t &count, uint32_t turns = 8) noexcept {
+        count = 0;
+        return answer([&] { return msq_push_all_wake(&raw_, bells(), bodies, bodies_len, turns, &count); });
+    }
+    msq_code try_pop_up_to(msq_value *values, size_t values_len, size_t &count, uint32_t turns = 8) noexcept {
+        count = 0;
+        return answer([&] { return msq_pop_up_to_wake(&raw_, bells(), turns, values, values_len, &count); });
+    }
+
     // These sleep while the queue is full, or empty: as long as it takes, or for some time, and then look once more.
     msq_code push_wait(uint64_t body) noexcept {
         return answer([&] { return msq_push_wait(&raw_, bells(), body); });
@@ -85,6 +95,9 @@ public:
     msq_code pop_wait_for(msq_value &value, std::chrono::duration<Rep, Period> time) noexcept {
         return answer([&] { return msq_pop_wait_for(&raw_, bells(), detail::nanoseconds(time), &value); });
     }
+
+    // Whether the seat, which may push and pop, keeps the node that its pop frees for its next push.
+    msq_code keep_nodes(bool keeps) noexcept { return static_cast<msq_code>(msq_keep_nodes(&raw_, keeps)); }
 
     // MSQ_OK where the queue holds a value, else MSQ_EMPTY, MSQ_CLOSED or MSQ_BUSY.
     msq_code emptiness() noexcept { return static_cast<msq_code>(msq_emptiness(&raw_)); }

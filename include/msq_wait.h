@@ -83,6 +83,14 @@ MSQ_INLINE uint32_t msq_push_wake(msq_seat *seat, msq_bells *bells, uint64_t bod
 /* As msq_try_pop, and wakes one that waits for room. It never sleeps. */
 MSQ_INLINE uint32_t msq_pop_wake(msq_seat *seat, msq_bells *bells, uint32_t turns, msq_value *value);
 
+/* As msq_push_all, and wakes as many as wait for values. It never sleeps. */
+MSQ_INLINE uint32_t msq_push_all_wake(msq_seat *seat, msq_bells *bells, const uint64_t *bodies, size_t bodies_len,
+                                      uint32_t turns, size_t *pushed);
+
+/* As msq_pop_up_to, and wakes as many as wait for room. It never sleeps. */
+MSQ_INLINE uint32_t msq_pop_up_to_wake(msq_seat *seat, msq_bells *bells, uint32_t turns, msq_value *values,
+                                       size_t values_len, size_t *popped);
+
 /* As msq_try_shut, and wakes all that sleep; who then finds nothing is told MSQ_CLOSED. It never sleeps. */
 MSQ_INLINE uint32_t msq_shut_wake(msq_seat *seat, msq_bells *bells, uint32_t turns);
 
@@ -315,6 +323,47 @@ MSQ_INLINE uint32_t msq_pop_wake(msq_seat *seat, msq_bells *bells, uint32_t turn
         return MSQ_TWO_CALLS;
     }
     code = msq_pop_once(seat, bells, turns, value);
+    msq_end(&call);
+    return code;
+}
+
+/* So many that sleep. */
+MSQ_INLINE int msq_sleepers(size_t count) {
+    return count < INT_MAX ? (int)count : INT_MAX;
+}
+
+MSQ_INLINE uint32_t msq_push_all_wake(msq_seat *seat, msq_bells *bells, const uint64_t *bodies, size_t bodies_len,
+                                      uint32_t turns, size_t *pushed) {
+    struct msq_call call;
+    uint32_t code;
+    *pushed = 0;
+    if (!msq_begin(&call, seat, 1)) {
+        return MSQ_TWO_CALLS;
+    }
+    code = (msq_push_all)(seat, bodies, bodies_len, turns, pushed);
+    if (*pushed > 0) {
+        msq_ring(&bells->values, msq_sleepers(*pushed));
+    }
+    if (code != MSQ_OK) {
+        code = msq_pushed(bells, code);
+    }
+    msq_end(&call);
+    return code;
+}
+
+MSQ_INLINE uint32_t msq_pop_up_to_wake(msq_seat *seat, msq_bells *bells, uint32_t turns, msq_value *values,
+                                       size_t values_len, size_t *popped) {
+    struct msq_call call;
+    uint32_t code;
+    *popped = 0;
+    if (!msq_begin(&call, seat, 1)) {
+        return MSQ_TWO_CALLS;
+    }
+    code = (msq_pop_up_to)(seat, turns, values, values_len, popped);
+    if (*popped > 1) {
+        msq_ring(&bells->nodes, msq_sleepers(*popped - 1));
+    }
+    code = msq_popped(bells, code);
     msq_end(&call);
     return code;
 }

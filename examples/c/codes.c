@@ -97,6 +97,81 @@ static void two_queues_are_told(uint32_t kind) {
     msq_drop(&other[0]);
 }
 
+/* Many at one call: as many as go, and the code of the first that doesn't. */
+static void many_are_pushed_and_popped(uint32_t kind) {
+    const uint8_t roles[] = {MSQ_GIVER, MSQ_TAKER};
+    const uint64_t bodies[] = {1, 2, 3, MSQ_BODIES, 5};
+    uint64_t more[100] = {0};
+    msq_seat seats[2] = {0};
+    msq_value values[100] = {{9, 9}};
+    size_t count = 9, held;
+    expect("a push of many without a seat", msq_push_all(&seats[0], bodies, 3, 8, &count), MSQ_NO_SEAT);
+    expect("none", count, 0);
+    count = 9;
+    expect("a pop of many without a seat", msq_pop_up_to(&seats[1], 8, values, 3, &count), MSQ_NO_SEAT);
+    expect("none", count, 0);
+    expect("create", msq_create(kind, 16, MSQ_MOST_COUNT, roles, 2, seats, 2), MSQ_OK);
+    expect("a taker pushes many", msq_push_all(&seats[1], bodies, 3, 8, &count), MSQ_NO_ROLE);
+    expect("a giver pops many", msq_pop_up_to(&seats[0], 8, values, 3, &count), MSQ_NO_ROLE);
+    expect("a push of many in no turns", msq_push_all(&seats[0], bodies, 3, 0, &count), MSQ_BAD_SIZE);
+    expect("a pop of many in no turns", msq_pop_up_to(&seats[1], 0, values, 3, &count), MSQ_BAD_SIZE);
+    expect("none", count, 0);
+    expect("a push of none", msq_push_all(&seats[0], bodies, 0, 8, &count), MSQ_OK);
+    expect("a pop of none", msq_pop_up_to(&seats[1], 8, values, 0, &count), MSQ_OK);
+    expect("a pop of many from an empty queue", msq_pop_up_to(&seats[1], 8, values, 3, &count), MSQ_EMPTY);
+    expect("nothing is written", values[0].body + count, 9);
+    expect("a push of many", msq_push_all(&seats[0], bodies, 3, 8, &count), MSQ_OK);
+    expect("all of them", count, 3);
+    expect("one of them is no body", msq_push_all(&seats[0], bodies + 1, 4, 8, &count), MSQ_BAD_SIZE);
+    expect("those before it", count, 2);
+    expect("a pop of two", msq_pop_up_to(&seats[1], 8, values, 2, &count), MSQ_OK);
+    expect("both", count, 2);
+    expect("the first one", values[0].body, 1);
+    expect("the second one", values[1].body, 2);
+    expect("a pop of the others", msq_pop_up_to(&seats[1], 8, values, 4, &count), MSQ_EMPTY);
+    expect("so many", count, 3);
+    expect("in their order", values[0].body * 100 + values[1].body * 10 + values[2].body, 323);
+    expect("no further value", values[3].body, 0);
+    expect("a push of more than there is room for", msq_push_all(&seats[0], more, 100, 8, &held), MSQ_NO_NODE);
+    expect("as many as there is room for", held >= 15 && held < 16 + MSQ_RESERVE, true);
+    expect("a shut", msq_try_shut(&seats[0], 8), MSQ_OK);
+    expect("a pop of all", msq_pop_up_to(&seats[1], 8, values, 100, &count), MSQ_CLOSED);
+    expect("all that was held", count, held);
+    expect("a push of many behind it", msq_push_all(&seats[0], bodies, 3, 8, &count), MSQ_CLOSED);
+    expect("none", count, 0);
+    msq_drop(&seats[0]);
+    msq_drop(&seats[1]);
+}
+
+/* A push and a pop by one seat: how often the count of the free list can still be raised. */
+static uint64_t free_after_a_pair(msq_seat *seat) {
+    msq_value value = {0, 0};
+    msq_remaining left = {0, 0, 0, 0};
+    expect("a push", msq_try_push(seat, 7, 8), MSQ_OK);
+    expect("a pop", msq_try_pop(seat, 8, &value), MSQ_OK);
+    expect("the value", value.body, 7);
+    expect("what is left", msq_left(seat, &left), MSQ_OK);
+    return left.free;
+}
+
+/* A seat that keeps its nodes takes none from the free list, and gives none back. */
+static void nodes_are_kept(uint32_t kind) {
+    const uint8_t roles[] = {MSQ_BOTH};
+    msq_seat seat = {0};
+    uint64_t left;
+    expect("to keep without a seat", msq_keep_nodes(&seat, true), MSQ_NO_SEAT);
+    expect("create", msq_create(kind, 2, MSQ_MOST_COUNT, roles, 1, &seat, 1), MSQ_OK);
+    expect("to keep", msq_keep_nodes(&seat, true), MSQ_OK);
+    left = free_after_a_pair(&seat);
+    for (int k = 0; k < 10; k++) {
+        expect("the free list isn't used", free_after_a_pair(&seat), left);
+    }
+    expect("to keep no more", msq_keep_nodes(&seat, false), MSQ_OK);
+    left = free_after_a_pair(&seat);
+    expect("a node is taken and given back", left - free_after_a_pair(&seat), kind == MSQ_RING ? 0 : 2);
+    msq_drop(&seat);
+}
+
 /* Pushes and pops by turns, until a push is refused: how many were not. */
 static uint32_t pushed(msq_seat *giver, msq_seat *taker, uint32_t *code) {
     msq_value value;
@@ -262,6 +337,8 @@ int main(void) {
         a_queue_is_closed(kind);
         two_queues_are_told(kind);
         sizes_have_their_ranges(kind);
+        many_are_pushed_and_popped(kind);
+        nodes_are_kept(kind);
     }
     for (uint32_t kind = MSQ_NON_BLOCKING; kind <= MSQ_TWO_LOCK; kind++) {
         the_free_list_wears_out(kind, 1, 1, MSQ_WORN_FREE);

@@ -6,3 +6,4 @@ pub mod Made
 pub mod WordMade
 pub mod Sizes
 pub mod Written
+pub mod Batches

@@ -2,8 +2,10 @@ pub mod Boxed
 pub mod Codes
 pub mod Ends
 pub mod Queues
+pub mod Keeps
 pub mod Looks
 pub mod Made
+pub mod Many
 pub mod Own
 pub mod Rests
 pub mod Seats

@@ -7,7 +7,7 @@ use any_queue::PickedQueue;
 use either_queue::{EitherQueue, EitherRoom, EitherSeat};
 use history::{Body, Refusal, Taken};
 use node_arena::Seat;
-use owned_seats::{Look, OwnedSeat};
+use owned_seats::{Act, Look, OwnedSeat};
 use ring_queue::{RingQueue, Seat as RingSeat};
 use std::alloc::Global;
 
@@ -37,7 +37,7 @@ pub struct OwnSeat {
 }
 
 impl OwnSeat {
-    ghost use Rattle.msq_c.specs.Own.{queue_in, known_in, owned_in};
+    ghost use Rattle.msq_c.specs.Own.{queue_in, seat_in, known_in, owned_in};
     ghost use Rattle.msq_c.specs.Own.{RefusesPush, RefusesPop, RefusesShut};
     ghost use Rattle.msq_c.specs.Queues.{IsEnough};
     ghost use Rattle.msq_c.specs.Ends.{HasAnyRoom, IsRoomless};
@@ -128,6 +128,14 @@ impl OwnSeat {
         ensures told { L.tells (queue_in self.old) (known_in self.old) result (known_in self.new) }
     {
         self.owned.look::<L>()
+    }
+
+    pub(crate) fn act<A: Act<Queue>>(&mut self, act: A) -> A::Told
+        requires { A.asks act (queue_in self.old) (seat_in self.old) }
+        ensures queue { queue_in self.new ≡ queue_in self.old }
+        ensures told { A.tells act (queue_in self.old) (seat_in self.old) result (seat_in self.new) }
+    {
+        self.owned.act(act)
     }
 
     // Whether so many seats are enough for an end of the queue.

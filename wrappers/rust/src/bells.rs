@@ -183,6 +183,25 @@ impl Bells {
         answer(code)
     }
 
+    /// What a push of many answers, of which so many were pushed, after it has woken who is to be.
+    pub fn pushed_all(&self, count: usize, code: u32) -> Result<(), Refusal> {
+        if count > 0 {
+            self.values.ring(c_int::try_from(count).unwrap_or(ALL));
+        }
+        if code == raw::OK {
+            return Ok(());
+        }
+        self.pushed(code)
+    }
+
+    /// After a pop of many, of which so many were popped.
+    pub fn popped_up_to(&self, count: usize, code: u32) {
+        if count > 1 {
+            self.nodes.ring(c_int::try_from(count - 1).unwrap_or(ALL));
+        }
+        self.popped(code);
+    }
+
     /// After a pop, which may have given a node back also where it took no value.
     pub fn popped(&self, code: u32) {
         self.nodes.ring(1);

@@ -26,6 +26,7 @@ mod boxes;
 pub mod channel;
 mod leases;
 mod looks;
+mod many;
 mod passing;
 mod pooled;
 mod queues;
@@ -39,6 +40,7 @@ pub use queues::{PushError, Queue};
 
 /// What is pushed: a number below 2^48.
 #[derive(Clone, Copy, Debug, PartialEq, Eq, PartialOrd, Ord, Hash)]
+#[repr(transparent)]
 pub struct Body(u64);
 
 impl Body {

@@ -36,6 +36,7 @@ impl Seat {
 }
 
 #[repr(C)]
+#[derive(Clone, Copy)]
 pub struct Value {
     pub body: u64,
     pub from: u16,
@@ -118,6 +119,20 @@ extern "C" {
     pub fn msq_try_push(seat: *mut Seat, body: u64, turns: u32) -> u32;
     pub fn msq_try_pop(seat: *mut Seat, turns: u32, value: *mut Value) -> u32;
     pub fn msq_try_shut(seat: *mut Seat, turns: u32) -> u32;
+    pub fn msq_push_all(
+        seat: *mut Seat,
+        bodies: *const u64,
+        bodies_len: usize,
+        turns: u32,
+        pushed: *mut usize,
+    ) -> u32;
+    pub fn msq_pop_up_to(
+        seat: *mut Seat,
+        turns: u32,
+        values: *mut Value,
+        values_len: usize,
+        popped: *mut usize,
+    ) -> u32;
     pub fn msq_emptiness(seat: *mut Seat) -> u32;
     pub fn msq_len(seat: *mut Seat, length: *mut Length) -> u32;
     pub fn msq_left(seat: *mut Seat, left: *mut Remaining) -> u32;

@@ -2,7 +2,7 @@
 use msq::channel::{
     bounded, RecvError, RecvTimeoutError, SendTimeoutError, TryRecvError, TrySendError,
 };
-use msq::{Kind, Queue, Refusal};
+use msq::{Body, Kind, Queue, Refusal};
 use std::sync::atomic::AtomicIsize;
 use std::sync::atomic::Ordering::SeqCst;
 use std::sync::Arc;
@@ -46,6 +46,36 @@ fn no_queue_has_such_sizes() {
         );
     }
     assert!(matches!(bounded::<u8>(0), Err(Refusal::BadSize)));
+}
+
+#[test]
+fn many_pass_at_one_call() {
+    for kind in KINDS {
+        let (mut senders, mut receivers) = msq::queue(kind, 16, 1, 1).unwrap();
+        let (sender, receiver) = (&mut senders[0], &mut receivers[0]);
+        let bodies: Vec<Body> = (0..100).map(Body::from).collect();
+        assert_eq!(sender.try_push_all(&[], 8), (0, Ok(())));
+        assert_eq!(
+            sender.try_push_all(&bodies, 0),
+            (0, Err(Refusal::BadSize)),
+            "no turns"
+        );
+        assert_eq!(receiver.try_pop_up_to(4, 8), (vec![], Ok(())), "empty");
+        let (held, told) = sender.try_push_all(&bodies, 8);
+        assert!((15..48).contains(&held) && told == Err(Refusal::NoNode));
+        let (first, told) = receiver.try_pop_up_to(4, 8);
+        assert_eq!((first.len(), told), (4, Ok(())));
+        sender.try_shut(8).unwrap();
+        assert_eq!(
+            sender.try_push_all(&bodies, 8),
+            (0, Err(Refusal::Closed)),
+            "shut"
+        );
+        let (rest, told) = receiver.try_pop_up_to(100, 8);
+        assert_eq!(told, Err(Refusal::Closed));
+        let came = first.iter().chain(&rest).map(|value| value.body);
+        assert!(came.eq(bodies[..held].iter().copied()), "in their order");
+    }
 }
 
 #[test]
