@@ -271,6 +271,10 @@ public:
     template <class Rep, class Period> msq_code push_wait_for(T &&value, std::chrono::duration<Rep, Period> time) {
         return give(value, {true, detail::nanoseconds(time)});
     }
+    template <class Rep, class Period> msq_code push_wait_for(const T &value, std::chrono::duration<Rep, Period> time) {
+        T copy(value);
+        return push_wait_for(std::move(copy), time);
+    }
 
     // Pops the value at the front into `value`, which stays as it was unless it answers MSQ_OK: MSQ_EMPTY, MSQ_CLOSED where the
     // queue is closed and empty, MSQ_BUSY, or a worn word.

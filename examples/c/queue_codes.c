@@ -114,6 +114,34 @@ static void what_is_left_is_freed(uint32_t kind) {
     expect("there is none", msq_queue_pop(&queue, (void **)&seat), MSQ_NO_SEAT);
 }
 
+/* Seats are leased one by one, and a queue ends once all are back. */
+static void seats_are_leased(uint32_t kind) {
+    const uint8_t roles[] = {MSQ_GIVER, MSQ_TAKER};
+    msq_queue queue = {0};
+    msq_value value = {7, 7};
+    msq_rest rest = {9, 9, false, false};
+    msq_seat *giver;
+    expect("no seat of none", msq_lease(&queue, MSQ_GIVER) == NULL, true);
+    expect("a close of none", msq_queue_close(&queue, &value, 1, &rest), MSQ_NO_SEAT);
+    expect("no role", msq_queue_create(&queue, kind, 8, MSQ_MOST_COUNT, roles, 0), MSQ_BAD_SIZE);
+    expect("one node", msq_queue_create(&queue, kind, 1, MSQ_MOST_COUNT, roles, 2), MSQ_BAD_SIZE);
+    expect("create", msq_queue_create(&queue, kind, 8, MSQ_MOST_COUNT, roles, 2), MSQ_OK);
+    expect("create again", msq_queue_create(&queue, kind, 8, MSQ_MOST_COUNT, roles, 2), MSQ_IN_USE);
+    giver = msq_lease(&queue, MSQ_GIVER);
+    expect("a seat", msq_try_push(giver, 5, 8), MSQ_OK);
+    expect("no further one", msq_lease(&queue, MSQ_GIVER) == NULL, true);
+    expect("none for both", msq_lease(&queue, MSQ_BOTH) == NULL, true);
+    expect("a close beside a lease", msq_queue_close(&queue, &value, 1, &rest), MSQ_IN_USE);
+    expect("nothing is written", value.body + rest.left, 7 + 9);
+    msq_release(&queue, giver);
+    expect("the seat again", msq_lease(&queue, MSQ_GIVER) == giver, true);
+    msq_release(&queue, giver);
+    msq_release(&queue, NULL);
+    expect("a close", msq_queue_close(&queue, &value, 1, &rest), MSQ_OK);
+    expect("what is left", value.body + rest.left, 5 + 1);
+    expect("there is none", msq_lease(&queue, MSQ_GIVER) == NULL, true);
+}
+
 /* A ring has no more than 32,767 seats. */
 static void a_ring_has_fewer_seats(void) {
     msq_queue queue = {0};
@@ -149,6 +177,7 @@ int main(void) {
         sizes_have_their_ranges(kind);
         a_queue_answers(kind);
         what_is_left_is_freed(kind);
+        seats_are_leased(kind);
     }
     for (uint32_t kind = MSQ_NON_BLOCKING; kind <= MSQ_TWO_LOCK; kind++) {
         a_worn_queue_is_freed(kind);

@@ -239,6 +239,7 @@ static void what_is_left_is_freed(void) {
     msq_queue shared = {0};
     msq_words words = words_of(5, 0);
     msq_length length = {0, 0};
+    msq_seat *seat;
     uint64_t count = 0;
     expect("no queue", msq_words_queue_push(&shared, &words), MSQ_NO_SEAT);
     expect("no queue to be seen", msq_words_queue_emptiness(&shared), MSQ_NO_SEAT);
@@ -259,6 +260,10 @@ static void what_is_left_is_freed(void) {
     expect("ten", length.least + length.most, kind == MSQ_TWO_LOCK ? 0 : 20);
     while (msq_words_queue_push(&shared, &words) == MSQ_OK) {
     }
+    seat = msq_lease_for(&shared, MSQ_BOTH);
+    expect("an end beside a lease", msq_words_destroy(&shared, count_one, &count), MSQ_IN_USE);
+    expect("nothing was freed", count, 0);
+    msq_release(&shared, seat);
     expect("full", msq_words_queue_push_wait_for(&shared, &words, MILLISECOND), MSQ_NO_NODE);
     expect("its end", msq_words_destroy(&shared, count_one, &count), MSQ_OK);
     expect("each came", count, 10);

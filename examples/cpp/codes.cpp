@@ -71,11 +71,13 @@ template <class box> static void a_queue_answers(msq::kind kind) {
     expect("a second one", queue.close() == MSQ_CLOSED);
     expect("a push behind it", queue.try_push(std::move(value)) == MSQ_CLOSED && *value == 2);
     expect("one that waits behind it", queue.push_wait(std::move(value)) == MSQ_CLOSED && *value == 2);
+    expect("for some time", queue.push_wait_for(std::move(value), milliseconds(1)) == MSQ_CLOSED && *value == 2);
     while (queue.pop_wait_for(value, milliseconds(1)) == MSQ_OK) {
         expect("what was left", *value == 3);
     }
     expect("a pop of a closed queue", queue.try_pop(value) == MSQ_CLOSED && *value == 3);
     expect("one that waits", queue.pop_wait(value) == MSQ_CLOSED && *value == 3);
+    expect("for some time", queue.pop_wait_for(value, milliseconds(1)) == MSQ_CLOSED && *value == 3);
     expect("it is closed and empty", queue.emptiness() == MSQ_CLOSED);
 }
 
@@ -93,6 +95,20 @@ template <class box> static void no_queue_answers() {
     expect("for some time", none.pop_wait_for(value, milliseconds(1)) == MSQ_NO_SEAT);
     expect("a close of none", none.close() == MSQ_NO_SEAT);
     expect("looks at none", none.emptiness() == MSQ_NO_SEAT && none.len(length) == MSQ_NO_SEAT && none.left(left) == MSQ_NO_SEAT);
+}
+
+// What isn't moved in is copied, and stays whatever is answered.
+static void copies_are_pushed() {
+    const std::string text(40, 'x');
+    for (auto kind : kinds) {
+        auto queue = msq::queue<std::string>::create(3, kind, 1).second;
+        expect("a copy", queue.try_push(text) == MSQ_OK);
+        expect("one that waits", queue.push_wait(text) == MSQ_OK);
+        expect("for some time", queue.push_wait_for(text, milliseconds(1)) == MSQ_OK);
+        size_t same = 0;
+        queue.consume_all([&](std::string &&it) { same += it == text; });
+        expect("all are alike", same == 3 && text.size() == 40);
+    }
 }
 
 // Values lie in the queue by their size and what moves them, and come as they were, whatever their bytes are.
@@ -129,7 +145,10 @@ static void small_values_pass() {
         expect("what is left ends with its queue", shared.use_count() == 1);
     }
     const auto high = reinterpret_cast<int *>(UINTPTR_MAX);
-    expect("no address", msq::queue<int *>::create(4, msq::kind::ring).second.try_push(high) == MSQ_BAD_SIZE);
+    auto ring = msq::queue<int *>::create(4, msq::kind::ring).second;
+    expect("no address", ring.try_push(high) == MSQ_BAD_SIZE);
+    expect("by one that waits", ring.push_wait(high) == MSQ_BAD_SIZE);
+    expect("for some time", ring.push_wait_for(high, milliseconds(1)) == MSQ_BAD_SIZE);
     expect("but of nodes", msq::queue<int *>::create(4).second.try_push(high) == MSQ_OK);
 }
 
@@ -221,6 +240,7 @@ int main() {
     no_queue_answers<small>();
     no_queue_answers<large>();
     small_values_pass();
+    copies_are_pushed();
     a_sleeper_is_woken();
     values_are_consumed();
 #if defined(__cpp_exceptions)

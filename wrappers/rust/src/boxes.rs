@@ -1,6 +1,7 @@
 //! Queues that own boxes.
 use crate::{bells, queue_with_limit, raw, Body, Kind, Receiver, Refusal, Sender};
 use std::cell::Cell;
+use std::fmt;
 use std::marker::PhantomData;
 use std::slice;
 use std::sync::Arc;
@@ -91,7 +92,16 @@ fn unboxed<T>(address: u64) -> Box<T> {
     unsafe { Box::from_raw(address as usize as *mut T) }
 }
 
-/// A seat that pushes boxes.
+/// A seat that pushes boxes, of what may go to another thread:
+///
+/// ```
+/// fn is_sent<T: Send>() {}
+/// is_sent::<msq::BoxSender<std::cell::Cell<u8>>>();
+/// ```
+/// ```compile_fail
+/// fn is_sent<T: Send>() {}
+/// is_sent::<msq::BoxSender<std::rc::Rc<u8>>>();
+/// ```
 pub struct BoxSender<T> {
     seat: Sender,
     // (behind the seat, which is dropped first)
@@ -99,12 +109,29 @@ pub struct BoxSender<T> {
     rest: Arc<Rest<T>>,
 }
 
-/// A seat that pops boxes.
+/// A seat that pops boxes, as of [`BoxSender`].
+///
+/// ```compile_fail
+/// fn is_sent<T: Send>() {}
+/// is_sent::<msq::BoxReceiver<std::rc::Rc<u8>>>();
+/// ```
 pub struct BoxReceiver<T> {
     seat: Receiver,
     // (behind the seat, which is dropped first)
     #[allow(dead_code)]
     rest: Arc<Rest<T>>,
+}
+
+impl<T> fmt::Debug for BoxSender<T> {
+    fn fmt(&self, f: &mut fmt::Formatter<'_>) -> fmt::Result {
+        f.pad("BoxSender { .. }")
+    }
+}
+
+impl<T> fmt::Debug for BoxReceiver<T> {
+    fn fmt(&self, f: &mut fmt::Formatter<'_>) -> fmt::Result {
+        f.pad("BoxReceiver { .. }")
+    }
 }
 
 /// A push that was refused, with its box.

@@ -1,5 +1,6 @@
 //! Seats that come and go: threads lease the seats of a queue, one after another.
 use crate::{queue_with_limit, raw, Kind, Receiver, Refusal, Sender};
+use std::fmt;
 use std::ops::{Deref, DerefMut};
 use std::sync::{Arc, Mutex, PoisonError};
 
@@ -46,6 +47,12 @@ pub struct SeatPool {
     receivers: Arc<Places<Receiver>>,
 }
 
+impl fmt::Debug for SeatPool {
+    fn fmt(&self, f: &mut fmt::Formatter<'_>) -> fmt::Result {
+        f.pad("SeatPool { .. }")
+    }
+}
+
 impl SeatPool {
     /// A queue with so many nodes, and so many seats that push and that pop, as [`queue`](crate::queue) makes it.
     pub fn new(
@@ -89,6 +96,12 @@ pub struct Lease<S> {
     index: usize,
     // There is one until the drop.
     seat: Option<S>,
+}
+
+impl<S: fmt::Debug> fmt::Debug for Lease<S> {
+    fn fmt(&self, f: &mut fmt::Formatter<'_>) -> fmt::Result {
+        f.debug_tuple("Lease").field(&**self).finish()
+    }
 }
 
 impl<S> Lease<S> {

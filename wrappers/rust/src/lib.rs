@@ -13,7 +13,7 @@
 //! senders[0].try_push(body, 8).unwrap();
 //! assert_eq!(receivers[0].try_pop(8), Ok(Some(msq::Value { body, from: 1 })));
 //! ```
-#![warn(missing_docs)]
+#![warn(missing_docs, missing_debug_implementations)]
 
 use std::cell::Cell;
 use std::fmt;
@@ -222,14 +222,44 @@ impl Drop for Seat {
     }
 }
 
-/// A seat that pushes.
+/// A seat that pushes. It may go to another thread, and is one thread's at a time:
+///
+/// ```
+/// fn is_sent<T: Send>() {}
+/// is_sent::<msq::Sender>();
+/// ```
+/// ```compile_fail
+/// fn is_shared<T: Sync>() {}
+/// is_shared::<msq::Sender>();
+/// ```
 pub struct Sender {
     seat: Seat,
 }
 
-/// A seat that pops.
+/// A seat that pops. It may go to another thread, and is one thread's at a time:
+///
+/// ```
+/// fn is_sent<T: Send>() {}
+/// is_sent::<msq::Receiver>();
+/// ```
+/// ```compile_fail
+/// fn is_shared<T: Sync>() {}
+/// is_shared::<msq::Receiver>();
+/// ```
 pub struct Receiver {
     seat: Seat,
+}
+
+impl fmt::Debug for Sender {
+    fn fmt(&self, f: &mut fmt::Formatter<'_>) -> fmt::Result {
+        f.pad("Sender { .. }")
+    }
+}
+
+impl fmt::Debug for Receiver {
+    fn fmt(&self, f: &mut fmt::Formatter<'_>) -> fmt::Result {
+        f.pad("Receiver { .. }")
+    }
 }
 
 /// A queue with so many nodes, from 2 on, and so many seats that push and that pop. There is room for one value less than
@@ -322,5 +352,33 @@ impl Receiver {
     /// also `Busy`, where others were in the way of that last look.
     pub fn recv_timeout(&mut self, time: Duration) -> Result<Option<Value>, Refusal> {
         self.seat.recv(bells::after(time))
+    }
+}
+
+#[cfg(test)]
+mod tests {
+    use super::{answer, raw, Refusal, WornWord};
+
+    // A worn count of a node comes to a seat alone that pushes and pops, which the seats of this crate that have a limit don't.
+    #[test]
+    fn each_code_has_its_answer() {
+        let refusals = [
+            (raw::NO_NODE, Refusal::NoNode),
+            (raw::WORN_FREE, Refusal::WornOut(WornWord::Free)),
+            (raw::WORN_NEXT, Refusal::WornOut(WornWord::Next)),
+            (raw::WORN_TAIL, Refusal::WornOut(WornWord::Tail)),
+            (raw::WORN_HEAD, Refusal::WornOut(WornWord::Head)),
+            (raw::BUSY, Refusal::Busy),
+            (raw::MEMORY, Refusal::Memory),
+            (raw::BAD_SIZE, Refusal::BadSize),
+            (raw::CLOSED, Refusal::Closed),
+        ];
+        assert_eq!(answer(raw::OK), Ok(()));
+        for (code, refusal) in refusals {
+            assert_eq!(answer(code), Err(refusal));
+            assert!(refusals.iter().all(|(_, other)| {
+                *other == refusal || other.to_string() != refusal.to_string()
+            }));
+        }
     }
 }

@@ -111,6 +111,13 @@ fn a_queue_answers() {
             (closed.refusal, closed.value.as_str()),
             (Refusal::Closed, "late")
         );
+        let closed = queue.push("late".to_string()).unwrap_err();
+        assert_eq!(closed.refusal, Refusal::Closed);
+        let closed = queue.push_timeout("late".to_string(), SHORT).unwrap_err();
+        assert_eq!(
+            (closed.refusal, closed.value.as_str()),
+            (Refusal::Closed, "late")
+        );
         while queue.pop_timeout(SHORT) == Ok(Some("more".to_string())) {}
         assert_eq!(queue.pop(), Err(Refusal::Closed));
         assert_eq!(queue.pop_timeout(SHORT), Err(Refusal::Closed));
@@ -153,6 +160,10 @@ fn a_channel_answers() {
         receiver.recv_timeout(SHORT),
         Err(RecvTimeoutError::Disconnected)
     );
+    assert_eq!(
+        receiver.recv_deadline(Instant::now()),
+        Err(RecvTimeoutError::Disconnected)
+    );
     assert_eq!(receiver.recv(), Err(RecvError));
     assert_eq!(receiver.into_iter().next(), None);
 }
@@ -169,6 +180,10 @@ fn with_the_last_receiver_sends_end() {
     assert_eq!(sender.try_send(2), Err(TrySendError::Disconnected(2)));
     assert_eq!(
         sender.send_timeout(2, SHORT),
+        Err(SendTimeoutError::Disconnected(2))
+    );
+    assert_eq!(
+        sender.send_deadline(2, Instant::now()),
         Err(SendTimeoutError::Disconnected(2))
     );
     assert_eq!(format!("{sender:?}"), "Sender { .. }");

@@ -1,0 +1,139 @@
+//! What calls answer where others are in the way: another thread pushes and pops, and a signal stops it within a call.
+use msq::{Body, Emptiness, Kind, Queue, Refusal};
+use std::ffi::{c_int, c_ulong};
+use std::sync::atomic::Ordering::SeqCst;
+use std::sync::atomic::{AtomicBool, AtomicU64};
+use std::thread;
+use std::time::Duration;
+
+const SIGUSR1: c_int = 10;
+const SOON: Duration = Duration::from_nanos(1);
+const TURNS: u32 = 8;
+
+extern "C" {
+    fn signal(number: c_int, handler: extern "C" fn(c_int)) -> usize;
+    fn pthread_self() -> c_ulong;
+    fn pthread_kill(thread: c_ulong, number: c_int) -> c_int;
+}
+
+static STOPS: AtomicBool = AtomicBool::new(false);
+static RESTS: AtomicBool = AtomicBool::new(false);
+
+/// Stops the thread where it is, until it is let go.
+extern "C" fn stop_here(_: c_int) {
+    RESTS.store(true, SeqCst);
+    while STOPS.load(SeqCst) {
+        thread::yield_now();
+    }
+    RESTS.store(false, SeqCst);
+}
+
+fn wait_until(holds: impl Fn() -> bool) {
+    while !holds() {
+        thread::yield_now();
+    }
+}
+
+/// A thread does something over and over, which takes no memory, and is stopped in between for a look, until that finds what it looks
+/// for.
+fn stop_within(mut act: impl FnMut() + Send, mut look: impl FnMut() -> bool) {
+    let (over, id) = (AtomicBool::new(false), AtomicU64::new(0));
+    thread::scope(|scope| {
+        scope.spawn(|| {
+            // SAFETY: it only tells which thread this is.
+            id.store(unsafe { pthread_self() }, SeqCst);
+            while !over.load(SeqCst) {
+                act();
+            }
+        });
+        wait_until(|| id.load(SeqCst) != 0);
+        let found = (0..1_000_000).any(|_| {
+            STOPS.store(true, SeqCst);
+            // SAFETY: the thread runs until it is told that it is over.
+            unsafe { pthread_kill(id.load(SeqCst), SIGUSR1) };
+            wait_until(|| RESTS.load(SeqCst));
+            let found = look();
+            STOPS.store(false, SeqCst);
+            wait_until(|| !RESTS.load(SeqCst));
+            found
+        });
+        over.store(true, SeqCst);
+        assert!(found, "no stop within a call");
+    });
+}
+
+/// A thread stopped with the lock of Tail, and one with that of Head: who needs it finds the queue busy.
+fn locks_are_held() {
+    let busy = Err(Refusal::Busy);
+    let (mut senders, mut receivers) = msq::queue(Kind::TwoLock, 16, 2, 2).unwrap();
+    let (mut giver, mut taker) = (senders.remove(1), receivers.remove(1));
+    let (sender, receiver) = (&mut senders[0], &mut receivers[0]);
+    let mut act = move || {
+        let _ = giver.try_push(Body::from(7), TURNS);
+        let _ = taker.try_pop(TURNS);
+    };
+    stop_within(&mut act, || {
+        let told = sender.try_push(Body::from(7), TURNS);
+        if told == busy {
+            assert_eq!(sender.send_timeout(Body::from(7), SOON), busy);
+            assert_eq!(sender.try_push_all(&[Body::from(7)], TURNS), (0, busy));
+        } else if told.is_ok() {
+            let _ = receiver.try_pop(TURNS);
+        }
+        told == busy
+    });
+    stop_within(act, || {
+        let told = receiver.try_pop(TURNS);
+        if told == Err(Refusal::Busy) {
+            assert_eq!(receiver.recv_timeout(SOON), Err(Refusal::Busy));
+            assert_eq!(receiver.try_pop_up_to(1, TURNS), (vec![], busy));
+        }
+        told == Err(Refusal::Busy)
+    });
+}
+
+/// The same of a queue of values.
+fn locks_of_values_are_held() {
+    let queue = Queue::of(Kind::TwoLock, 16, 4).unwrap();
+    let act = || {
+        let _ = queue.push(7);
+        let _ = queue.pop();
+    };
+    stop_within(act, || {
+        let told = queue.push_timeout(7, SOON).map_err(|it| it.refusal);
+        if told.is_ok() {
+            let _ = queue.pop_timeout(SOON);
+        }
+        told == Err(Refusal::Busy)
+    });
+    stop_within(act, || queue.pop_timeout(SOON) == Err(Refusal::Busy));
+}
+
+/// A thread stopped before it has filled the place at the front of a ring, which is then shut: whether it holds a value isn't known.
+fn a_place_is_claimed() {
+    let (mut senders, mut receivers) = msq::queue(Kind::Ring, 16, 2, 2).unwrap();
+    let (mut giver, mut taker) = (senders.remove(1), receivers.remove(1));
+    let (sender, receiver) = (&mut senders[0], &mut receivers[0]);
+    let act = move || {
+        let _ = giver.try_push(Body::from(7), TURNS);
+        let _ = taker.try_pop(TURNS);
+    };
+    stop_within(act, || {
+        let claimed = receiver.try_pop(TURNS) == Err(Refusal::Busy);
+        if claimed {
+            assert_eq!(sender.try_shut(TURNS), Ok(()));
+            assert_eq!(receiver.emptiness(), Emptiness::Moved);
+        }
+        claimed
+    });
+}
+
+// (one test, since a signal stops one thread)
+#[test]
+fn calls_are_busy_beside_a_stopped_thread() {
+    // SAFETY: the handler calls nothing that may not be called there.
+    unsafe { signal(SIGUSR1, stop_here) };
+    locks_are_held();
+    locks_of_values_are_held();
+    a_place_is_claimed();
+}
