@@ -1,5 +1,5 @@
 //! The ring of the crate `ring_queue`, written plainly.
-use crate::seats::{End, ROOM};
+use crate::seats::End;
 use std::hint::{black_box, spin_loop};
 use std::sync::atomic::AtomicU64;
 use std::sync::atomic::Ordering::SeqCst;
@@ -42,8 +42,8 @@ pub struct RingSeat<'a> {
 }
 
 impl Ring {
-    pub fn measured(seats: usize) -> Ring {
-        let (most, seats) = (black_box(ROOM as u64), seats as u64);
+    pub fn measured(seats: usize, room: usize) -> Ring {
+        let (most, seats) = (black_box(room as u64), seats as u64);
         let slots = (most + CREDITS * seats).next_power_of_two();
         let words: Vec<_> = (0..SLOTS + 2 * slots as usize).map(|_| AtomicU64::new(0)).collect();
         words[TAIL].store(slots, SeqCst);
@@ -56,7 +56,13 @@ impl Ring {
     }
 
     pub fn seats(&self) -> impl Iterator<Item = RingSeat<'_>> {
-        (1..=self.seats).map(|number| RingSeat { ring: self, number, head: self.slots, credits: 0, turns: black_box(TURNS) })
+        (1..=self.seats).map(|number| RingSeat {
+            ring: self,
+            number,
+            head: self.slots,
+            credits: 0,
+            turns: black_box(TURNS),
+        })
     }
 
     fn slot(&self, place: u64) -> &AtomicU64 {
@@ -67,19 +73,34 @@ impl Ring {
         if place & self.slots == 0 { 0 } else { 1 }
     }
 
+    fn fill(&self, place: u64, payload: u64) {
+        self.slot(place).store(self.parity(place) * PARITY + payload, SeqCst);
+    }
+
     fn put(&self, seat: &mut RingSeat, body: u64) -> Result<(), Refusal> {
         let tail = self.words[TAIL].fetch_add(1, SeqCst);
         seat.credits -= 1;
-        let (place, payload) = if tail < SHUT { (tail, (seat.number << 48) + body) } else { (tail - SHUT, 0) };
-        self.slot(place).store(self.parity(place) * PARITY + payload, SeqCst);
-        if tail < SHUT { Ok(()) } else { Err(Refusal::Closed) }
+        if tail < SHUT {
+            self.fill(tail, (seat.number << 48) + body);
+            Ok(())
+        } else {
+            self.fill(tail - SHUT, 0);
+            Err(Refusal::Closed)
+        }
     }
 
     #[inline(always)]
     pub fn push(&self, seat: &mut RingSeat, body: u64) -> Result<(), Refusal> {
-        if seat.credits > 0 {
-            return self.put(seat, body);
+        if seat.credits == 0 {
+            self.reserves(seat)?;
         }
+        self.put(seat, body)
+    }
+
+    /// Fills the reserve of a seat that has no place.
+    #[cold]
+    #[inline(never)]
+    fn reserves(&self, seat: &mut RingSeat) -> Result<(), Refusal> {
         for _ in 0..seat.turns {
             let tail = self.words[TAIL].load(SeqCst);
             if tail >= SHUT {
@@ -88,7 +109,7 @@ impl Ring {
                 return Err(Refusal::Worn);
             } else if tail < seat.head + self.most {
                 seat.credits = self.credits;
-                return self.put(seat, body);
+                return Ok(());
             }
             seat.head = self.words[HEAD].load(SeqCst);
             if self.most <= tail.saturating_sub(seat.head) {
@@ -104,10 +125,14 @@ impl Ring {
     }
 
     fn front_twice(&self, seat: &RingSeat) -> Option<u64> {
-        self.front(seat).or_else(|| {
-            (0..PAUSES).for_each(|_| spin_loop());
-            self.front(seat)
-        })
+        self.front(seat).or_else(|| self.late_front(seat))
+    }
+
+    #[cold]
+    #[inline(never)]
+    fn late_front(&self, seat: &RingSeat) -> Option<u64> {
+        (0..PAUSES).for_each(|_| spin_loop());
+        self.front(seat)
     }
 
     #[inline(always)]

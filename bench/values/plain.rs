@@ -18,7 +18,7 @@ mod values;
 #[path = "../queues/works.rs"]
 mod works;
 
-use arena::{Algorithm, Apart, NODES};
+use arena::{Algorithm, Apart};
 use nonblocking::NonBlocking;
 use ring::Ring;
 use runs::total;
@@ -34,7 +34,7 @@ fn numbers<Q: Algorithm + Sync>(queue: Q, keeps: bool, kind: &Kind, count: u64) 
 }
 
 fn seated<T: Value, Q: Algorithm + Sync>(queue: Q, keeps: bool, kind: &Kind, count: u64) -> u128 {
-    let values = Values::<Q, T>::new(queue, NODES);
+    let values = Values::<Q, T>::new(queue, ROOM as u64 + 1);
     total((0..kind.works.len()).map(|number| values.handle(number, keeps)).collect(), kind, count)
 }
 
@@ -52,8 +52,8 @@ where
 
 fn of_type<T: Value>(queue: &str, keeps: bool, kind: &Kind, count: u64) -> u128 {
     match queue {
-        "non-blocking" => seated::<T, _>(NonBlocking::<Apart>::measured(), keeps, kind, count),
-        "two-lock" => seated::<T, _>(TwoLock::<Apart>::measured(), keeps, kind, count),
+        "non-blocking" => seated::<T, _>(NonBlocking::<Apart>::measured(ROOM), keeps, kind, count),
+        "two-lock" => seated::<T, _>(TwoLock::<Apart>::measured(ROOM), keeps, kind, count),
         "ring" => total(RingValues::<T>::measured(4).handles().into_iter().take(kind.works.len()).collect(), kind, count),
         "mutex" => {
             let deque = Deque::<T>(Mutex::new(VecDeque::with_capacity(ROOM)));
@@ -85,9 +85,9 @@ fn main() {
     let kind = KINDS.iter().find(|its| its.name == kind).expect("a kind of work");
     let count = count.parse().expect("a count");
     let time = match (name, queue) {
-        ("numbers", "ring") => total(Ring::measured(4).seats().take(kind.works.len()).collect(), kind, count),
-        ("numbers", "two-lock") => numbers(TwoLock::<Apart>::measured(), keeps, kind, count),
-        ("numbers", _) => numbers(NonBlocking::<Apart>::measured(), keeps, kind, count),
+        ("numbers", "ring") => total(Ring::measured(4, ROOM).seats().take(kind.works.len()).collect(), kind, count),
+        ("numbers", "two-lock") => numbers(TwoLock::<Apart>::measured(ROOM), keeps, kind, count),
+        ("numbers", _) => numbers(NonBlocking::<Apart>::measured(ROOM), keeps, kind, count),
         ("word", _) => of_type::<u64>(queue, keeps, kind, count),
         _ => of_type::<[u64; 3]>(queue, keeps, kind, count),
     };

@@ -134,7 +134,7 @@ pub struct RingHandle<'a, T> {
 
 impl<T> RingValues<T> {
     pub fn measured(seats: usize) -> RingValues<T> {
-        let ring = Ring::measured(seats);
+        let ring = Ring::measured(seats, ROOM);
         let flags = (0..ring.slots()).map(|_| AtomicU64::new(0)).collect();
         let slots = (0..ring.slots()).map(|_| UnsafeCell::new(None)).collect();
         RingValues { ring, flags, slots }

@@ -27,6 +27,9 @@ const LONG: Sizes = Sizes {
     reserve: 32,
 };
 
+/// The dummy and nodes for what four bursts push, and more.
+const BURST_NODES: u32 = 513;
+
 /// How often each of the four threads pushes and pops in the short runs, where refusals are ordinary.
 const FEW_PAIRS: u32 = 100;
 
@@ -38,7 +41,8 @@ const SHUTS: u32 = 100;
 
 /// The words that the program understands.
 const USAGE: &str = "queue_stress [two-lock|non-blocking|ring [shut COUNT | \
-    [kept] one|four|pair|strict|taker|giver|two COUNT | [kept] run NODES LIMIT PAIRS]]";
+    [kept] one|four|pair|strict|taker|giver|two|three|one-three|four-burst COUNT | \
+    [kept] run NODES LIMIT PAIRS]]";
 
 // The works of a kind, by its name.
 fn works_of(name: &str) -> Works {
@@ -53,6 +57,24 @@ fn works_of(name: &str) -> Works {
             Some(Work::Pops),
             Some(Work::Pushes),
             Some(Work::Pops),
+        ),
+        "three" => (
+            Some(Work::Pushes),
+            Some(Work::Pushes),
+            Some(Work::Pushes),
+            Some(Work::ThreePops),
+        ),
+        "one-three" => (
+            Some(Work::ThreePushes),
+            Some(Work::Pops),
+            Some(Work::Pops),
+            Some(Work::Pops),
+        ),
+        "four-burst" => (
+            Some(Work::Bursts),
+            Some(Work::Bursts),
+            Some(Work::Bursts),
+            Some(Work::Bursts),
         ),
         _ => (
             Some(Work::Pairs),
@@ -199,7 +221,12 @@ fn main(rt: HostRuntime) -> io::Result<()> {
             return println!(rt; "{right} of {rounds} right");
         }
         let pairs = count.as_str().parse().unwrap_or(LONG.pairs);
+        let nodes = match kind.as_str() {
+            "four-burst" => BURST_NODES,
+            _ => LONG.nodes,
+        };
         let sizes = Sizes {
+            nodes,
             pairs,
             keeps,
             ..LONG

@@ -11,6 +11,9 @@ use std::thread::{Threads, join};
 /// How many turns a call takes before it lets others go on.
 const TURNS: u32 = 8;
 
+/// How many bodies a burst has.
+const BURST: u32 = 100;
+
 /// What a thread does, so many times.
 #[derive(Clone, Copy, Debug)]
 pub enum Work {
@@ -20,8 +23,24 @@ pub enum Work {
     Pushes,
     /// Pops a body.
     Pops,
+    /// Pushes three bodies, one by one.
+    ThreePushes,
+    /// Pops three bodies, one by one.
+    ThreePops,
+    /// Pushes as many bodies as a burst has, one by one, and then pops as many.
+    Bursts,
     /// Pushes a body and pops one, each within two turns; where one doesn't, the thread never ends.
     Strict,
+}
+
+impl Work {
+    // Of how many of the same the work is made up.
+    fn times(self) -> u32 {
+        match self {
+            Work::ThreePushes | Work::ThreePops => 3,
+            _ => 1,
+        }
+    }
 }
 
 /// What four threads do; two or three of them may do nothing.
@@ -65,6 +84,19 @@ fn pop<R: Wait, Q: Fifo>(rt: &R, queue: &Q, seat: &mut Q::Seat)
     }
 }
 
+// Pushes the bodies of a burst, and then pops as many.
+fn burst<R: Wait, Q: Fifo>(rt: &R, queue: &Q, seat: &mut Q::Seat, body: Body)
+    requires { MayCall Q.is_seat Q.permits Q.known queue.now seat.old }
+    ensures { MayCall Q.is_seat Q.permits Q.known queue.now seat.new }
+{
+    for _ in 0..BURST {
+        push(rt, queue, seat, body);
+    }
+    for _ in 0..BURST {
+        pop(rt, queue, seat);
+    }
+}
+
 // Pushes a body and pops one, each within two turns; it never ends where one doesn't.
 fn strict_pair<R: Wait, Q: Fifo>(rt: &R, queue: &Q, seat: &mut Q::Seat, body: Body)
     requires { MayCall Q.is_seat Q.permits Q.known queue.now seat.old }
@@ -85,14 +117,15 @@ fn toils<R: Wait, Q: Fifo>(rt: &R, queue: &Q, mut seat: Q::Seat, work: Option<Wo
     let (Some(work), Some(body)) = (work, Body::new(1)) else {
         return;
     };
-    for _ in 0..count {
+    for _ in 0..count.saturating_mul(work.times()) {
         match work {
             Work::Pairs => {
                 push(rt, queue, &mut seat, body);
                 pop(rt, queue, &mut seat);
             }
-            Work::Pushes => push(rt, queue, &mut seat, body),
-            Work::Pops => pop(rt, queue, &mut seat),
+            Work::Pushes | Work::ThreePushes => push(rt, queue, &mut seat, body),
+            Work::Pops | Work::ThreePops => pop(rt, queue, &mut seat),
+            Work::Bursts => burst(rt, queue, &mut seat, body),
             Work::Strict => strict_pair(rt, queue, &mut seat, body),
         }
     }
