@@ -44,7 +44,7 @@ module _ {C A S : Type 0} {carrier : Ghosts C A S} (prop : (q : C) (s : S) → I
       (All-cons is (office_seat o) [] own (All-nil is))
 
 -- the seats of senders, then those of receivers and then that of the office, put in a list that was empty
-pub seats_put : {C A S : Type 0} {carrier : Ghosts C A S} (o : PostOffice C A S carrier) (ss : List (Sender C A S carrier)) (rs : List (Receiver C A S carrier)) (none some more all : List S)
+pub seats_put : {C A S : Type 0} {carrier : Ghosts C A S} (o : PostOffice C A S carrier) (ss : List (Sender C A S carrier)) (rs : List (Receiver C A S carrier)) {none some more all : List S}
     → none ≡ [] → some ≡ none ++ map sender_seat ss → more ≡ some ++ map receiver_seat rs → all ≡ more ++ office_seat o ∷ [] → all ≡ seats_of o ss rs
-seats_put o ss rs none some more all a b c d =
+seats_put o ss rs a b c d =
     d ∙ ap (λ l. l ++ office_seat o ∷ []) (c ∙ ap (λ l. l ++ map receiver_seat rs) (b ∙ ap (λ l. l ++ map sender_seat ss) a))

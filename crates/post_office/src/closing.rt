@@ -86,13 +86,14 @@ impl<C: CloseCarrier + Drop> PostOffice<C> {
         requires receivers { All (λ h. receiver_queue h ≡ office_queue self) receivers.items }
         requires asked { C.asks (office_queue self)
             (known_by self senders.items receivers.items) }
-        //= offices/close (rest, ends): What is left of an office that is closed with some senders and receivers is what the
-        //=   close of its queue says of their seats and the office's own. Which of them an end asks for the queue names.
+        //= offices/close (rest, ends): What is left of an office that is closed with some senders and receivers is
+        //=   what the close of its queue says of their seats and the office's own. The queue names which of them an
+        //=   end asks for.
         ensures rest { IfOk result (λ r. ClosesOf (C.permits (office_queue self))
             (known_by self senders.items receivers.items) r.0) }
         ensures ends { IfOk result (λ r. C.ends (office_queue self) r.1 r.0) }
-        //= offices/in_order: Of a closed office: what each sender handed in sent is what was taken of it, and then what is left
-        //=   of it, in order; and what each receiver handed in took of it is a subsequence of what all took.
+        //= offices/in_order: Of a closed office: what each sender handed in sent is some letters and then what is
+        //=   left of it, in order; and what each receiver handed in took of it is a subsequence of these letters.
         ensures in_order { IfOk result (λ r. All
             (λ giver. DeliversOf giver (known_by self senders.items receivers.items) (left_in r.0))
             (known_by self senders.items receivers.items)) }

@@ -4,6 +4,7 @@
 mod closing;
 mod offices;
 mod opening;
+mod rings;
 
 pub use closing::Unended;
 pub use offices::{Desks, PostOffice};

@@ -1,4 +1,4 @@
-//! An office over a new queue.
+//! An office over a new queue of nodes.
 ghost use Rattle.std.specs.Prelude.{◌≡◌, ◌⊎◌, ◌+◌, ◌++◌, ◌∷◌, [], ◌<◌, ◌≤◌, ℕ, length, map, max, min, IfErr, IfOk};
 ghost use Rattle.history.specs.Seats.{MayPop};
 ghost use Rattle.node_arena.specs.Making.{NewRefused};
@@ -7,7 +7,7 @@ ghost use Rattle.value_queue.specs.Telling.{known_by};
 ghost use Rattle.picked_values.specs.Queues.{permits_of};
 ghost use Rattle.picked_values.specs.Splits.{picked_plan};
 ghost use Rattle.post_office.specs.Offices.{office_queue, AreOf};
-ghost use Rattle.post_office.specs.Roles.{office_roles, newcomers};
+ghost use Rattle.post_office.specs.Roles.{roles_of, office_roles, newcomers};
 
 use crate::offices::{Desks, PostOffice};
 use channels::{Receiver, Sender};
@@ -26,24 +26,30 @@ pub type Opened<T> = (
     Vec<Receiver<ValueQueue<T>>>,
 );
 
-// The roles of so many senders and receivers, and of the seats that only shut.
-fn roles_for(alloc: Global, senders: usize, receivers: usize) -> Result<Vec<Role>, Refusal>
-    ensures roles { IfOk result (λ roles. roles.items ≡ office_roles senders receivers) }
+/// The roles of so many senders and receivers, and of the seats that only shut.
+pub(crate) fn roles_for<R: Copy + Drop>(
+    alloc: Global,
+    giver: R,
+    taker: R,
+    senders: usize,
+    receivers: usize,
+) -> Result<Vec<R>, Refusal>
+    ensures roles { IfOk result (λ roles. roles.items ≡ roles_of giver taker senders receivers) }
     ensures only_memory { IfErr result (λ refusal. refusal ≡ Refusal.Memory) }
 {
     let mut roles = Vec::new(alloc);
     for _ in 0..senders {
-        if roles.push(Role::Giver).is_err() {
+        if roles.push(giver).is_err() {
             return Err(Refusal::Memory);
         }
     }
     for _ in 0..receivers {
-        if roles.push(Role::Taker).is_err() {
+        if roles.push(taker).is_err() {
             return Err(Refusal::Memory);
         }
     }
     for _ in 0..3usize {
-        if roles.push(Role::Giver).is_err() {
+        if roles.push(giver).is_err() {
             return Err(Refusal::Memory);
         }
     }
@@ -58,8 +64,8 @@ fn nodes_for(places: u32, handles: u32) -> u32
     places.saturating_add(handles).saturating_add(1).max(2)
 }
 
-// The seats of a new queue, by what they are for.
-fn desks_for<S: Drop>(mut seats: Vec<S>, senders: usize) -> Result<Desks<S>, Refusal>
+/// The seats of a new queue, by what they are for.
+pub(crate) fn desks_for<S: Drop>(mut seats: Vec<S>, senders: usize) -> Result<Desks<S>, Refusal>
     requires { senders + 3 ≤ length seats.items }
     ensures desks { IfOk result (λ d. seats.items ≡ d.senders.items ++ (d.receivers.items
         ++ d.office ∷ d.last_sender ∷ d.last_receiver ∷ [])) }
@@ -103,9 +109,10 @@ impl<T: Send + Drop> PostOffice<ValueQueue<T>> {
         senders: usize,
         receivers: usize,
     ) -> Result<Opened<T>, Refusal>
-        //= offices/open (queue, senders, receivers, takers, refused): An office opened over a new queue has as many senders and
-        //=   receivers as were asked for, numbered from 1 on, which have done nothing; no other seat may pop. It is refused
-        //=   by `Memory`, or as a new queue of so many nodes and seats is.
+        //= offices/open (queue, senders, receivers, takers, refused): An office opened over a new queue has as many
+        //=   senders and receivers as were asked for, numbered from 1 on, which have done nothing; no other seat may
+        //=   pop. It is refused by `Memory`, or as a new queue of values is of a node for each place, each handle and
+        //=   one more. That it has so many places, no clause says.
         ensures queue { IfOk result (λ r. AreOf (office_queue r.0) r.0 r.1.items r.2.items) }
         ensures senders { IfOk result
             (λ r. map (λ h. known_by (sender_seat h)) r.1.items ≡ newcomers 1 senders) }
@@ -120,7 +127,7 @@ impl<T: Send + Drop> PostOffice<ValueQueue<T>> {
         if senders.saturating_add(receivers) > MOST_HANDLES {
             return Err(Refusal::BadSize);
         }
-        let roles = roles_for(alloc, senders, receivers)?;
+        let roles = roles_for(alloc, Role::Giver, Role::Taker, senders, receivers)?;
         let nodes = nodes_for(places, (senders + receivers) as u32);
         let (queue, seats) = ValueQueue::<T>::new(alloc, nodes, &roles)?;
         let desks = desks_for(seats, senders)?;

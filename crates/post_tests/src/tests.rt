@@ -1,4 +1,5 @@
 mod closing;
 mod common;
 mod ends;
+mod rings;
 mod threads;

@@ -1,8 +1,10 @@
 //! Several senders and receivers in threads, whose handles come back.
-use super::common::Texts;
+use super::common::{Texts, both};
+use carriers::Carrier;
 use channels::{Receiver, Sender};
 use history::Refusal;
 use post_office::PostOffice;
+use ring_values::RingValues;
 use std::alloc::Global;
 use std::process::Abort;
 use std::sync::Wait;
@@ -22,7 +24,11 @@ struct Came {
 }
 
 // Sends the texts of the numbers below so many; the sender comes back.
-fn sends<R: Wait>(rt: &R, alloc: Global, mut sender: Sender<Texts>) -> Sender<Texts> {
+fn sends<R: Wait, C: Carrier<Item = String> + Drop>(
+    rt: &R,
+    alloc: Global,
+    mut sender: Sender<C>,
+) -> Sender<C> {
     for number in 0..EACH {
         let Ok(text) = format!(in alloc; "{number}") else {
             return sender;
@@ -35,7 +41,10 @@ fn sends<R: Wait>(rt: &R, alloc: Global, mut sender: Sender<Texts>) -> Sender<Te
 }
 
 // Receives letters until the end; the receiver comes back.
-fn receives<R: Wait>(rt: &R, mut receiver: Receiver<Texts>) -> (Receiver<Texts>, Came) {
+fn receives<R: Wait, C: Carrier<Item = String> + Drop>(
+    rt: &R,
+    mut receiver: Receiver<C>,
+) -> (Receiver<C>, Came) {
     let mut came = Came {
         count: 0,
         sum: 0,
@@ -58,13 +67,21 @@ fn receives<R: Wait>(rt: &R, mut receiver: Receiver<Texts>) -> (Receiver<Texts>,
     (receiver, came)
 }
 
-// The office of so many places, two senders and two receivers: what came, and whether the rest is whole and empty.
-fn posted<R: Threads + Wait + Sync>(
+/// An office whose letters have come, with its handles: the senders, and the receivers.
+type Over<C> = (
+    PostOffice<C>,
+    (Sender<C>, Sender<C>),
+    (Receiver<C>, Receiver<C>),
+);
+
+// What comes through this office of two senders and two receivers; it is shut behind the last letter.
+fn passed<R: Threads + Wait + Sync, C: Carrier<Item = String> + Send + Sync + Drop>(
     rt: &R,
     alloc: Global,
-    places: u32,
-) -> Result<(Came, bool), Refusal> {
-    let (mut office, mut senders, mut receivers) = PostOffice::<Texts>::open(alloc, places, 2, 2)?;
+    mut office: PostOffice<C>,
+    mut senders: Vec<Sender<C>>,
+    mut receivers: Vec<Receiver<C>>,
+) -> Result<(Came, Over<C>), Refusal> {
     let (Some(a), Some(b), Some(c), Some(d)) = (
         senders.pop(),
         senders.pop(),
@@ -82,16 +99,23 @@ fn posted<R: Threads + Wait + Sync>(
         },
         || join(rt, || receives(rt, c), || receives(rt, d)),
     );
-    senders.push(a).map_err(|_| Refusal::Memory)?;
-    senders.push(b).map_err(|_| Refusal::Memory)?;
-    receivers.push(c).map_err(|_| Refusal::Memory)?;
-    receivers.push(d).map_err(|_| Refusal::Memory)?;
     let came = Came {
         count: one.count.wrapping_add(other.count),
         sum: one.sum.wrapping_add(other.sum),
         disordered: one.disordered.wrapping_add(other.disordered),
     };
-    match office.close(alloc, senders, receivers) {
+    Ok((came, (office, (a, b), (c, d))))
+}
+
+// The office of so many places, two senders and two receivers: what came, and whether the rest is whole and empty.
+fn posted<R: Threads + Wait + Sync>(
+    rt: &R,
+    alloc: Global,
+    places: u32,
+) -> Result<(Came, bool), Refusal> {
+    let (office, senders, receivers) = PostOffice::<Texts>::open(alloc, places, 2, 2)?;
+    let (came, (office, (a, b), (c, d))) = passed(rt, alloc, office, senders, receivers)?;
+    match office.close(alloc, both(alloc, a, b)?, both(alloc, c, d)?) {
         Ok((mut rest, _end)) => {
             let whole = rest.whole() && rest.was_shut() && rest.taken() == came.count;
             Ok((came, whole && rest.next().is_none()))
@@ -100,18 +124,20 @@ fn posted<R: Threads + Wait + Sync>(
     }
 }
 
+// All letters that two senders send.
+const ALL: Came = Came {
+    count: 2 * EACH,
+    sum: EACH * (EACH - 1),
+    disordered: 0,
+};
+
 fn goes<R: Abort + Threads + Wait + Clock + Sync>(
     rt: &R,
     alloc: Global,
     places: u32,
 ) -> Result<(), Fail> {
     let (came, whole) = posted(rt, alloc, places)?;
-    let due = Came {
-        count: 2 * EACH,
-        sum: EACH * (EACH - 1),
-        disordered: 0,
-    };
-    assert_eq!(rt; came, due);
+    assert_eq!(rt; came, ALL);
     assert!(rt; whole);
     Ok(())
 }
@@ -121,4 +147,17 @@ fn each_letter_comes_once_and_none_is_missing(rt: HostRuntime) -> Result<(), Fai
     goes(&rt, rt.alloc(), 1)?;
     goes(&rt, rt.alloc(), 64)?;
     goes(&rt, rt.alloc(), 10_000)
+}
+
+#[test]
+fn each_letter_comes_once_over_a_ring(rt: HostRuntime) -> Result<(), Fail> {
+    let alloc = rt.alloc();
+    for places in [1, 64, 10_000] {
+        let (office, senders, receivers) = PostOffice::<RingValues<String>>::open_ring(
+            alloc, places, 2, 2,
+        )?;
+        let (came, _over) = passed(&rt, alloc, office, senders, receivers)?;
+        assert_eq!(rt; came, ALL);
+    }
+    Ok(())
 }

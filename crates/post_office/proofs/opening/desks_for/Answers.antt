@@ -1,6 +1,4 @@
 -- Three seats are taken from the end, and the rest is split.
-use Rattle.std.proofs.Common.{◌≡◌, ◌∙◌, ap, sym, ◌++◌, ◌∷◌, [], take, drop, append_assoc}
-use Rattle.std.specs.Prelude.{option_to_list}
 use Rattle.post_office.proofs.Ends.{taken_apart}
 use Rattle.post_office.proofs.opening.desks_for.Goals as goal
 
