@@ -5,4 +5,5 @@ pub mod Order
 pub mod Openings
 pub mod Delivering
 pub mod Telling
+pub mod Unsent
 pub mod Stopping

@@ -1,22 +1,26 @@
 -- The first sender that was refused is told.
 use Rattle.std.proofs.Common.{◌≡◌, ◌≢◌, ◌<◌, refl, ap, sym, subst, inl, inr, ℕ, List, [], ◌∷◌, ◌++◌, length, Some}
-use Rattle.std.specs.Prelude.{Option, None, true, false, is_some, unwrap_or}
-use Rattle.std.specs.List.{AllZip}
+use Rattle.std.specs.Prelude.{Option, None, true, false, is_some, unwrap_or, IfSome}
+use Rattle.std.specs.List.{All, AllZip}
+use Rattle.std.proofs.lemmas.List.Elements.{All-nil, All-cons}
 use Rattle.std.proofs.lemmas.Bool.{true≢false, false≢true}
 use Rattle.std.proofs.lemmas.Option.{none-some}
 use Rattle.history.specs.declared.refusals.Refusal.{Refusal}
-use Rattle.history.specs.declared.refusals.Refusal.TheVariants.{Memory, Closed, Lost}
-use Rattle.history.specs.Seats.{Known}
-use Rattle.history.specs.Answers.{EndsPop}
+use Rattle.history.specs.declared.refusals.Refusal.TheVariants.{Closed, Lost}
+use Rattle.history.specs.Seats.{Permit, Known}
 use Rattle.mailbox.specs.declared.office.Office.{Office}
 use Rattle.mailbox.specs.declared.receiver.Letter.{Letter}
 use Rattle.mailbox.specs.declared.receiver.Receiver.{Receiver}
+use Rattle.mailbox.specs.declared.sender.Sender.{Sender}
 use Rattle.mailbox.specs.declared.posting.Task.{Task}
 use Rattle.mailbox.specs.declared.posting.Started.{Started}
 use Rattle.mailbox.specs.declared.posting.Started.TheVariants.{Running, Unstarted}
 use Rattle.mailbox.specs.Posting.{letters_of}
+use Rattle.mailbox.specs.Refusals.{EndsPost}
+use Rattle.mailbox.specs.Offices.{IsSender}
 use Rattle.mailbox.specs.Causes.{IsTold, FirstIsTold, HasEnded, EndsSo, TookAllThere, AreMissing}
-use Rattle.mailbox.specs.Threads.{IsStartedFor, Ends, TellFirst}
+use Rattle.mailbox.specs.Endings.{IsLeftShut, HaveEnded}
+use Rattle.mailbox.specs.Threads.{IsStartedFor, IsOfOffice, ComesBack, Ends, TellFirst}
 
 some_or : Refusal → Option Refusal → Refusal
 some_or r None = r
@@ -27,10 +31,6 @@ pub told_of : (end told : Option Refusal) → (end ≡ Some Closed → told ≡ 
 unfolding some_or
 told_of None told shut same = same (λ e. none-some Closed e)
 told_of (Some r) told shut same = ((λ e. shut (ap Some e)), λ other. same (λ e. other (ap (some_or r) e)))
-
--- that there is no memory is told as it is
-pub told_memory : FirstIsTold (Some Memory ∷ []) (Some Memory)
-told_memory = (λ shut. absurd (subst EndsPop (sym shut) tt), λ other. refl)
 
 -- a refusal is told
 not_silent : (r : Refusal) → IsTold r None → ⊥
@@ -47,6 +47,11 @@ first_some : (xs ys : List (Option Refusal)) (r : Refusal) → FirstIsTold xs (S
 first_some [] ys r h = absurd (none-some r (sym h))
 first_some (None ∷ xs) ys r h = first_some xs ys r h
 first_some (Some q ∷ xs) ys r h = h
+
+-- what is told, or that letters are lost, may be told of a post
+pub told_or_lost : (told : Option Refusal) → IfSome told EndsPost → EndsPost (unwrap_or told Lost)
+told_or_lost None may = tt
+told_or_lost (Some refusal) may = may
 
 -- two lists of pairs one behind the other
 pub zip_append : {X Y : Type 0} (R : X → Y → Type 0) (xs zs : List X) (ys ws : List Y) → AllZip R xs ys → AllZip R zs ws → AllZip R (xs ++ zs) (ys ++ ws)
@@ -89,38 +94,77 @@ module _ {Q S : Type 0} (is_seat : Q → S → Type 0) (known : S → Known) (ca
   tell_before done more None told some h k = absurd (false≢true some)
   tell_before done more (Some refusal) told some h k = tell_still done more refusal told h k
 
-  -- a thread that was started for a task ends as its sender does
-  ends_so : (o : Office Q S) (task : Task Q S) (thread : Started Q S) (end : Option Refusal) → IsStartedFor o task thread → Ends is_seat known cause thread end → EndsSo is_seat known cause o task end
-  ends_so o task (Running handle) end started ends =
-      inl (subst (λ (t : Task Q S). HasEnded is_seat known cause o t.sender t.texts.items end) started.1
-      (subst (λ p. HasEnded is_seat known cause p handle.promise.task.value.sender handle.promise.task.value.texts.items end) started.0 ends))
-  ends_so o task Unstarted end started ends = inr ends
+  module _ (permits : Q → List Permit) (o : Office Q S) where
+    Starts : Task Q S → Started Q S → Type 0
+    Starts = IsStartedFor is_seat permits known cause o
 
-  all_end : (o : Office Q S) (tasks : List (Task Q S)) (threads : List (Started Q S)) (ends : List (Option Refusal)) → AllZip (IsStartedFor o) tasks threads → AllZip (Ends is_seat known cause) threads ends
-      → AllZip (EndsSo is_seat known cause o) tasks ends
-  all_end o [] [] [] h k = tt
-  all_end o [] [] (e ∷ es) h k = absurd k
-  all_end o [] (t ∷ ts) es h k = absurd h
-  all_end o (x ∷ xs) [] es h k = absurd h
-  all_end o (x ∷ xs) (t ∷ ts) [] h k = absurd k
-  all_end o (x ∷ xs) (t ∷ ts) (e ∷ es) h k = (ends_so o x t e h.0 k.0, all_end o xs ts es h.1 k.1)
+    -- a thread that was started for a task ends as its sender does
+    ends_so : (task : Task Q S) (thread : Started Q S) (end : Option Refusal) → Starts task thread → Ends is_seat known cause thread end → EndsSo is_seat known cause o task end
+    unfolding Starts
+    ends_so task (Running handle) end started ends =
+        subst (λ (t : Task Q S). HasEnded is_seat known cause o t.sender t.texts.items end) started.1
+        (subst (λ p. HasEnded is_seat known cause p handle.promise.task.value.sender handle.promise.task.value.texts.items end) started.0 ends)
+    ends_so task (Unstarted back) end started ends = subst (EndsSo is_seat known cause o task) ends started.ended
 
-  -- letters are missing, and what is told is what the first thread told, or that letters are lost
-  pub missing : (o : Office Q S) (tasks : List (Task Q S)) (threads : List (Started Q S)) (letters : List Letter) (r r' : Receiver Q S) (told : Option Refusal) → AllZip (IsStartedFor o) tasks threads
-      → TellFirst is_seat known cause threads told → TookAllThere known r letters r' → length letters < letters_of tasks → AreMissing is_seat known cause o tasks r (unwrap_or told Lost) r'
-  missing o tasks threads letters r r' None started first taken fewer = record {
-    letters = letters;
-    taken = taken;
-    fewer = fewer;
-    ends = first.ends;
-    each = all_end o tasks threads first.ends started first.each;
-    told = inr (first.first, refl);
-  }
-  missing o tasks threads letters r r' (Some refusal) started first taken fewer = record {
-    letters = letters;
-    taken = taken;
-    fewer = fewer;
-    ends = first.ends;
-    each = all_end o tasks threads first.ends started first.each;
-    told = inl first.first;
-  }
+    all_end : (tasks : List (Task Q S)) (threads : List (Started Q S)) (ends : List (Option Refusal)) → AllZip Starts tasks threads → AllZip (Ends is_seat known cause) threads ends
+        → AllZip (EndsSo is_seat known cause o) tasks ends
+    all_end [] [] [] h k = tt
+    all_end [] [] (e ∷ es) h k = absurd k
+    all_end [] (t ∷ ts) es h k = absurd h
+    all_end (x ∷ xs) [] es h k = absurd h
+    all_end (x ∷ xs) (t ∷ ts) [] h k = absurd k
+    all_end (x ∷ xs) (t ∷ ts) (e ∷ es) h k = (ends_so x t e h.0 k.0, all_end xs ts es h.1 k.1)
+
+    -- letters are missing, and what is told is what the first thread told, or that letters are lost
+    pub missing : (tasks : List (Task Q S)) (threads : List (Started Q S)) (letters : List Letter) (r r' : Receiver Q S) (told : Option Refusal) → AllZip (IsStartedFor is_seat permits known cause o) tasks threads
+        → TellFirst is_seat known cause threads told → TookAllThere known r letters r' → length letters < letters_of tasks → AreMissing is_seat known cause o tasks r (unwrap_or told Lost) r'
+    unfolding Starts
+    missing tasks threads letters r r' None started first taken fewer = record {
+      letters = letters;
+      taken = taken;
+      fewer = fewer;
+      ends = first.ends;
+      each = all_end tasks threads first.ends started first.each;
+      told = inr (first.first, refl);
+    }
+    missing tasks threads letters r r' (Some refusal) started first taken fewer = record {
+      letters = letters;
+      taken = taken;
+      fewer = fewer;
+      ends = first.ends;
+      each = all_end tasks threads first.ends started first.each;
+      told = inl first.first;
+    }
+
+    one_of : (task : Task Q S) (thread : Started Q S) → Starts task thread → IsOfOffice is_seat permits known o thread
+    unfolding Starts
+    one_of task (Running handle) h = h.0
+    one_of task (Unstarted back) h = h.sender
+
+    -- threads that were started for tasks are of the office
+    pub of_office : (tasks : List (Task Q S)) (threads : List (Started Q S)) → AllZip (IsStartedFor is_seat permits known cause o) tasks threads → All (IsOfOffice is_seat permits known o) threads
+    unfolding Starts
+    of_office [] [] h = All-nil (IsOfOffice is_seat permits known o)
+    of_office [] (t ∷ ts) h = absurd h
+    of_office (x ∷ xs) [] h = absurd h
+    of_office (x ∷ xs) (t ∷ ts) h = All-cons (IsOfOffice is_seat permits known o) t ts (one_of x t h.0) (of_office xs ts h.1)
+
+    no_tasks : (tasks : List (Task Q S)) (threads : List (Started Q S)) → AllZip Starts tasks threads → threads ≡ [] → tasks ≡ []
+    no_tasks [] threads h none = refl
+    no_tasks (x ∷ xs) [] h none = absurd h
+    no_tasks (x ∷ xs) (t ∷ ts) h none = absurd (let e : t ∷ ts ≡ [] = none in cc)
+
+    -- the sender that came back, if there is one, is one of the office
+    pub came_back : (threads : List (Started Q S)) (back : Option (Sender Q S)) → ComesBack is_seat permits known o threads back → IfSome back (IsSender is_seat permits known o)
+    came_back threads None h = tt
+    came_back threads (Some sender) h = h
+
+    -- all senders have ended, and by the one that came back the queue is left shut
+    pub have_ended : (shut_cause : Q → S → S → ℕ → Refusal → Type 0) (tasks : List (Task Q S)) (threads : List (Started Q S)) (told : Option Refusal) (back : Option (Sender Q S))
+        → AllZip (IsStartedFor is_seat permits known cause o) tasks threads → TellFirst is_seat known cause threads told → ComesBack is_seat permits known o threads back
+        → IfSome back (λ _. IsLeftShut is_seat permits known shut_cause o) → HaveEnded is_seat permits known cause shut_cause o tasks
+    unfolding Starts
+    have_ended shut_cause tasks threads told None started first none shut =
+        record { ends = first.ends; each = all_end tasks threads first.ends started first.each; shut = inr (no_tasks tasks threads started none) }
+    have_ended shut_cause tasks threads told (Some sender) started first came shut =
+        record { ends = first.ends; each = all_end tasks threads first.ends started first.each; shut = inl shut }

@@ -49,9 +49,9 @@ FirstIsTold [] told = told ≡ None
 FirstIsTold (None ∷ ends) told = FirstIsTold ends told
 FirstIsTold (Some refusal ∷ ends) told = IsTold refusal told
 
--- a task's sender ended so in its thread, or no thread could be made for it, which is told as `Memory`
+-- a task's sender ended so; one for which no thread could be made sent nothing, and its first text is refused for want of memory
 abbrev pub EndsSo : {Q S : Type 0} → (Q → S → Type 0) → (S → Known) → (Q → S → S → ℕ → Refusal → Type 0) → Office Q S → Task Q S → Option Refusal → Type 0
-EndsSo is_seat known cause o task end = HasEnded is_seat known cause o task.sender task.texts.items end ⊎ (end ≡ Some Memory)
+EndsSo is_seat known cause o task end = HasEnded is_seat known cause o task.sender task.texts.items end
 
 -- letters were taken, and then there was none: the receiver waited and found the queue empty, or shut and empty
 pub record TookAllThere {Q S : Type 0} (known : S → Known) (r : Receiver Q S) (letters : List Letter) (r' : Receiver Q S) : Type 0 where

@@ -5,4 +5,5 @@ pub mod Offices
 pub mod Openings
 pub mod Posting
 pub mod Causes
+pub mod Endings
 pub mod Threads

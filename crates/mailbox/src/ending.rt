@@ -41,20 +41,23 @@ impl Ended {
     }
 }
 
-/// How many senders there are, how many of them have ended, and whether one was refused, or the receiver has ended.
+/// How many senders there are, how many of them have ended, which one has no thread, and whether one was refused, or the receiver
+/// has ended.
 #[derive(Drop)]
 pub(crate) struct EndCounter {
     senders: usize,
     ended: AtomicUsize,
+    left_out: AtomicUsize,
     given_up: AtomicBool,
 }
 
 impl EndCounter {
-    /// So many senders, none of which has ended, and a receiver that hasn't either.
+    /// So many senders, none of which has ended or is left out, and a receiver that hasn't ended either.
     pub(crate) fn new(senders: usize) -> EndCounter {
         EndCounter {
             senders,
             ended: AtomicUsize::new(0),
+            left_out: AtomicUsize::new(usize::MAX),
             given_up: AtomicBool::new(false),
         }
     }
@@ -62,6 +65,16 @@ impl EndCounter {
     /// Counts one more sender as ended; whether it is the last one.
     pub(crate) fn ends_last(&self) -> bool {
         self.ended.fetch_add(1, Ordering::SeqCst).wrapping_add(1) == self.senders
+    }
+
+    /// No thread can be made for the sender of the task of this number.
+    pub(crate) fn leave_out(&self, task: usize) {
+        self.left_out.store(task, Ordering::SeqCst);
+    }
+
+    /// Whether no thread can be made for the sender of the task of this number.
+    pub(crate) fn is_left_out(&self, task: usize) -> bool {
+        self.left_out.load(Ordering::SeqCst) == task
     }
 
     /// A sender was refused, or the receiver has ended.

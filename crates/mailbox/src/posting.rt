@@ -6,12 +6,14 @@ ghost use Rattle.mailbox.specs.Plans.{AreDue};
 ghost use Rattle.mailbox.specs.Offices.{IsSender, IsReceiver, marks, receiver_knows};
 ghost use Rattle.mailbox.specs.Posting.{IsTask, IsTaskAt, Plans, BringTexts, Delivered, letters_of, texts_in};
 ghost use Rattle.mailbox.specs.Refusals.{EndsDue, EndsPost};
-ghost use Rattle.mailbox.specs.Causes.{HasEnded, PostRefused};
-ghost use Rattle.mailbox.specs.Threads.{IsStartedFor, TellFirst};
+ghost use Rattle.mailbox.specs.Causes.{HasEnded, FirstIsTold, PostRefused};
+ghost use Rattle.mailbox.specs.Endings.{IsLeftShut, PostLeaves};
+ghost use Rattle.mailbox.specs.Threads.{IsBack, IsStartedFor, IsOfOffice, ComesBack, TellFirst};
 
 use crate::ending::{EndCounter, Ended, GivenUp};
 use crate::office::Office;
 use crate::parcels::Due;
+use crate::planning::count_letters;
 use crate::receiver::{Letter, Receiver};
 use crate::sender::Sender;
 use crate::taking::take_all;
@@ -66,20 +68,43 @@ fn give_up<Q: Fifo + Drop>(office: &Office<Q>, ended: &EndCounter) {
     office.queue.wake_all();
 }
 
+// How a sender ends that has no thread: there was no memory for its first text, where it has one.
+fn ends_unsent<Q: Fifo + Drop>(office: &Office<Q>, sender: &Sender<Q>, texts: &[String]) -> Ended
+    ensures { HasEnded Q.is_seat Q.known Q.push_cause office.now sender.now texts.now
+        result.refusal }
+{
+    let _ = office;
+    let _ = sender;
+    if texts.is_empty() {
+        return Ended::well();
+    }
+    Ended::refused(Refusal::Memory)
+}
+
+// How a task's sender ended, and the sender, which comes back.
+#[derive(Drop)]
+struct Back<Q: Fifo + Drop> {
+    end: Ended,
+    sender: Sender<Q>,
+}
+
 // Sends the texts of the task of this number, and then counts its sender as ended. The last one shuts the queue: no other sender
-// sends any more. Where the shut is refused, the receiver ends by the count, once it is woken.
+// sends any more. Where the shut is refused, the receiver ends by the count, once it is woken. One without a thread does nothing.
 fn send_all<R: Wait, Q: Fifo + Drop>(
     rt: &R,
     office: &Office<Q>,
     number: usize,
     task: Task<Q>,
     ended: &EndCounter,
-) -> Ended
+) -> Back<Q>
     requires { IsTaskAt Q.is_seat Q.permits Q.known office.now number task }
-    ensures { HasEnded Q.is_seat Q.known Q.push_cause office.now task.sender task.texts.items
-        result.refusal }
+    ensures { IsBack Q.is_seat Q.permits Q.known Q.push_cause office.now task result }
 {
     let Task { mut sender, texts } = task;
+    if ended.is_left_out(number) {
+        let end = ends_unsent(office, &sender, &texts);
+        return Back { end, sender };
+    }
     let end = send_texts(rt, office, number, &mut sender, texts, ended);
     if end.refusal().is_some() {
         give_up(office, ended);
@@ -87,32 +112,32 @@ fn send_all<R: Wait, Q: Fifo + Drop>(
     if ended.ends_last() && sender.shut(rt, office).is_err() {
         office.queue.wake_all();
     }
-    end
+    Back { end, sender }
 }
 
-// That the sender of this task ends so in this office.
+// That the sender of this task comes back in this office.
 #[derive(Drop)]
 struct Ends<Q: Fifo + Drop> {
     office: Snapshot<Office<Q>>,
     task: Snapshot<Task<Q>>,
 }
 
-impl<Q: Fifo + Drop> Promise<Ended> for Ends<Q> {
-    ghost use Rattle.mailbox.specs.Causes.{HasEnded};
+impl<Q: Fifo + Drop> Promise<Back<Q>> for Ends<Q> {
+    ghost use Rattle.mailbox.specs.Threads.{IsBack};
 
-    ghost kept_by = { λ p ended. HasEnded Q.is_seat Q.known Q.push_cause p.office.value
-        p.task.value.sender p.task.value.texts.items ended.refusal };
+    ghost kept_by = { λ p back. IsBack Q.is_seat Q.permits Q.known Q.push_cause p.office.value
+        p.task.value back };
 }
 
-// The thread of a task's sender, or that none could be made.
+// The thread of a task's sender; or the sender, where none could be made.
 #[derive(Drop)]
 enum Started<Q: Fifo + Drop> {
-    Running(PromisedHandle<Ended, Ends<Q>>),
-    Unstarted,
+    Running(PromisedHandle<Back<Q>, Ends<Q>>),
+    Unstarted(Back<Q>),
 }
 
-// Starts the thread of a task's sender. Where no thread can be made, the sender counts as ended; the receiver doesn't take
-// letters yet, so none has to wake it.
+// Starts the thread of a task's sender. Where no thread can be made, the sender comes back, and counts as ended; the receiver
+// doesn't take letters yet, so none has to wake it.
 fn start<'s, E, R: Threads + Wait + Sync, Q: Fifo + Sync + Drop>(
     scope: &Scope<'s, E>,
     rt: &'s R,
@@ -122,7 +147,7 @@ fn start<'s, E, R: Threads + Wait + Sync, Q: Fifo + Sync + Drop>(
     ended: &'s EndCounter,
 ) -> Started<Q>
     requires { IsTaskAt Q.is_seat Q.permits Q.known office.now number task }
-    ensures { IsStartedFor office.now task result }
+    ensures { IsStartedFor Q.is_seat Q.permits Q.known Q.push_cause office.now task result }
 {
     let promise = Ends {
         office: Snapshot::of(office),
@@ -130,17 +155,17 @@ fn start<'s, E, R: Threads + Wait + Sync, Q: Fifo + Sync + Drop>(
     };
     let started = scope.spawn_with(
         promise,
-        move || -> Ended
+        move || -> Back<Q>
             requires { IsTaskAt Q.is_seat Q.permits Q.known office.now number task }
-            ensures { HasEnded Q.is_seat Q.known Q.push_cause office.entry.now task.sender
-                task.texts.items result.refusal }
+            ensures { IsBack Q.is_seat Q.permits Q.known Q.push_cause office.entry.now task result }
         { send_all(rt, office, number, task, ended) },
     );
     match started {
         Ok(handle) => Started::Running(handle),
-        Err(_) => {
+        Err(refused) => {
+            ended.leave_out(number);
             ended.ends_last();
-            Started::Unstarted
+            Started::Unstarted((refused.value)())
         }
     }
 }
@@ -158,7 +183,8 @@ fn start_all<'s, E, R: Threads + Wait + Sync, Q: Fifo + Sync + Drop>(
     requires plan { Plans office.now tasks.items }
     requires none { threads.items ≡ [] }
     requires room { length tasks.items ≤ vec_capacity threads }
-    ensures { AllZip (IsStartedFor office.now) tasks.items result.items }
+    ensures { AllZip (IsStartedFor Q.is_seat Q.permits Q.known Q.push_cause office.now)
+        tasks.items result.items }
 {
     for task in tasks {
         let number = threads.len();
@@ -180,44 +206,69 @@ fn answered(refusal: Option<Refusal>) -> Option<Refusal>
     }
 }
 
-// What is told of a sender, once its thread has ended.
-fn join_one<R: Threads + Wait, Q: Fifo + Drop>(rt: &R, thread: Started<Q>) -> Option<Refusal>
-    ensures told { TellFirst Q.is_seat Q.known Q.push_cause (thread ∷ []) result }
-    ensures refusal { IfSome result EndsPost }
+// What is told of a sender that came back, and the sender.
+fn told_of<Q: Fifo + Drop>(back: Back<Q>) -> (Option<Refusal>, Sender<Q>)
+    ensures told { FirstIsTold (back.end.refusal ∷ []) result.0 }
+    ensures refusal { IfSome result.0 EndsPost }
+    ensures sender { result.1 ≡ back.sender }
 {
+    let Back { end, sender } = back;
+    (answered(end.refusal()), sender)
+}
+
+// What is told of a sender, once its thread has ended, and the sender.
+fn join_one<R: Threads + Wait, Q: Fifo + Drop>(
+    rt: &R,
+    office: &Office<Q>,
+    thread: Started<Q>,
+) -> (Option<Refusal>, Sender<Q>)
+    requires { IsOfOffice Q.is_seat Q.permits Q.known office.now thread }
+    ensures told { TellFirst Q.is_seat Q.known Q.push_cause (thread ∷ []) result.0 }
+    ensures refusal { IfSome result.0 EndsPost }
+    ensures sender { IsSender Q.is_seat Q.permits Q.known office.now result.1 }
+{
+    let _ = office;
     match thread {
-        Started::Running(handle) => answered(handle.join(rt).refusal()),
-        Started::Unstarted => Some(Refusal::Memory),
+        Started::Running(handle) => told_of(handle.join(rt)),
+        Started::Unstarted(back) => told_of(back),
     }
 }
 
-// Waits for the senders' threads; what is told of the first sender that was refused.
-fn join_all<R: Threads + Wait, Q: Fifo + Drop>(rt: &R, threads: Vec<Started<Q>>) -> Option<Refusal>
-    ensures first { TellFirst Q.is_seat Q.known Q.push_cause threads.items result }
-    ensures refusal { IfSome result EndsPost }
+// Waits for the senders' threads; what is told of the first sender that was refused, and one of the senders, if there are any.
+fn join_all<R: Threads + Wait, Q: Fifo + Drop>(
+    rt: &R,
+    office: &Office<Q>,
+    threads: Vec<Started<Q>>,
+) -> (Option<Refusal>, Option<Sender<Q>>)
+    requires { All (IsOfOffice Q.is_seat Q.permits Q.known office.now) threads.items }
+    ensures first { TellFirst Q.is_seat Q.known Q.push_cause threads.items result.0 }
+    ensures refusal { IfSome result.0 EndsPost }
+    ensures back { ComesBack Q.is_seat Q.permits Q.known office.now threads.items result.1 }
 {
     let mut first = None;
+    let mut back = None;
     for thread in threads {
-        let refusal = join_one(rt, thread);
+        let (refusal, sender) = join_one(rt, office, thread);
+        back = Some(sender);
         if first.is_none() {
             first = refusal;
         }
     }
-    first
+    (first, back)
 }
 
-// How many letters these are; none where it is no number of letters that memory could hold.
-fn count_letters<Q: Fifo + Drop>(tasks: &[Task<Q>]) -> Option<usize>
-    ensures { IfSome result (λ n. n ≡ letters_of tasks.now) }
+// Shuts the queue by this sender, where there is one, unless it is shut: no sender sends any more.
+fn leave_shut<R: Wait, Q: Fifo + Drop>(rt: &R, office: &Office<Q>, sender: Option<Sender<Q>>)
+    requires { IfSome sender (IsSender Q.is_seat Q.permits Q.known office.now) }
+    ensures { IfSome sender (λ _. IsLeftShut Q.is_seat Q.permits Q.known Q.shut_cause office.now) }
 {
-    let mut count = 0usize;
-    for task in tasks {
-        count = count.checked_add(task.texts.len())?;
+    if let Some(mut sender) = sender {
+        let _ = sender.shut(rt, office);
     }
-    Some(count)
 }
 
-// Starts the senders' threads, takes the letters, and waits for the threads. All room is made before the first thread.
+// Starts the senders' threads, takes the letters, waits for the threads, and sees that the queue is shut. All room is made before
+// the first thread.
 fn run<'s, 'a: 's, E, R: Threads + Wait + Sync, Q: Fifo + Sync + Drop>(
     scope: &Scope<'s, E>,
     rt: &'s R,
@@ -238,6 +289,8 @@ fn run<'s, 'a: 's, E, R: Threads + Wait + Sync, Q: Fifo + Sync + Drop>(
     ensures refusal { IfErr result EndsPost }
     ensures caused { IfErr result (λ refusal. PostRefused Q.is_seat Q.known Q.push_cause office.now
         tasks.items receiver.old refusal receiver.new) }
+    ensures leaves { PostLeaves Q.is_seat Q.permits Q.known Q.push_cause Q.shut_cause office.now
+        tasks.items receiver.old result receiver.new }
 {
     let senders = tasks.len();
     let Some(due) = count_letters(&tasks) else {
@@ -257,7 +310,8 @@ fn run<'s, 'a: 's, E, R: Threads + Wait + Sync, Q: Fifo + Sync + Drop>(
     let threads = start_all(scope, rt, office, tasks, threads, ended);
     let taken = take_all(rt, office, receiver, letters, due, counts, ended);
     give_up(office, ended);
-    let refused = join_all(rt, threads);
+    let (refused, back) = join_all(rt, office, threads);
+    leave_shut(rt, office, back);
     let letters = taken?;
     if letters.len() < due {
         return Err(refused.unwrap_or(Refusal::Lost));
@@ -270,8 +324,8 @@ fn run<'s, 'a: 's, E, R: Threads + Wait + Sync, Q: Fifo + Sync + Drop>(
 /// The office was made for these tasks, by `Office::for_tasks`, and their seats are numbered from 1 on, in order. The letters
 /// come in the order in which they were taken. The receiver sleeps while there is no letter, and a sender while there is no
 /// node for one. A sender ends at its first refusal, which is `NoNode` where there was no node and another sender had been
-/// refused, or the receiver had ended. The sender that ends last shuts the queue, unless no thread could be made for it, or
-/// the shut is refused.
+/// refused, or the receiver had ended. The sender that ends last shuts the queue. It is left shut, where there are tasks, unless
+/// its Tail is worn out: no letter can be sent any more.
 ///
 /// Refusals: `Memory`, before any thread, where there is no room for the letters and threads; then that of a take, or `Lost`
 /// where a letter isn't the next one of its sender's; else, where letters are missing, the refusal of the first task whose
@@ -293,23 +347,29 @@ pub fn post<'a, R: Threads + Wait + Sync, Q: Fifo + Sync + Drop>(
     requires tasks { All (IsTask Q.is_seat Q.permits Q.known office.now) tasks.items }
     requires plan { Plans office.now tasks.items }
     requires receiver { IsReceiver Q.is_seat Q.permits Q.known office.now receiver }
-    //= letters/posted (receiver, order, delivered, all, texts, refusal): Letters posted come in the order taken: one value
-    //=   popped for each, which its sender pushed, and no others; as many as the tasks have, seat 1's the texts of the
-    //=   first task, in their order, and so on. At a refusal too the receiver given back is the office's and took in
-    //=   order; refusals are those of a send and of a take that wait, but `Closed`.
+    //= letters/posted (receiver, order, delivered, all, texts, refusal): Letters posted come in the order taken: one
+    //=   value popped for each, which its sender pushed, and no others; as many as the tasks have, seat 1's the texts
+    //=   of the first task, in their order, and so on. At a refusal too the receiver given back is the office's and
+    //=   took in order; a post is refused `NoNode`, `WornOut`, `Memory`, `BadSize` or `Lost`.
     ensures receiver { IsReceiver Q.is_seat Q.permits Q.known office.now result.0 }
     ensures order { InOrder (receiver_knows Q.known result.0) }
     ensures delivered { IfOk result.1 (λ v. Delivered Q.known receiver v.items result.0) }
     ensures all { IfOk result.1 (λ v. length v.items ≡ letters_of tasks.items) }
     ensures texts { IfOk result.1 (λ v. BringTexts (map texts_in tasks.items) v.items) }
     ensures refusal { IfErr result.1 EndsPost }
-    //= letters/post_refused: Letters that aren't posted: at `Memory` the receiver may be as it was, before any thread. Or
-    //=   a take was refused, by `WornOut` with nothing taken, or by `Lost`, where a letter is lost or out of its turn. Or
-    //=   all were taken that were there, fewer than the tasks have: then the first sender that was refused is told, by
-    //=   what it was refused, with its cause, by `Memory` where it had no thread, by `Lost` where it found the queue shut;
-    //=   and `Lost`, where none was. Each sender had sent all, or as many as were before the refused one.
+    //= letters/post_refused: Letters that aren't posted: at `Memory` the receiver may be as it was. Or a take was
+    //=   refused, with nothing taken, or by `Lost`, where a letter is lost or out of its turn. Or all were taken that
+    //=   were there, fewer than the tasks have: then the first sender that was refused is told, by what it was
+    //=   refused, with its cause, by `Lost` where it found the queue shut; and `Lost`, where none was. Each sender
+    //=   made as many entries as it has letters, or as were before the refused one.
     ensures caused { IfErr result.1 (λ refusal. PostRefused Q.is_seat Q.known Q.push_cause
         office.now tasks.items receiver refusal result.0) }
+    //= letters/post_leaves: Unless a post is refused `Memory` with the receiver as it was, all its senders have
+    //=   ended, by as many entries as they have letters, or as were before the one that was refused, with the cause.
+    //=   Its queue is then left shut, unless there were no tasks: one of its senders shut it, or found it shut; or
+    //=   was refused so, with the cause, as Tail was worn out.
+    ensures leaves { PostLeaves Q.is_seat Q.permits Q.known Q.push_cause Q.shut_cause office.now
+        tasks.items receiver result.1 result.0 }
 {
     let counter = EndCounter::new(tasks.len());
     let ended = &counter;
@@ -328,6 +388,8 @@ pub fn post<'a, R: Threads + Wait + Sync, Q: Fifo + Sync + Drop>(
             ensures refusal { IfErr result.1 EndsPost }
             ensures caused { IfErr result.1 (λ refusal. PostRefused Q.is_seat Q.known Q.push_cause
                 office.entry.now tasks.items receiver refusal result.0) }
+            ensures leaves { PostLeaves Q.is_seat Q.permits Q.known Q.push_cause Q.shut_cause
+                office.entry.now tasks.items receiver result.1 result.0 }
         {
             let mut receiver = receiver;
             let letters = run(scope, rt, alloc, office, tasks, &mut receiver, ended);

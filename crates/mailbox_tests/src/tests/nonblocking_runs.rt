@@ -69,8 +69,8 @@ fn came<R: Threads + Wait + Clock + Sync>(
 
 /// All letters come, each sender's in their order, also where there are no letters, or no senders; and the queue is shut
 /// afterwards, where there are senders.
-/// Mutants, by hand, that fail here: a `post` in which nobody shuts, or the first sender that ends; one that stops at the
-/// first take that finds none.
+/// Mutants, by hand, that fail here: a `post` in which the first sender that ends shuts; one that stops at the first take that
+/// finds none.
 #[test]
 fn each_senders_letters_come_in_order(rt: HostRuntime) -> Result<(), Fail> {
     for (senders, count, all) in &LOADS {

@@ -1,8 +1,8 @@
-use Rattle.std.proofs.Common.{◌∷◌, [], refl, sym, subst, Some}
-use Rattle.history.specs.declared.refusals.Refusal.TheVariants.{Memory}
+use Rattle.std.proofs.Common.{◌∷◌, [], refl, sym, subst}
 use Rattle.mailbox.specs.declared.posting.Started.TheVariants.{Running, Unstarted}
-use Rattle.mailbox.specs.Threads.{Ends, TellFirst}
-use Rattle.mailbox.proofs.Telling.{told_of, told_memory, tell_one}
+use Rattle.mailbox.specs.Offices.{IsSender}
+use Rattle.mailbox.specs.Threads.{TellFirst, IsOfOffice}
+use Rattle.mailbox.proofs.Telling.{tell_one}
 use Rattle.mailbox.proofs.posting.join_one.Goals as goal
 
 pub returns-in-Running-clause-told : goal.returns-in-Running-clause-told
@@ -10,16 +10,24 @@ returns-in-Running-clause-told g c =
     let is_seat = g.Q.Fifo.is_seat in
     let known = g.Q.Fifo.known in
     let cause = g.Q.Fifo.push_cause in
-    let thread = Running c.in-Running.handle in
-    subst (λ t. TellFirst is_seat known cause (t ∷ []) c.answered.result) (sym c.in-Running.is)
-    (tell_one is_seat known cause thread c.refusal.result c.answered.result
-    (subst (λ e. Ends is_seat known cause thread e) (sym c.refusal.ensures.same) c.join.ensures)
-    (told_of c.refusal.result c.answered.result c.answered.ensures.shut c.answered.ensures.same))
+    subst (λ t. TellFirst is_seat known cause (t ∷ []) c.told_of.result.0) (sym c.in-Running.is)
+    (tell_one is_seat known cause (Running c.in-Running.handle) c.join.result.end.refusal c.told_of.result.0 c.join.ensures.ended c.told_of.ensures.told)
 
 pub returns-in-Unstarted-clause-told : goal.returns-in-Unstarted-clause-told
 returns-in-Unstarted-clause-told g c =
     let is_seat = g.Q.Fifo.is_seat in
     let known = g.Q.Fifo.known in
     let cause = g.Q.Fifo.push_cause in
-    subst (λ t. TellFirst is_seat known cause (t ∷ []) (Some Memory)) (sym c.in-Unstarted.is)
-    (tell_one is_seat known cause Unstarted (Some Memory) (Some Memory) refl told_memory)
+    subst (λ t. TellFirst is_seat known cause (t ∷ []) c.told_of-in-Unstarted.result.0) (sym c.in-Unstarted.is)
+    (tell_one is_seat known cause (Unstarted c.in-Unstarted.back) c.in-Unstarted.back.end.refusal c.told_of-in-Unstarted.result.0 refl c.told_of-in-Unstarted.ensures.told)
+
+pub returns-in-Running-clause-sender : goal.returns-in-Running-clause-sender
+returns-in-Running-clause-sender g c =
+    let of = subst (IsOfOffice g.Q.Fifo.is_seat g.Q.Fifo.permits g.Q.Fifo.known c.args.office.now) c.in-Running.is c.requires in
+    subst (IsSender g.Q.Fifo.is_seat g.Q.Fifo.permits g.Q.Fifo.known c.args.office.now) (sym c.told_of.ensures.sender)
+    (subst (λ o. IsSender g.Q.Fifo.is_seat g.Q.Fifo.permits g.Q.Fifo.known o c.join.result.sender) of c.join.ensures.sender)
+
+pub returns-in-Unstarted-clause-sender : goal.returns-in-Unstarted-clause-sender
+returns-in-Unstarted-clause-sender g c =
+    subst (IsSender g.Q.Fifo.is_seat g.Q.Fifo.permits g.Q.Fifo.known c.args.office.now) (sym c.told_of-in-Unstarted.ensures.sender)
+    (subst (IsOfOffice g.Q.Fifo.is_seat g.Q.Fifo.permits g.Q.Fifo.known c.args.office.now) c.in-Unstarted.is c.requires)

@@ -4,7 +4,8 @@ use Rattle.mailbox.specs.Posting.{texts_in, letters_of}
 use Rattle.mailbox.specs.Causes.{AreMissing}
 use Rattle.mailbox.proofs.Order.{in_order}
 use Rattle.mailbox.proofs.Plans.{letters_of-lengths}
-use Rattle.mailbox.proofs.Telling.{missing}
+use Rattle.mailbox.specs.Refusals.{EndsPost}
+use Rattle.mailbox.proofs.Telling.{told_or_lost, missing, of_office, came_back, have_ended}
 use Rattle.mailbox.proofs.posting.run.Goals as goal
 
 pub returns-in_default-clause-order : goal.returns-in_default-clause-order
@@ -58,5 +59,32 @@ returns-then-len-due-clause-caused g c =
     let short : length letters < c.in-Some.due = omega (arith, there, got, less) in
     let fewer : length letters < letters_of c.args.tasks.items = omega (arith, short, due, deref) in
     inr (inr (subst (λ r. AreMissing is_seat known cause c.args.office.now c.args.tasks.items c.args.receiver.now r c.take_all-taken.new.receiver) (sym c.unwrap_or.ensures)
-    (missing is_seat known cause c.args.office.now c.args.tasks.items c.start_all-threads.result.items letters c.args.receiver.now c.take_all-taken.new.receiver c.join_all-refused.result
+    (missing is_seat known cause g.Q.Fifo.permits c.args.office.now c.args.tasks.items c.start_all-threads.result.items letters c.args.receiver.now c.take_all-taken.new.receiver c.join_all-refused.result.0
     c.start_all-threads.ensures c.join_all-refused.ensures.first (c.in_ok-letters.ensures.short short) fewer)))
+
+pub join_all-refused-requires-after_bounds : goal.join_all-refused-requires-after_bounds
+join_all-refused-requires-after_bounds g c κs within =
+    of_office g.Q.Fifo.is_seat g.Q.Fifo.known g.Q.Fifo.push_cause g.Q.Fifo.permits c.args.office.now c.args.tasks.items c.start_all-threads.result.items c.start_all-threads.ensures
+
+pub leave_shut-requires-after_bounds : goal.leave_shut-requires-after_bounds
+leave_shut-requires-after_bounds g c κs within =
+    came_back g.Q.Fifo.is_seat g.Q.Fifo.known g.Q.Fifo.push_cause g.Q.Fifo.permits c.args.office.now c.start_all-threads.result.items c.join_all-refused.result.1 c.join_all-refused.ensures.back
+
+pub returns-then-len-due-clause-leaves : goal.returns-then-len-due-clause-leaves
+returns-then-len-due-clause-leaves g c =
+    inr (have_ended g.Q.Fifo.is_seat g.Q.Fifo.known g.Q.Fifo.push_cause g.Q.Fifo.permits c.args.office.now g.Q.Fifo.shut_cause c.args.tasks.items c.start_all-threads.result.items c.join_all-refused.result.0 c.join_all-refused.result.1
+    c.start_all-threads.ensures c.join_all-refused.ensures.first c.join_all-refused.ensures.back c.leave_shut.ensures)
+
+pub returns-clause-leaves : goal.returns-clause-leaves
+returns-clause-leaves g c =
+    inr (have_ended g.Q.Fifo.is_seat g.Q.Fifo.known g.Q.Fifo.push_cause g.Q.Fifo.permits c.args.office.now g.Q.Fifo.shut_cause c.args.tasks.items c.start_all-threads.result.items c.join_all-refused.result.0 c.join_all-refused.result.1
+    c.start_all-threads.ensures c.join_all-refused.ensures.first c.join_all-refused.ensures.back c.leave_shut.ensures)
+
+pub returns-in_err-letters-clause-leaves : goal.returns-in_err-letters-clause-leaves
+returns-in_err-letters-clause-leaves g c =
+    inr (have_ended g.Q.Fifo.is_seat g.Q.Fifo.known g.Q.Fifo.push_cause g.Q.Fifo.permits c.args.office.now g.Q.Fifo.shut_cause c.args.tasks.items c.start_all-threads.result.items c.join_all-refused.result.0 c.join_all-refused.result.1
+    c.start_all-threads.ensures c.join_all-refused.ensures.first c.join_all-refused.ensures.back c.leave_shut.ensures)
+
+pub returns-then-len-due-clause-refusal : goal.returns-then-len-due-clause-refusal
+returns-then-len-due-clause-refusal g c =
+    subst EndsPost (sym c.unwrap_or.ensures) (told_or_lost c.join_all-refused.result.0 c.join_all-refused.ensures.refusal)

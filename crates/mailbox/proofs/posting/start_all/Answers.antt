@@ -19,7 +19,7 @@ loop-task-init g c =
     let zero : 0 ≡ vec_len c.args.threads = omega (arith, none, ok) in (
       [],
       gives,
-      subst (AllZip (IsStartedFor c.args.office.now) []) (sym c.requires.none) tt,
+      subst (AllZip (IsStartedFor g.Q.Fifo.is_seat g.Q.Fifo.permits g.Q.Fifo.known g.Q.Fifo.push_cause c.args.office.now) []) (sym c.requires.none) tt,
       omega (arith, few, none, room, ok),
       subst (All (IsTask g.Q.Fifo.is_seat g.Q.Fifo.permits g.Q.Fifo.known c.args.office.now)) (sym gives) c.requires.tasks,
       subst (AreDueFrom (marks c.args.office.now) (vec_len c.args.threads)) (sym gives)
@@ -41,7 +41,7 @@ start-requires-after_bounds g c κs within =
 
 pub loop-task-preserved : goal.loop-task-preserved
 loop-task-preserved g c =
-    let Starts = IsStartedFor c.args.office.now in
+    let Starts = IsStartedFor g.Q.Fifo.is_seat g.Q.Fifo.permits g.Q.Fifo.known g.Q.Fifo.push_cause c.args.office.now in
     let P = IsTask g.Q.Fifo.is_seat g.Q.Fifo.permits g.Q.Fifo.known c.args.office.now in
     let was = c.loop-task.invariant in
     let split = c.in-Some.ensures.steps.0 in

@@ -11,7 +11,7 @@ invariant-loop-task g l =
     let rest = l.task-iterator.rest.items in
     (done : List _)
     × (done ++ rest ≡ l.fn.tasks.items)
-    × AllZip (IsStartedFor l.fn.office) done l.threads.items
+    × AllZip (IsStartedFor g.Q.Fifo.is_seat g.Q.Fifo.permits g.Q.Fifo.known g.Q.Fifo.push_cause l.fn.office) done l.threads.items
     × (vec_len l.threads + length rest ≤ vec_capacity l.threads)
     × All (IsTask g.Q.Fifo.is_seat g.Q.Fifo.permits g.Q.Fifo.known l.fn.office) rest
     × AreDueFrom (marks l.fn.office) (vec_len l.threads) rest
