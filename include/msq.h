@@ -55,7 +55,7 @@ enum msq_code {
     MSQ_IN_USE = 35,    /* an msq_seat to be filled is full; or the queue to be closed has a further seat */
     MSQ_RACED = 36,     /* a close: the queue got a further seat meanwhile */
     MSQ_WORN_NEXT = 37, /* a push, at the limit 1 alone: the count of its node is at it; push again, by another node */
-    MSQ_WORN_TAIL = 38, /* Tail's count is at the limit: no push comes any more, and of MSQ_NON_BLOCKING no shut */
+    MSQ_WORN_TAIL = 38, /* Tail is at the limit: no push comes but from a reserve, and of MSQ_NON_BLOCKING no shut */
     MSQ_WORN_HEAD = 39, /* a pop: Head's count is at the limit: of MSQ_TWO_LOCK, no pop comes any more */
     MSQ_TWO_QUEUES = 40, /* misuse: the seats are of two queues */
     MSQ_TWO_CALLS = 41, /* misuse, told with MSQ_DEBUG: another call uses the seat, or a copy of it */
@@ -133,8 +133,8 @@ typedef struct msq_remaining {
  * where that is less: take MSQ_MOST_COUNT, but for tests. Up to 65,534 nodes that is 2^48 - 1, enough for 2^48 pushes and
  * pops; docs/QUEUES.md has the others. An even limit may wear out with an empty free list: a push then answers
  * MSQ_NO_NODE for good, in place of MSQ_WORN_FREE. The greatest counts are odd.
- * MSQ_RING is full at `nodes` values, of which MSQ_RESERVE - 1 more a seat may come; it has 32,767 seats at most. At least
- * `limit` pushes are done before it wears out, up to 2^62 of them, less its places: no run comes there.
+ * MSQ_RING is full at `nodes` values, but reserves may add up to MSQ_RESERVE - 1 more a seat; it has 32,767 seats at most.
+ * At least `limit` pushes are done before it wears out, up to 2^62 of them, less its places: no run comes there.
  * MSQ_OK; MSQ_IN_USE where one of the seats is full; else MSQ_BAD_SIZE where a number is out of its range, or there are
  * fewer seats than roles, or more; else MSQ_MEMORY. Refused, it changes no seat.
  */
@@ -165,8 +165,8 @@ uint32_t msq_try_shut(msq_seat *seat, uint32_t turns);
 
 /*
  * Pushes these bodies in their order, each as msq_try_push does, until one is refused: how many were pushed goes to `pushed`, and
- * the code is that of the one which was refused, or of the last one. Pushes of other seats may come between. No bodies are
- * pushed by any seat, and without a seat 0 is written.
+ * the code is that of the one which was refused, or of the last one. Pushes of other seats may come between. Where there are
+ * no bodies, any seat will do; without a seat 0 is written.
  */
 uint32_t msq_push_all(msq_seat *seat, const uint64_t *bodies, size_t bodies_len, uint32_t turns, size_t *pushed);
 
@@ -178,32 +178,33 @@ uint32_t msq_push_all(msq_seat *seat, const uint64_t *bodies, size_t bodies_len,
 uint32_t msq_pop_up_to(msq_seat *seat, uint32_t turns, msq_value *values, size_t values_len, size_t *popped);
 
 /*
- * Tells a seat that may push and pop whether to keep the node that its pop frees for its next push, which a new seat gives back:
- * both then spare their steps at the free list, and the node is no room for others. Another seat, and one of MSQ_RING, is as
+ * Tells a seat that may push and pop whether to keep the node that its pop frees for its next push; a new seat doesn't. Pop and
+ * push then spare their steps at the free list, and the node is no room for others. Another seat, and one of MSQ_RING, is as
  * before. MSQ_OK or MSQ_NO_SEAT.
  */
 uint32_t msq_keep_nodes(msq_seat *seat, bool keeps);
 
 /*
  * Whether the queue holds a value, as it was at a moment of this call, by any seat: the code is that of a pop there, which
- * isn't made. MSQ_OK where it holds one; MSQ_EMPTY where it is empty, MSQ_CLOSED where it is shut too, so that nothing comes
- * any more; MSQ_BUSY where pops took effect meanwhile, or where a MSQ_RING is shut and the push at its front, done or refused,
- * hasn't ended: look again. MSQ_NO_SEAT.
+ * isn't made. It is proved that this moment isn't before what the seat had seen. MSQ_OK where the queue holds a value;
+ * MSQ_EMPTY where it is empty, MSQ_CLOSED where it is shut too, so that nothing comes any more; MSQ_BUSY where pops took effect
+ * meanwhile, or where a MSQ_RING is shut and the push at its front, done or refused, hasn't ended: look again. MSQ_NO_SEAT.
  */
 uint32_t msq_emptiness(msq_seat *seat);
 
 /*
- * Writes bounds of how many values the queue held at a moment of this call, by any seat. They are one number where no push
- * or pop took effect meanwhile, but of a MSQ_RING that is shut, where MSQ_RESERVE a seat may lie between them. MSQ_OK;
- * MSQ_UNCOUNTED of MSQ_TWO_LOCK, whose Tail counts no pushes; MSQ_NO_SEAT. Refused, it writes nothing.
+ * Writes bounds of how many values the queue held at a moment of this call, by any seat. It is proved that this moment isn't
+ * before what the seat had seen. The bounds are one number where no other call is under way, but of a MSQ_RING that is shut,
+ * where MSQ_RESERVE a seat may lie between them. MSQ_OK; MSQ_UNCOUNTED of MSQ_TWO_LOCK, whose Tail counts no pushes;
+ * MSQ_NO_SEAT. Refused, it writes nothing.
  */
 uint32_t msq_len(msq_seat *seat, msq_length *length);
 
 /*
  * Writes how many pushes are left at least until a word wears out, by any seat: while fewer pushes are called, done or
- * refused, those under way too, no call is answered MSQ_WORN_FREE, MSQ_WORN_TAIL or MSQ_WORN_HEAD, nor MSQ_NO_NODE for good.
- * More may be left, about as many as there are nodes, or of MSQ_RING places in reserve. MSQ_OK or MSQ_NO_SEAT; refused, it
- * writes nothing.
+ * refused, those under way too, no call is answered MSQ_WORN_FREE, MSQ_WORN_TAIL or MSQ_WORN_HEAD; of MSQ_RING that isn't
+ * proved. It is no limit: more may be left, about twice as many where seats keep nodes, or of MSQ_RING the places in reserve.
+ * MSQ_OK or MSQ_NO_SEAT; refused, it writes nothing.
  */
 uint32_t msq_left(msq_seat *seat, msq_remaining *left);
 

@@ -59,7 +59,7 @@ uint32_t msq_words_len(msq_words_seat *seat, msq_length *length);
 /* As msq_close: the words left, from the front, go to `items`, as many as have room there. */
 uint32_t msq_words_close(msq_words_seat *seats, size_t seats_len, msq_item *items, size_t items_len, msq_rest *rest);
 
-/* Drops a seat, which is empty afterwards. With the last seat of a queue its memory is freed, and what is left with it. */
+/* Drops a seat, which is empty afterwards. With the last seat of a queue its memory is freed, which is only tested. */
 void msq_words_drop(msq_words_seat *seat);
 
 /* What is done with words that are left at the end, with the context that the caller gave. */

@@ -93,7 +93,7 @@ impl<const B: u32> AnyQueueOf<B> {
         requires { IsAnySeat self.now seat.old }
         ensures seat { IsAnySeat self.now seat.new }
         ensures stored { KeepsStored seat.old seat.new }
-        //= atomics/emptiness (seat, found)
+        //= atomics/emptiness (seat, stored, found)
         ensures found { FoundSo (known_of seat.old) result (known_of seat.new) }
     {
         match self {
@@ -114,8 +114,8 @@ impl<const B: u32> AnyQueueOf<B> {
         requires { IsAnySeat self.now seat.old }
         ensures seat { IsAnySeat self.now seat.new }
         ensures stored { KeepsStored seat.old seat.new }
-        //= library/len (none, long): A queue of either kind, or of a picked split, tells its length as a non-blocking one
-        //=   does, and none exactly where it is a two-lock one.
+        //= library/len (stored, none, long): A queue of either kind, or of a picked split, tells its length as a
+        //=   non-blocking one does, and none exactly where it is a two-lock one. The seat stores the same.
         ensures none { IsNone result ↔ ((setup_of (any_arena_of self.now)).kind ≡ TwoLock) }
         ensures long { IfSome result
             (λ len. WasSoLong (known_of seat.old) len (known_of seat.new)) }
@@ -138,7 +138,7 @@ impl<const B: u32> AnyQueueOf<B> {
         requires { IsAnySeat self.now seat.old }
         ensures seat { IsAnySeat self.now seat.new }
         ensures stored { KeepsStored seat.old seat.new }
-        //= atomics/left (seat, left)
+        //= atomics/left (seat, stored, left)
         ensures left { HasLeft (plan_of (any_arena_of self.now))
             (known_of seat.old) result (known_of seat.new) }
     {

@@ -139,7 +139,7 @@ impl PickedQueue {
         requires { IsPickedSeat self.now seat.old }
         ensures seat { IsPickedSeat self.now seat.new }
         ensures stored { KeepsStored seat.old seat.new }
-        //= atomics/emptiness (seat, found)
+        //= atomics/emptiness (seat, stored, found)
         ensures found { FoundSo (known_of seat.old) result (known_of seat.new) }
     {
         within!(self, queue => queue.emptiness(seat))
@@ -156,7 +156,7 @@ impl PickedQueue {
         requires { IsPickedSeat self.now seat.old }
         ensures seat { IsPickedSeat self.now seat.new }
         ensures stored { KeepsStored seat.old seat.new }
-        //= library/len (none, long)
+        //= library/len (stored, none, long)
         ensures none { IsNone result ↔ ((setup_of (picked_arena_of self.now)).kind ≡ TwoLock) }
         ensures long { IfSome result
             (λ len. WasSoLong (known_of seat.old) len (known_of seat.new)) }
@@ -175,7 +175,7 @@ impl PickedQueue {
         requires { IsPickedSeat self.now seat.old }
         ensures seat { IsPickedSeat self.now seat.new }
         ensures stored { KeepsStored seat.old seat.new }
-        //= atomics/left (seat, left)
+        //= atomics/left (seat, stored, left)
         ensures left { HasLeft (plan_of (picked_arena_of self.now))
             (known_of seat.old) result (known_of seat.new) }
     {

@@ -52,9 +52,9 @@ impl<T> AnyValues<T> {
         roles: &[Role],
     ) -> Result<(AnyValues<T>, Vec<Seat<T>>), Refusal>
         //= values/any (ok, permits, seats, unused, sized, refused): A queue of values of either kind and of a picked split
-        //=   meets `Carrier`, and `CloseCarrier`; a new one is of the kind and nodes asked for, of the split for these and its
-        //=   greatest count, or of a limit by hand; its seats may do what the roles say and are unused, and its refusals have
-        //=   their causes.
+        //=   meets `Carrier` if its values are `Send`, and `CloseCarrier` if they are `Drop` too; a new one is of the kind and
+        //=   nodes asked for, of the split for these and its greatest count, or of a limit by hand; its seats may do what the
+        //=   roles say and are unused, and its refusals have their causes.
         ensures ok { IfOk result
             (λ r. IsMade (picked_plan kind nodes roles.now) (arena_of r.0) r.1.items) }
         ensures permits { IfOk result (λ r. permits_of r.0 ≡ permits_by roles.now) }
@@ -111,7 +111,7 @@ impl<T> AnyValues<T> {
         requires { IsQueueSeat self.now seat.old }
         ensures seat { IsQueueSeat self.now seat.new }
         ensures stored { KeepsStored seat.old seat.new }
-        //= values/emptiness (seat, found)
+        //= values/emptiness (seat, stored, found)
         ensures found { FoundSoOf (known_by seat.old) result (known_by seat.new) }
     {
         match self {
@@ -131,8 +131,8 @@ impl<T> AnyValues<T> {
         requires { IsQueueSeat self.now seat.old }
         ensures seat { IsQueueSeat self.now seat.new }
         ensures stored { KeepsStored seat.old seat.new }
-        //= values/any_len (none, long): A queue of values of either kind tells its length as a non-blocking one does, and
-        //=   none exactly where it is a two-lock one.
+        //= values/any_len (stored, none, long): A queue of values of either kind tells its length as a non-blocking one
+        //=   does, and none exactly where it is a two-lock one. The seat stores the same.
         ensures none { IsNone result ↔ ((setup_of (arena_of self.now)).kind ≡ TwoLock) }
         ensures long { IfSome result
             (λ len. WasSoLongOf (known_by seat.old) len (known_by seat.new)) }

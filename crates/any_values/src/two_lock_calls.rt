@@ -23,7 +23,7 @@ impl<T> TwoLockValues<T> {
         requires { IsQueueSeat self.now seat.old }
         ensures seat { IsQueueSeat self.now seat.new }
         ensures stored { KeepsStored seat.old seat.new }
-        //= values/emptiness (seat, found)
+        //= values/emptiness (seat, stored, found)
         ensures found { FoundSoOf (known_by seat.old) result (known_by seat.new) }
     {
         within!(self, queue => queue.emptiness(seat))

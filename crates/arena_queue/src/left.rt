@@ -48,9 +48,10 @@ impl<A: Algorithm<B>, const B: u32> ArenaQueueOf<A, B> {
         requires { IsQueueSeat self.now seat.old }
         ensures seat { IsQueueSeat self.now seat.new }
         ensures stored { KeepsStored seat.old seat.new }
-        //= atomics/left (seat, left): A seat that looks what is left of its queue is told what the counts of Free, Tail and
-        //=   Head leave up to the greatest one, each as it was in a traced world whose history begins with what the seat had
-        //=   seen, and that it has now seen; and how many pushes are left from that of Free's on. It is ready as before.
+        //= atomics/left (seat, stored, left): A seat that looks what is left of its queue is told what the counts of Free,
+        //=   Tail and Head leave up to the greatest one, each as it was in a traced world whose history begins with what the
+        //=   seat had seen, and that it has now seen; and for how many pushes, from that of Free's on, these words last at
+        //=   least. It is ready as before, and stores the same.
         ensures left { HasLeft (plan_of (arena_of self.now))
             (known_of seat.old) result (known_of seat.new) }
     {

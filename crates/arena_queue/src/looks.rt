@@ -28,7 +28,7 @@ impl<A: Algorithm<B>, const B: u32> ArenaQueueOf<A, B> {
         requires { IsQueueSeat self.now seat.old }
         ensures seat { IsQueueSeat self.now seat.new }
         ensures stored { KeepsStored seat.old seat.new }
-        //= atomics/emptiness (seat, found)
+        //= atomics/emptiness (seat, stored, found)
         ensures found { FoundSo (known_of seat.old) result (known_of seat.new) }
     {
         self.arena.emptiness(seat)
@@ -50,7 +50,7 @@ impl<A: Algorithm<B>, const B: u32> ArenaQueueOf<A, B> {
         requires counts { A.kind ≡ NonBlocking }
         ensures seat { IsQueueSeat self.now seat.new }
         ensures stored { KeepsStored seat.old seat.new }
-        //= atomics/len (seat, long)
+        //= atomics/len (seat, stored, long)
         ensures long { WasSoLong (known_of seat.old) result (known_of seat.new) }
     {
         self.arena.len(seat)

@@ -143,8 +143,8 @@ impl<A: Algorithm<B>, const B: u32> Fifo for ArenaQueueOf<A, B> {
         ensures refusal { IfErr result StopsPush }
         //= atomics/met_cause
         //= queues/queue_causes: A push, a pop and a shut of either queue are refused only with [their
-        //=   cause](../crates/arena_queue/CALLING.md#the-causes-of-refusals): in the world before the call's last step
-        //=   or, of `Busy`, in the call's turns.
+        //=   cause](../crates/arena_queue/CALLING.md#the-causes-of-refusals): in a reachable world before the call's
+        //=   last step or, of `Busy`, in the call's turns.
         ensures caused { IfErr result
             (PushRefused A.push_worn (arena_of self.now) seat.old seat.new turns) }
     {
@@ -212,6 +212,7 @@ impl<A: Algorithm<B>, const B: u32> Fifo for ArenaQueueOf<A, B> {
         ensures refused { IfErr result
             (λ refusal. RefusedPush (known_of seat.old) refusal (known_of seat.new)) }
         ensures refusal { IfErr result StopsShut }
+        //= atomics/met_cause
         //= queues/queue_causes
         ensures caused { IfErr result
             (ShutRefused A.shut_worn (arena_of self.now) seat.old seat.new turns) }

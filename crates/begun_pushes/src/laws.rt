@@ -44,8 +44,8 @@ pub fn what_is_left_are_pushes_that_may_begin()
 /// given back is found.
 pub fn no_push_lacks_a_node_for_good<T>()
     //= atomics/again (worlds, calls, given, greatest): Where in a traced world of an odd greatest count a push has cause for
-    //=   `NoNode`, Free isn't worn out; so in the one in which a refused call met that cause. After the step that gives a node
-    //=   back to the free list no push has that cause. The greatest count of each split is odd.
+    //=   `NoNode`, Free isn't worn out; so in the one in which a refused call met that cause. In the world right after a step
+    //=   that gives a node back to the free list no push has that cause. The greatest count of each split is odd.
     ensures worlds { FindsFreeUnworn 1 }
     ensures calls { MeetsFreeUnworn 1 T }
     ensures given { GiveBackEnds NoNode }

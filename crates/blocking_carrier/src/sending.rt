@@ -78,7 +78,7 @@ impl<C: Carrier> BlockingCarrier<C> {
         requires role { MayPush (C.permits (queue_of self.now)) (C.known seat.old).number }
         //= carriers/sent_in_time (seat, number, answer, back, refused, refusal, caused): A `send_timeout` and a
         //=   `send_deadline` answer as `send` does, or a `Late` with this very value: since the moment that it keeps, a push
-        //=   by the seat had cause to be refused for want of a node, and nothing was pushed. That a look at the clock made
+        //=   by the seat had cause to be refused for want of a node, and it pushed nothing. That a look at the clock made
         //=   it, no clause says.
         ensures seat { C.is_seat (queue_of self.now) seat.new }
         ensures number { (C.known seat.new).number ≡ (C.known seat.old).number }

@@ -65,8 +65,8 @@ impl<Q: Fifo> BlockingQueue<Q> {
         requires seat { Q.is_seat (queue_of self.now) seat.old }
         requires role { MayPop (Q.permits (queue_of self.now)) (Q.known seat.old).number }
         //= queues/received_in_time (seat, number, answer, refused, refusal, caused): A `recv_timeout` and a `recv_deadline`
-        //=   answer as `recv` does, or a `Late`: then the seat, which had waited until the moment that it keeps, found the
-        //=   queue empty once more. That a look at the clock made it, no clause says.
+        //=   answer as `recv` does, or a `Late`, which keeps the seat as it was at some moment: until then it had waited,
+        //=   and since then it found the queue empty once more. That its time was over then, no clause says.
         ensures seat { Q.is_seat (queue_of self.now) seat.new }
         ensures number { (Q.known seat.new).number ≡ (Q.known seat.old).number }
         ensures answer { IfOk result (λ answer. RecvAnswers Q.known seat.old answer seat.new) }

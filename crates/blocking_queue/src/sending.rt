@@ -62,8 +62,8 @@ impl<Q: Fifo> BlockingQueue<Q> {
         requires seat { Q.is_seat (queue_of self.now) seat.old }
         requires role { MayPush (Q.permits (queue_of self.now)) (Q.known seat.old).number }
         //= queues/sent_in_time (seat, number, answer, refused, refusal, caused): A `send_timeout` and a `send_deadline` answer
-        //=   as `send` does, or a `Late`: since the moment that it keeps, a push by the seat had cause to be refused for want
-        //=   of a node, and nothing was pushed. That a look at the clock made it, no clause says.
+        //=   as `send` does, or a `Late`, which keeps the seat as it was at some moment: since then a push by the seat had
+        //=   cause to be refused for want of a node, and nothing was pushed. That its time was over then, no clause says.
         ensures seat { Q.is_seat (queue_of self.now) seat.new }
         ensures number { (Q.known seat.new).number ≡ (Q.known seat.old).number }
         ensures answer { IfOk result (λ answer. SendAnswers Q.is_seat Q.known Q.push_cause

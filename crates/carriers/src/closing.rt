@@ -33,7 +33,7 @@ pub trait CloseCarrier: Carrier + Sized {
     ///
     /// Refused by `Memory` alone. Takes memory for the values left, and doesn't wait.
     fn room(&self, alloc: Global) -> Result<Self::Room, Refusal>
-        //= carriers/room (room, only_memory): Room for what is left of a queue is what it names as room for its end. Or
+        //= carriers/room (room, only_memory): Room for an end of a queue is room by the queue's `has_room`. Or
         //=   Memory.
         ensures room { IfOk result (has_room self.now) }
         ensures only_memory { IfErr result (λ refusal. refusal ≡ Refusal.Memory) };
@@ -55,8 +55,9 @@ pub trait CloseCarrier: Carrier + Sized {
         requires asked { asks self (map Self.known seats.items) }
         //= carriers/rest: The values left of a closed queue are what a run of permitted deeds leaves, which begins with
         //=   what each seat handed in had seen and has just their own deeds as theirs; its pops are counted, and whether it
-        //=   has a shut is told. The rest is whole exactly where these seats made as many pops and pushes, and a shut if it
-        //=   has one; each deed is then theirs. With every seat it is whole. Which seats an end asks for the queue names.
+        //=   has a shut is told. The rest is whole exactly where these seats made as many pops as were counted, as many
+        //=   pushes as these and the values left, and a shut where the queue was shut; each deed is then theirs. With every
+        //=   seat it is whole. The queue names which seats an end asks for.
         ensures rest { ClosesOf (Self.permits self) (map Self.known seats.items) result.0 }
         //= carriers/ends: With the rest comes an end, whichever seats are handed in, of which the queue's `ends` holds.
         ensures ends { ends self result.1 result.0 };
@@ -82,8 +83,8 @@ pub trait CloseCarrier: Carrier + Sized {
             (λ r. ClosesOf (Self.permits self) (map Self.known seats.items) r.0) }
         //= carriers/ends
         ensures ends { IfOk result (λ r. ends self r.1 r.0) }
-        //= carriers/unclosed (queue, same): A queue that isn't closed, for want of memory, comes back as it was, with the
-        //=   seats handed in.
+        //= carriers/unclosed (queue, same): A queue that `close` doesn't close comes back as it was, with the seats
+        //=   handed in. Why it doesn't, no clause says.
         ensures queue { IfErr result (λ unclosed. unclosed.queue ≡ self) }
         ensures same { IfErr result (λ unclosed. unclosed.seats.items ≡ seats.items) }
     {

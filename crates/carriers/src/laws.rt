@@ -83,9 +83,9 @@ pub fn closed_numbers_are_values()
 
 /// Small histories that are runs, and to which values they lead.
 pub fn small_histories_are_runs()
-    //= carriers/examples (handed_over, told_apart): A run
-    //=   may hand two values over and be shut between the pops. None pops a value that wasn't pushed, stands behind another,
-    //=   was popped, or as another seat's; none pushes, or shuts, behind a shut.
+    //= carriers/examples (handed_over, told_apart): Examples: two values may be handed over, with a shut between the pops,
+    //=   and two like ones are told apart by who pushed them. These are no runs: a value popped before it was pushed, from
+    //=   behind another, changed, as another seat's, or twice; a push, or a shut, behind a shut.
     ensures handed_over { RunsTo handed_over true [] }
     ensures told_apart { RunsTo told_apart false (item 1 5 ∷ []) }
 {}

@@ -66,7 +66,8 @@ pub trait Carrier {
         requires seat { is_seat self.now seat.old }
         requires role { MayPush (permits self.now) (known seat.old).number }
         requires turns { 1 ≤ turns }
-        //= carriers/seats (seat, number): A call leaves its seat one of the queue's, in no call, with the same number.
+        //= carriers/seats (seat, number): A call leaves its seat one of the queue's (`is_seat`), with the same
+        //=   number.
         ensures seat { is_seat self.now seat.new }
         ensures number { (known seat.new).number ≡ (known seat.old).number }
         //= carriers/pushed: A push that is done adds the push of this very value.

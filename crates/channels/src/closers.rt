@@ -50,9 +50,9 @@ impl<C: Carrier + Drop> Shuts for Closer<C> {
     type Seat = C::Seat;
 
     fn shut(self) -> (Result<(), Refusal>, C::Seat)
-        //= carriers/channel_ended (shut, refused, refusal, caused): As the last sender, or the last receiver, is dropped its
-        //=   closer makes one call, a `try_shut` of 65,536 turns: the queue is shut by this one deed, or that is refused, with its
-        //=   cause.
+        //= carriers/channel_ended (shut, refused, refusal, caused): A side's closer has shut its queue by one deed, or is
+        //=   refused, with the cause of a `try_shut` of 65,536 turns. That the drop of the last sender, or receiver, calls it, no
+        //=   clause says.
         ensures shut { OnOk result.0
             (DidShutOf (C.known (closer_seat self)) (C.known result.1)) }
         ensures refused { IfErr result.0

@@ -69,8 +69,8 @@ pub fn seats_that_met_get_in_order<C: Carrier>()
 /// A queue that was closed by some seats: what each of them pushed is what was taken of it, and then what is left of it; and
 /// each of them took of it in order.
 pub fn closed_queues_delivered_in_order<A>()
-    //= carriers/in_order_at_the_end: Of a closed queue: what a seat handed in pushed is what all took of it, and then what is
-    //=   left of it, in order; and what each seat handed in took of it is a subsequence of what all took.
+    //= carriers/in_order_at_the_end: Of a closed queue: what a seat handed in pushed is some values and then what is left of
+    //=   it, in order; and what each seat handed in took of it is a subsequence of these values.
     ensures { (permits : List Permit) (seats : List (KnownOf A)) (rest : RestOf A)
         → ClosesOf permits seats rest → All (λ giver. DeliversOf giver seats (left_in rest)) seats }
 {}
@@ -78,8 +78,9 @@ pub fn closed_queues_delivered_in_order<A>()
 /// A queue that was closed by all seats that did anything, each with a number of its own: each value that they pushed was
 /// popped by one of them, or is left, once.
 pub fn closed_queues_delivered_once<A>()
-    //= carriers/delivered_once: Of a closed queue of which the seats handed in made all deeds: the values that they pushed are
-    //=   those that they popped, each seat's together, and those that are left, in some order; so each of them once.
+    //= carriers/delivered_once: Of a closed queue of which the seats handed in, no two with one number, made all deeds: the
+    //=   values that they pushed are those that they popped, each seat's together, and those that are left, in some order; so
+    //=   each of them once.
     ensures { (permits : List Permit) (seats : List (KnownOf A)) (rest : RestOf A)
         → ClosesOf permits seats rest → IsTrue (whole_in rest)
         → IsDistinct nat_eq (map (λ seat. seat.number) seats)

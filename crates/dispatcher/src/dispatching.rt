@@ -62,7 +62,7 @@ pub fn run_jobs<'a, R: Threads + Wait + Sync, Q: Fifo + Sync, G: Gate + Sync>(
     //=   and tells how it ended: the queue shut and empty, or empty; or what it was refused.
     ensures run { IfOk result
         (HasRun Q.is_seat Q.known (queue_of queue.now) jobs.now giver takers.items) }
-    //= jobs/unrun (unrun, sized, refusal): Where no job was done the seats come back as they were. `BadSize` comes exactly
+    //= jobs/unrun (unrun, sized, refusal): Refused, `run_jobs` gives the seats back as they were. `BadSize` comes exactly
     //=   where there is no taker or more than 1,000,000 jobs; else only `Memory`.
     ensures unrun { IfErr result (IsAsGiven giver takers) }
     ensures sized { IsRefusedSize result ↔ IsBadSize takers.items jobs.now }

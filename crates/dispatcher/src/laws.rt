@@ -14,9 +14,9 @@ use history::Fifo;
 /// Once a new queue is closed by all its seats, each number that the submitter pushed was answered by one worker, once, or is
 /// left in the queue, once; and nothing is left where a worker found the queue shut and empty.
 pub fn each_number_is_answered_once_or_left<Q: Fifo>()
-    //= jobs/once (once, all): Of jobs that were run on a new queue, by all its seats: once these close it, each number that the
-    //=   submitter pushed was answered by a worker once, or is left once, and not both; where a worker found the queue shut
-    //=   and empty, none is left.
+    //= jobs/once (once, all): Of jobs that were run on a new queue, by all its seats, of which the giver's alone may push: once
+    //=   these close it, each number that the submitter pushed was answered by a worker once, or is left once, and not both;
+    //=   where a worker found the queue shut and empty, none is left.
     ensures once { (queue : Q) (jobs : List Job) (giver : Q.Seat) (takers : List Q.Seat)
         (run : JobsRun Q.Seat) (rest : Rest) → (ran : HasRun Q.is_seat Q.known queue jobs giver takers run)
         → AreNewSeats (Q.permits queue) Q.known giver takers

@@ -56,8 +56,8 @@ impl<'a, Q: Fifo, R: Wait> Iterator for UntilShut<'a, Q, R> {
 
     ghost can_next = { CanPop Q.is_seat Q.permits Q.known };
 
-    //= queues/until_shut: An `UntilShut` gives the values that its seat pops, and waits where a pop finds the queue empty, each of
-    //=   which is noted, until one finds it shut and empty; that is its end. It gives a `WornOut`, with its cause, as its last
+    //= queues/until_shut: An `UntilShut` gives the values that its seat pops, and where a pop finds the queue empty, which is
+    //=   noted, it waits, until one finds it shut and empty; that is its end. It gives a `WornOut`, with its cause, as its last
     //=   item. After its end or its last item it gives nothing and leaves its seat as it is.
     ghost next_gives = { GivesUntilShut Q.is_seat Q.known Q.pop_cause };
 

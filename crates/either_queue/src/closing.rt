@@ -82,7 +82,8 @@ impl<A: Close + Drop, B: Close + Drop> EitherQueue<A, B> {
     /// Refused by `Memory` alone. Takes memory for the values left and the seats, and doesn't wait.
     pub fn room(&self, alloc: Global, seats: usize) -> Result<EitherRoom<A::Seat, B::Seat>, Refusal>
         //= library/either_end (room, only_memory): A queue of one of two kinds, both of which meet `Close`, is ended as the queue
-        //=   within: what room is for it, which seats are enough, what is left and what shows it are its own. Or Memory.
+        //=   within: which room is enough, which seats are, what is left, and which end shows it, are as of that queue. Or
+        //=   Memory.
         ensures room { IfOk result (HasEitherRoom A.has_room B.has_room self.now seats) }
         ensures only_memory { IfErr result (λ refusal. refusal ≡ Refusal.Memory) }
     {

@@ -63,7 +63,7 @@ pub fn pool_queue<T, A: Algorithm<B>, const B: u32>(
 ) -> Result<(QueueOf<Numbered<T>, A, B>, Vec<Seat<Numbered<T>>>), Refusal>
     requires split { IsSplit B }
     //= tasks/pool_queue (crew, many, refused): A new queue of a pool has a seat for each worker, which may pop, and one behind
-    //=   them, which may push; none has made a call. It is refused as a new queue of values is, or by `Memory`.
+    //=   them, which may push; each has done nothing. It is refused as a new queue of values is, or by `Memory`.
     ensures crew { IfOk result (λ r. IsCrewOf IsQueueSeat permits_of known_by r.0 r.1.items) }
     ensures many { IfOk result (λ r. length r.1.items ≡ workers + 1) }
     ensures refused { IfErr result (λ refusal. (refusal ≡ Refusal.Memory)

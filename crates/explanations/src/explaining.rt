@@ -36,8 +36,9 @@ pub fn entry_named<'a>(entries: &'a [Entry], word: &str) -> Option<&'a Entry>
 /// It is refused by `Write` where a call of the writer fails or takes nothing. It takes no memory; whether it waits is up to the
 /// writer.
 pub fn explain<W: Sink>(entries: &[Entry], word: &str, writer: &mut W) -> Result<bool, Refusal>
-    //= program/explain: `explain`, which `msq explain` calls, writes the text of such an entry exactly, or a prefix of it where
-    //=   it is refused `Write`, as it alone is; and, at Ok, nothing where no entry has the word, which its answer tells.
+    //= program/explain: `explain`, which `msq explain` calls, writes the text of such an entry exactly, or a prefix of it at
+    //=   `Write`, which is then its one refusal; at Ok it writes nothing where no entry has the word, which its answer
+    //=   tells.
     ensures { Explains entries.now word.now (W.state writer.old) (W.state writer.new) result }
 {
     let Some(entry) = entry_named(entries, word) else {

@@ -28,7 +28,8 @@ pub trait Feed<T: Task>: Drop {
     /// ```
     fn next(&mut self) -> Option<T>
         //= tasks/feed (stands, kept, idle): What its type says of a feed, by the tasks that it gave and the results that it
-        //=   was told, is so after each of its calls, and what it keeps is as before. One that gives no task is idle.
+        //=   was told, is so after each of its calls; these leave what it keeps, its `kept`, as it is. One that gives no
+        //=   task is idle.
         ensures stands { (given : List T) (told : List (Done (Result T.Output T.Error)))
             → stands self.old given told → StandsAfter (stands self.new) given told result }
         ensures kept { kept self.new ≡ kept self.old }
@@ -44,7 +45,7 @@ pub trait Feed<T: Task>: Drop {
     /// }
     /// ```
     fn tell(&mut self, done: Done<Result<T::Output, T::Error>>)
-        //= tasks/feed
+        //= tasks/feed (stands, kept)
         ensures stands { (given : List T) (told : List (Done (Result T.Output T.Error)))
             → stands self.old given told → stands self.new given (told ++ done ∷ []) }
         ensures kept { kept self.new ≡ kept self.old };

@@ -261,8 +261,8 @@ pub(crate) fn lead<
     requires { IsLeading C.is_seat C.permits C.known D.is_seat D.permits D.known T.answers F.stands
         (queue_of tasks.now) (queue_of results.now) leader }
     //= tasks/led_on (ended, kept, idle): Who hands out the tasks pushes each that it is given under its own number, or runs
-    //=   it, and tells each result that comes, until the feed is idle and all is told; then it shuts the queue of tasks, or
-    //=   finds it shut, or tells why it couldn't.
+    //=   it, and tells each result that comes, until the feed is idle and all is told, or it is refused; then it shuts the
+    //=   queue of tasks, finds it shut, or tells why not. What the feed keeps is as before.
     ensures ended { HasEnded C.is_seat C.permits C.known D.is_seat D.permits D.known T.answers F.stands
         (queue_of tasks.now) (queue_of results.now) leader result }
     ensures kept { F.kept result.leader.feed ≡ F.kept leader.feed }

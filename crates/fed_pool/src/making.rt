@@ -64,7 +64,7 @@ pub fn line<N, A: Algorithm<B>, const B: u32>(
     requires split { IsSplit B }
     requires few { workers ≤ 65534 }
     //= tasks/line (line, many, refused): A new line has a seat for each worker and one behind them; each may push and pop,
-    //=   and none has made a call. It is refused as a new queue of values is, or by `Memory`.
+    //=   and has done nothing. It is refused as a new queue of values is, or by `Memory`.
     ensures line { IfOk result (IsLine IsQueueSeat permits_of known_by) }
     ensures many { IfOk result (λ line. length line.seats.items ≡ workers + 1) }
     ensures refused { IfErr result (λ refusal. (refusal ≡ Refusal.Memory)
@@ -117,8 +117,8 @@ pub fn run_feed<R: Threads + Wait + Sync, T: Task, F: Feed<T>>(
     room: u32,
 ) -> Result<Fed<F, T>, Unstarted<F>>
     requires { F.stands feed [] [] }
-    //= tasks/run_feed (told, all, kept, idle, feed, only_memory): Over two new queues each task that a feed gave is told of once, as by
-    //=   `run_fed`; where memory is refused the feed comes back as it was.
+    //= tasks/run_feed (told, all, kept, idle, feed, only_memory): Over two new queues a feed and its tasks end as by `run_fed`; of
+    //=   workers nothing is said. `run_feed` is refused by `Memory` alone, and then gives the feed back as it was.
     ensures told { IfOk result (HasFed T.answers F.stands) }
     ensures all { IfOk result (λ fed. fed.refused ≡ None → left_in fed.left ≡ []) }
     ensures kept { IfOk result (λ fed. F.kept fed.feed ≡ F.kept feed) }

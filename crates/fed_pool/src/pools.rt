@@ -332,15 +332,16 @@ pub fn run_fed<
     requires same { length tasks.seats.items ≡ length results.seats.items }
     requires tasks_asked { AsksSoMany C.asks tasks.queue (length tasks.seats.items) }
     requires results_asked { AsksSoMany D.asks results.queue (length results.seats.items) }
-    //= tasks/fed (told, all, kept, idle, joined): Each task that a feed gave is told of once: its own result was told, under
-    //=   its number, or it is handed back. Where no call of who tells the results was refused, none is handed back, and the
-    //=   feed is idle. What it keeps is as before. Each worker has ended.
+    //= tasks/fed (told, all, kept, idle, joined): By its `stands` a feed gave some tasks, each of which is told of once:
+    //=   its own result was told, under its number, or it is handed back. Where no call of who tells the results was
+    //=   refused, none is handed back, and the feed is idle. What it keeps is as before. Each worker has ended.
     ensures told { IfOk result (HasFed T.answers F.stands) }
     ensures all { IfOk result (λ fed. fed.refused ≡ None → left_in fed.left ≡ []) }
     ensures kept { IfOk result (λ fed. F.kept fed.feed ≡ F.kept feed) }
     ensures idle { IfOk result (λ fed. fed.refused ≡ None → F.idle fed.feed) }
     ensures joined { IfOk result (λ fed. length fed.ends.items + 1 ≡ length tasks.seats.items) }
-    //= tasks/unfed (feed, tasks, results): Where memory is refused the feed wasn't asked for a task, and all comes back.
+    //= tasks/unfed (feed, tasks, results): Refused, `run_fed` gives all back, the feed as it was. Why it is, no clause
+    //=   says.
     ensures feed { IfErr result (λ unfed. unfed.feed ≡ feed) }
     ensures tasks { IfErr result (λ unfed. unfed.tasks ≡ tasks) }
     ensures results { IfErr result (λ unfed. unfed.results ≡ results) }

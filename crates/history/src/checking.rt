@@ -42,8 +42,8 @@ use std::collections::{BTreeMap, VecDeque};
 pub fn check(alloc: Global, history: &[Stamped]) -> Result<Verdict, Refusal>
     //= judge/verdict (ok, only_memory): A verdict is Yes exactly where the history is placed and legal, and else names
     //=   its first fault.
-    //= judge/object: A history is judged by the *object* of docs/GLOSSARY.md: `Closed` as any reply is; other refusals
-    //=   leave the queue (`AgreesWithQueue`).
+    //= judge/object: A history is judged by the *object* of docs/GLOSSARY.md: `NoNode`, `WornOut` and `Busy` leave it
+    //=   as it is; any other reply must be its own (`AgreesWithQueue`).
     ensures ok { IfOk result (λ answer. answer ≡ verdict history.now) }
     ensures only_memory { IfErr result (λ refusal. refusal ≡ Refusal.Memory) }
 {

@@ -71,14 +71,14 @@ pub trait Close: Fifo + Sized {
         requires room { has_room self room }
         requires seats { All (Self.is_seat self) seats.items }
         requires asked { asks self (map Self.known seats.items) }
-        //= queues/rest: What is left of a closed queue is what a legal history of permitted entries leaves, which begins
-        //=   with what each seat handed in had seen and has just their own entries as theirs; its pops are counted, and
-        //=   whether it has a shut is told. The rest is whole exactly where these seats made as many pops and pushes, and
-        //=   a shut if it has one; each entry is then theirs. With every seat it is whole. Which seats an end asks for the queue
-        //=   names: `ArenaQueue` and `AnyQueue` any, `RingQueue` all.
+        //= queues/rest: What is left of a closed queue is what a legal history of permitted entries leaves, which begins with
+        //=   what each seat handed in had seen and has just their own entries as theirs; its pops are counted, and whether it
+        //=   has a shut is told. The rest is whole exactly where these seats made as many pops and pushes as that history has,
+        //=   and a shut if it has one; each entry is then theirs. With every seat it is whole. Which seats an end asks for the
+        //=   queue names: `ArenaQueue` and `AnyQueue` any, `RingQueue` as many as it has.
         ensures rest { Closes (Self.permits self) (map Self.known seats.items) result.0 }
-        //= queues/ends: With the rest comes an end, whichever seats are handed in, of which the queue's `ends` holds. What
-        //=   that says the queue names: `ArenaQueue` and `AnyQueue` say what a closed arena does.
+        //= queues/ends: With the rest comes an end, of which the queue's `ends` holds. What that says the queue names:
+        //=   `ArenaQueue` and `AnyQueue` say what a closed arena does.
         ensures ends { ends self result.1 result.0 };
 
     /// Ends the queue and the seats handed in, as `close_with` does, with room that it takes first.
@@ -102,8 +102,8 @@ pub trait Close: Fifo + Sized {
             (λ r. Closes (Self.permits self) (map Self.known seats.items) r.0) }
         //= queues/ends
         ensures ends { IfOk result (λ r. ends self r.1 r.0) }
-        //= queues/unclosed (queue, same): A queue that isn't closed, for want of memory, comes back as it was, with the
-        //=   seats handed in.
+        //= queues/unclosed (queue, same): A queue that `close` doesn't close comes back as it was, with the seats
+        //=   handed in.
         ensures queue { IfErr result (λ unclosed. unclosed.queue ≡ self) }
         ensures same { IfErr result (λ unclosed. unclosed.seats.items ≡ seats.items) }
     {

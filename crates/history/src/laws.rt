@@ -64,7 +64,8 @@ pub fn placed_and_legal_is_linearizable()
 
 /// Whether a history is linearizable doesn't hang on the places of its operations.
 pub fn linearizable_reads_no_places()
-    //= judge/no_places: A linearizable history stays so whatever places a function of the operation gives.
+    //= judge/no_places: A linearizable history stays so whatever other places its operations get, if equal ones get
+    //=   the same.
     ensures { (ops : List Stamped) (f : Stamped → Stamped) → ((o : Stamped) → DifferInPlace o (f o))
         → IsLinearizable ops → IsLinearizable (map f ops) }
 {}
@@ -90,9 +91,10 @@ pub fn a_value_is_taken_at_most_as_often_as_pushed()
 /// What is not linearizable: a value that is taken before its push began; a queue found empty after a push ended; and
 /// a value that was pushed once and is taken twice.
 pub fn wrong_histories_are_not_linearizable()
-    //= judge/examples (too_early, lost, twice): Not linearizable: a value taken before its push began, the queue found
-    //=   empty after a push ended, a value pushed once taken twice. Linearizable: the value of a pending push taken,
-    //=   the queue found empty during a push.
+    //= judge/examples (too_early, lost, twice): Of histories of one push and a pop or two these aren't linearizable:
+    //=   the value is taken before the push began; it is taken twice; the push ended, and a later pop finds the
+    //=   queue empty. These are: the push is pending, and its value is taken; a pop that began during the push finds
+    //=   the queue empty.
     ensures too_early { ¬ IsLinearizable taken_too_early }
     ensures lost { ¬ IsLinearizable push_lost }
     ensures twice { ¬ IsLinearizable taken_twice }

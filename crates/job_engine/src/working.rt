@@ -55,8 +55,8 @@ pub fn work_text<T: Threads + Wait + Sync, R: Source, W: Sink>(
     //=   a seat for each worker, that may pop, one that may push, and the greatest count of all; a ring is full of as many
     //=   values, and ends at the last place of all.
     ensures over { IfOk result (λ done. IsCrewQueue kind nodes workers (queue_in done)) }
-    //= program/work_went: At Ok the jobs read went over the queue that `work_text` answers: with it come all its seats, in no
-    //=   call, and the number of each job, from 1 on, was taken from it by one of them.
+    //= program/work_went: At Ok the jobs read went over the queue that `work_text` answers: with it come seats of it, one for
+    //=   each worker and one more, in no call, and the number of each job, from 1 on, was taken from it by one of them.
     ensures went { IfOk result (λ done. WentFor (R.state reader.old).left workers (queue_in done)
         (seats_in done)) }
     // A size out of its range is refused before anything is read.

@@ -25,8 +25,8 @@ fn from_pocket<const B: u32>(line: Line, actor: &mut ActorOf<B>)
 ///
 /// Takes no memory.
 pub fn begin<const B: u32>(kind: Kind, me: u16, op: Op, actor: &mut ActorOf<B>)
-    //= steps/begin_and_give (actor, call): A begin and a give make of an actor what their definitions say; a give
-    //=   answers none exactly where no turn begins at the line, and then changes nothing.
+    //= steps/begin_and_give (actor, call): A begin and a give make of an actor what docs/LINES.md says of them; a
+    //=   give answers none exactly where no turn begins at the line, and then changes nothing.
     ensures actor { actor.new ≡ calling.begun kind me op actor.old }
     ensures call { calling.is_call op ≡ true }
 {

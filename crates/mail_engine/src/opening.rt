@@ -31,7 +31,9 @@ pub fn mail_queue<A: Algorithm<24>>(
     limit: u64,
     senders: u16,
 ) -> Result<(ArenaQueue<A>, Vec<Seat>, Seat), Refusal>
-    //= letters/senders: A new queue of senders and their receiver is of the nodes, greatest count and seats asked for.
+    //= letters/senders (made, opened, sized, refused): A new queue of senders and their receiver is of the nodes,
+    //=   greatest count and seats asked for; each sender may push, the receiver alone may pop, and all are new.
+    //=   Sized.
     ensures made { IfOk result (λ r. IsQueueMade A.kind nodes limit (giver_and_taker_roles senders)
         r.0 (r.1.items ++ r.2 ∷ [])) }
     ensures opened { IfOk result (λ r. IsOpened IsQueueSeat permits_of known_of
@@ -58,7 +60,9 @@ pub fn mail_ring(
     values: u32,
     senders: u16,
 ) -> Result<(RingQueue, Vec<RingSeat>, RingSeat), Refusal>
-    //= letters/ring_senders: A new ring of senders and their receiver is of the values and seats asked for.
+    //= letters/ring_senders (made, opened, refused): A new ring of senders and their receiver is of the values and
+    //=   seats asked for; each sender may push, the receiver alone may pop, and all are new. It is refused by
+    //=   `Memory`, or by `BadSize` only where a size is out of its range.
     ensures made { IfOk result (λ r. IsMailRing values senders r.0 (r.1.items ++ r.2 ∷ [])) }
     ensures opened { IfOk result (λ r. IsOpened IsRingSeat permits_in ring_known
         senders r.0 r.1.items r.2) }

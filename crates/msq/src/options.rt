@@ -114,9 +114,9 @@ pub(crate) fn place_by<S: Source, W: Sink>(
     writer: &mut W,
 ) -> Result<Told, Refusal>
     requires { IfSome held (λ held. AreHeld (map bytes_of held.now)) }
-    //= program/place_options: At Ok `place_by`, which `msq place` calls, has searched by as many steps at most as its
-    //=   options ask for, and has written the lines of a reason's operations exactly where they do. What the queue holds at the start
-    //=   is what it is given.
+    //= program/place_options: At Ok `place_by`, which `msq place` calls, has searched by the steps that its options ask for, if
+    //=   its answer is open, and has written the lines of a reason's operations exactly where they ask for these. What the queue
+    //=   holds at the start is what it is given.
     ensures { IfOk result (λ told. PlacesBy (held_texts held.entry) (S.state reader.old).left
         options.steps options.tells_why (W.state writer.old) (W.state writer.new) told.found) }
 {
@@ -129,8 +129,8 @@ pub(crate) fn place_by<S: Source, W: Sink>(
 
 /// Whether what is drawn has colours; usual is where it may have some. A page has none.
 pub(crate) fn wants_colours(options: Asked, is_usual: bool) -> bool
-    //= program/colours: A picture or a timeline has colours where `--color always` asks for them, and, unless `--color never`
-    //=   does, where they are usual, as on a terminal. A page has none.
+    //= program/colours: `wants_colours` answers no for a page; else yes for `--color always`, no for `--color never`, and
+    //=   without either whether colours are usual, as it is told.
     ensures { result ≡ has_colours options is_usual }
 {
     match options.colours {
@@ -175,7 +175,8 @@ pub(crate) fn show_coloured<'a, S: Source, W: Sink>(
     reader: &mut S,
     writer: W,
 ) -> (Result<(), Fault>, W)
-    //= program/plain: What `msq show` writes with colours is, without their codes, what it writes without them.
+    //= program/plain: At Ok what `show_coloured` has written is, without the codes of colours, some drawing
+    //=   that `show_by` may write.
     ensures drawn { OnOk result.0 (Draws options frames.now meanings.now (S.state reader.old).left
         (plain_state (W.state writer)) (plain_state (W.state result.1))) }
 {

@@ -180,11 +180,11 @@ pub extern "C" fn msq_close(
     rest: &mut MsqRest,
 ) -> u32
     requires { AreOfOne slots.old }
-    //= library/end: A queue ended from C tells 0 where all these handles, now empty, closed it: what is left is what
-    //=   its own `close` says of their seats, the values written from the front, as many as have room. Refused, nothing
-    //=   is written: at `MSQ_NO_SEAT` a handle is empty, and none changed; at `MSQ_BAD_SIZE` there is none; at
-    //=   `MSQ_IN_USE` and `MSQ_MEMORY` all keep their seats; at `MSQ_RACED` all are empty. A ring is ended by all seats that
-    //=   it was made with.
+    //= library/end: A queue ended from C tells 0 where all these handles, now empty, closed it: what is left is what its own
+    //=   `close` says of their seats, the values written from the front, as many as have room. Refused, nothing is written:
+    //=   at `MSQ_NO_SEAT` a handle is empty, and none changed; at `MSQ_BAD_SIZE` there is none; at `MSQ_IN_USE` and
+    //=   `MSQ_MEMORY` all keep their seats; at `MSQ_RACED` all are empty. When which of these three is told, and how many
+    //=   seats end a ring, no clause says.
     ensures { Tells done_code result
         (AnswersClose slots.old slots.new values.old values.new rest.old rest.new) }
 {

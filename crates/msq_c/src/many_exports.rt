@@ -58,9 +58,9 @@ pub extern "C" fn msq_pop_up_to(
 /// Tells a seat whether to keep the nodes that its pops free, for its pushes.
 #[unsafe(no_mangle)]
 pub extern "C" fn msq_keep_nodes(alloc: Global, slot: &mut MsqSeat, keeps: bool) -> u32
-    //= library/keep_nodes: A seat told from C to keep its nodes does exactly where it may push and pop, one told not to keeps
-    //=   none, and nothing else of it changes, nor anything of a ring's. It is refused exactly where the handle is empty, with
-    //=   `MSQ_NO_SEAT` and no change.
+    //= library/keep_nodes: A seat told from C to keep its nodes does exactly where it may push and pop, one told not to
+    //=   doesn't, and nothing else of it changes, nor anything of a ring's. It is refused exactly where the handle is empty,
+    //=   with `MSQ_NO_SEAT` and no change.
     ensures { Tells done_code result (AnswersKeep slot.old slot.new keeps) }
 {
     code(keep_nodes(alloc, slot, keeps))

@@ -176,8 +176,8 @@ impl<const B: u32, T> ArenaOf<B, T> {
         //= atomics/values_left (values, ends): The values left in a closed arena that carries them are those to which the
         //=   history of its values leads, in order, each with the number of the seat that pushed it; no more than nodes.
         //=   That history begins with what each seat handed in had seen of it, and goes one by one with that of the
-        //=   numbers, of which it tells what it does of any queue. The numbers are those in the words of the `Ended` that
-        //=   comes with it.
+        //=   numbers. What is said of any closed queue is so of the numbers, which are those in the words of the `Ended`
+        //=   that comes with it.
         ensures values { ClosesValues self seats.items result.0 }
         ensures ends { Leaves self result.1 (rest_in result.0) }
     {

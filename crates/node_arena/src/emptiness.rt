@@ -31,9 +31,10 @@ impl<const B: u32, T> ArenaOf<B, T> {
         //=   slot, and what it has seen of values goes on from what it had seen.
         ensures slots { KeepsSlots seat.old seat.new }
         ensures values { carries_of self.now ≡ true → SeesMoreDeeds seat.old seat.new }
-        //= atomics/emptiness (ready, found): A seat that looks whether its queue is empty is told so, shut or not, or
-        //=   that it holds a value, as it was after some history that begins with what the seat had seen and that it has
-        //=   now seen; or that Head moved, and then it has seen more pops than before. It is ready as before.
+        //= atomics/emptiness (ready, stored, found): A seat that looks whether its queue is empty is told so, shut or
+        //=   not, or that it holds a value, as it was after some history that begins with what the seat had seen and
+        //=   that it has now seen; or that Head moved, and then it has seen more pops than before. It is ready as
+        //=   before, and stores the same: its pocket, and whether it keeps its nodes.
         ensures found { FoundSo (known_of seat.old) result (known_of seat.new) }
     {
         let _ = self.setup();

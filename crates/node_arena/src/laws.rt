@@ -20,8 +20,8 @@ ghost use Rattle.node_arena.specs.Moves.{ShutsMoveNone};
 pub fn every_moment_is_linearizable()
     //= atomics/moments: In each state of the rule, so whichever threads stopped, moves, rests too, lead from the
     //=   opening world of the arena's setup, with sizes in range, to a world with exactly the shared words and an actor
-    //=   for each role, each seat's as this says. Of that world's pushes, pops and shuts, by rising place, a seat has
-    //=   seen a prefix, and its own are just its actor's. The history is placed, legal and linearizable.
+    //=   for each role, which stands as its seat knows it. Of that world's pushes, pops and shuts, by rising place, a
+    //=   seat has seen a prefix, and its own are just its actor's. The history is placed, legal and linearizable.
     ensures { EachMomentIsLinearizable }
 {}
 
@@ -75,9 +75,10 @@ pub fn a_seat_is_an_arenas_once<T>()
 /// The cause of a refusal is that of the call's last step: a call whose last step was the exchange that takes a node, won
 /// or lost, doesn't meet the cause of NoNode, whatever other worlds have its path.
 pub fn a_step_that_takes_a_node_is_not_refused<T>()
-    //= atomics/met_cause: `NoNode` and `WornOut` have their cause in a reachable traced world of the arena in which the
-    //=   seat's actor, with the call's path so far, stands before the call's last line, and that step's reply is the
-    //=   refusal. So no call whose last step took a node meets the cause of `NoNode` (`MetCause`).
+    //= atomics/met_cause: `NoNode`, `WornOut` and, of a queue's calls, `Closed` have their cause in a reachable traced
+    //=   world of the arena in which the seat's actor, with the call's path so far, stands before the call's last line,
+    //=   and that step's reply is the refusal. So no call whose last step was to take a node meets the cause of
+    //=   `NoNode` (`MetCause`).
     ensures { TakersMeetNoCause T }
 {}
 

@@ -43,9 +43,10 @@ impl<const B: u32, T> ArenaOf<B, T> {
         //= atomics/looks_on (slots, values)
         ensures slots { KeepsSlots seat.old seat.new }
         ensures values { carries_of self.now ≡ true → SeesMoreDeeds seat.old seat.new }
-        //= atomics/len (ready, long): A seat that looks how long its non-blocking queue is is told two bounds, between
-        //=   which the length was after some history that begins with what the seat had seen and that it has now seen.
-        //=   They are at most as far apart as the pops that it has newly seen, and one. It is ready as before.
+        //= atomics/len (ready, stored, long): A seat that looks how long its non-blocking queue is is told two bounds,
+        //=   between which the length was after some history that begins with what the seat had seen and that it has
+        //=   now seen. They are at most as far apart as the pops that it has newly seen, and one. It is ready as
+        //=   before, and stores the same.
         ensures long { WasSoLong (known_of seat.old) result (known_of seat.new) }
     {
         let _ = self.setup();

@@ -15,9 +15,9 @@ impl<const B: u32, T> ArenaOf<B, T> {
     pub fn look(&self, seat: &mut Seat<T>, word: usize) -> u64
         requires ready { IsReady self.now seat.old }
         requires word { word < 6 + 2 * (setup_of self.now).size }
-        //= atomics/look: A seat that looks at a word, by one load, has seen the whole history of that moment, in a
-        //=   reachable traced world in which the word holds the number answered. Since its look before Head is the
-        //=   same or its count is higher, and so is Tail in the non-blocking queue. It is ready as before.
+        //= atomics/look: A seat that looks at a word has seen the whole history of a reachable traced world in
+        //=   which the word holds the number answered. Since its look before, Head is there the same or its count
+        //=   is higher, and so is Tail in the non-blocking queue. It is ready as before.
         ensures { Looks self.now seat.old seat.new word result }
     {
         let _ = self.setup();

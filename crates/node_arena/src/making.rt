@@ -98,9 +98,9 @@ impl<const B: u32> ArenaOf<B> {
         roles: &[Role],
     ) -> Result<(ArenaOf<B>, Vec<Seat>), Refusal>
         requires split { IsSplit B }
-        //= atomics/rule: The arena's *rule* holds between any two atomic steps of any threads. No two seats have one
-        //=   number, no entry is of a seat whose role doesn't permit it, and of values that are carried each lies in the
-        //=   slot that its number names (`HoldsFor`).
+        //= atomics/rule: By what `atomic_table` states of a table, the arena's *rule* holds between any two atomic steps
+        //=   of any threads. By it no two seats have one number, no entry is of a seat whose role doesn't permit it, and
+        //=   of values that are carried each lies in the slot that its number names (`HoldsFor`).
         //= atomics/opening (ok, sized, refused): A new arena has the kind, nodes and greatest count asked for, and a
         //=   seat for each role, numbered from 1, ready, with an empty pocket, keeping no nodes. Sized.
         ensures ok { IfOk result (λ r. IsMade (making.plan B kind nodes limit roles.now) r.0 r.1.items) }

@@ -87,7 +87,7 @@ impl<T> Seat<T> {
     /// ```
     pub fn keep_nodes(&mut self, keeps: bool)
         //= atomics/keeps (ready, known, told): A seat told to keep its nodes does exactly where it may push and pop,
-        //=   one told not to keeps none; nothing else of it changes, and it is ready as before.
+        //=   one told not to doesn't; nothing else of it changes, and it is ready as before.
         ensures ready { (r : Arena) → IsReady r self.old → IsReady r self.new }
         ensures known { known_of self.new ≡ known_of self.old }
         ensures told { self.new ≡ told_to_keep self.old keeps }

@@ -60,8 +60,8 @@ impl<const B: u32, T> ArenaOf<B, T> {
         requires seat { IsSeat self.now seat.old }
         requires carries { carries_of self.now ≡ true }
         requires none { HasNoSlot seat.old }
-        //= atomics/get_slot (seat, ready, keeps, got, refused, failed): A seat that has no slot gets an empty one: that
-        //=   of a node's number, or the next one whose flag is down. Or Busy, after so many tries. Each try that failed
+        //= atomics/get_slot (*): A seat that has no slot gets an empty one, after fewer failed tries than it may make;
+        //=   or Busy, after as many. Each try that failed, at one slot after another from that of a node's number on,
         //=   was at a slot whose flag was up, in a state of the table by its rule in which the seat knew what it knew.
         //=   The seat stores and knows the same as before.
         ensures seat { IsSeat self.now seat.new }
@@ -129,8 +129,8 @@ impl<const B: u32, T> ArenaOf<B, T> {
     pub fn free_slot(&self, seat: &mut Seat<T>, slot: usize)
         requires seat { IsSeat self.now seat.old }
         requires has { HasSlot self.now seat.old slot None }
-        //= atomics/free_slot (seat, ready, keeps, none): A seat that gave back its slot has none. The slot is empty,
-        //=   at home, with its flag down, by the rule. The seat stores and knows the same as before.
+        //= atomics/free_slot (seat, ready, keeps, none): A seat that gave back its slot, which was empty, has none.
+        //=   The seat stores and knows the same as before.
         ensures seat { IsSeat self.now seat.new }
         ensures ready { IsReady self.now seat.old → IsReady self.now seat.new }
         ensures keeps { KeepsKnown seat.old seat.new }

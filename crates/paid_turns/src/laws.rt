@@ -8,7 +8,7 @@ ghost use Rattle.paid_turns.specs.Turns.{EachMomentIsPaid};
 pub fn a_seats_failed_turns_are_paid()
     //= progress/running: In the running non-blocking queue the turns of a seat that failed, in all its calls so far, are at
     //=   most 2 for each push or shut of another seat, 1 for each pop, and 1 for each node that another one took or gave
-    //=   back. That is so at each moment: of the world that the rule gives it, to which each seat fits.
+    //=   back. At each moment that is so in a reachable world with exactly the shared words, to which each seat fits.
     ensures { OfTraces (TurnsArePaid 2 1 1) }
 {}
 
@@ -23,8 +23,8 @@ pub fn each_moments_failed_turns_are_paid()
 /// and one for each node that another one took or gave back.
 pub fn the_failed_turns_of_a_running_call_are_paid()
     //= progress/running_call: Of a call of the running non-blocking queue the turns that failed are at most 1, and as many
-    //=   for what the others did meanwhile: after a world, among those that the moves at this moment went through, in which
-    //=   the seat's path was the one before the call. Of whichever last lines of a seat they are at most 2, and as many.
+    //=   for what the others did since some world on the way to this one in which the seat's path was still without the
+    //=   call. Of whichever last lines of a seat they are at most 2, and as many.
     ensures { OfTraces (CallsArePaid 1 2 1 1) }
 {}
 

@@ -4,7 +4,8 @@ use carriers::{Carrier, ItemOf, Unpushed};
 use history::Refusal;
 use node_arena::Seat;
 
-//= values/picked_calls: A queue of values of a picked split meets `Carrier`, and `CloseCarrier`.
+//= values/picked_calls: A queue of values of a picked split meets `Carrier` if its values are `Send`, and
+//=   `CloseCarrier` if they are `Drop` too.
 impl<T: Send> Carrier for ValueQueue<T> {
     ghost use Rattle.std.specs.Prelude.{◌≡◌, ◌≤◌, true, false, None, IfOk, IfErr, OnOk};
     ghost use Rattle.history.specs.Seats.{MayPush, MayPop};

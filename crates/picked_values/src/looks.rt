@@ -21,7 +21,7 @@ impl<T> ValueQueue<T> {
         requires { IsQueueSeat self.now seat.old }
         ensures seat { IsQueueSeat self.now seat.new }
         ensures stored { KeepsStored seat.old seat.new }
-        //= values/emptiness (seat, found)
+        //= values/emptiness (seat, stored, found)
         ensures found { FoundSoOf (known_by seat.old) result (known_by seat.new) }
     {
         within!(self, queue => queue.emptiness(seat))
@@ -38,7 +38,7 @@ impl<T> ValueQueue<T> {
         requires { IsQueueSeat self.now seat.old }
         ensures seat { IsQueueSeat self.now seat.new }
         ensures stored { KeepsStored seat.old seat.new }
-        //= values/len (seat, long)
+        //= values/len (seat, stored, long)
         ensures long { WasSoLongOf (known_by seat.old) result (known_by seat.new) }
     {
         within!(self, queue => queue.len(seat))

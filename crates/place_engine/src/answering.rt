@@ -41,14 +41,16 @@ pub fn place_text<R: Source, W: Sink>(
     tells_why: bool,
 ) -> Result<Told, Refusal>
     //= program/place (ok, quiet): `place_text` answers points, a reason or that it is open, for the history read or the
-    //=   recording's, and its text is written. With points the history is one of a queue, with a reason it isn't.
+    //=   recording's, and its text is written. With points the history is one of a queue, with a reason it isn't. It is
+    //=   open only where no operation is wrong by itself, and the search used up its steps, had nothing left to try, or
+    //=   found an order by which a history of at most 2,147,483,648 operations isn't one of a queue.
     //= program/judge_refusals (ok, text, prefix, write, unwritten, refusal, reader)
     //= program/why (ok, prefix): Where they are asked for, `place_text` writes behind the line of a reason, for each operation of it,
     //=   the number of its line in the text and that line itself, byte for byte (`why_text`).
     ensures ok { IfOk result (λ told. TellsPlaces (R.state reader.old).left steps tells_why
         (W.state writer.old) (W.state writer.new) told.found) }
-    //= program/overlap: Where two lines are told that say operations of one thread which overlap, they do, the first before the
-    //=   second; where none are told, none do.
+    //= program/overlap: Two lines that are told say operations of one thread that overlap, the first before the second; where
+    //=   none are told, no two do.
     ensures overlap { IfOk result (λ told. SaysOverlap (R.state reader.old).left told.overlap) }
     ensures quiet { OnOk result ((W.state writer.new).failures ≡ (W.state writer.old).failures) }
     // A text is refused by its first faulty line.

@@ -33,8 +33,9 @@ pub fn place_holding<R: Source, W: Sink>(
 ) -> Result<Told, Refusal>
     requires { AreHeld (map bytes_of held.now) }
     //= program/holding (ok, quiet, text): `place_holding` answers points, a reason or that it is open, for a recording of a queue
-    //=   that holds texts at the start, and its text is written. With points the recording is one of such a queue, by the
-    //=   points written, which are within its own operations; with a reason it isn't.
+    //=   that holds texts at the start, and its text is written. With points the recording is one of such a queue, by the points
+    //=   written, which are within its own operations; with a reason it isn't. A refused text is told by its first faulty line
+    //=   or, if it has none, by the first whose numbers leave no room for the pushes of these texts.
     ensures ok { IfOk result (λ told. TellsHolding (map bytes_of held.now) (R.state reader.old).left
         steps tells_why (W.state writer.old) (W.state writer.new) told.found) }
     //= program/overlap

@@ -42,8 +42,9 @@ enum Found {
 /// The call takes memory for the operations, and time `n * log n` for `n` of them; a search takes both for each of its
 /// steps, and those of one that ends are at most exponential. It doesn't wait. It is refused by `Memory` alone.
 pub fn place(alloc: Global, history: &[Stamped], steps: u64) -> Result<Placed, Refusal>
-    //= judge/answers (answer, only_memory): A recorded history is answered with points, by a reason that holds, or that
-    //=   neither was found, which is said of none with an operation that is wrong by itself. Or Memory.
+    //= judge/answers (answer, only_memory): A recorded history is answered with points by which it is judged Yes, its
+    //=   stamps as they were or spread, by a reason that holds, or that neither was found, which is said of none with
+    //=   an operation that is wrong by itself. Or Memory.
     ensures answer { IfOk result (IsAnswer history.now) }
     //= judge/open: Open is told by a search, defined step by step: `Steps` after as many steps as were given, of which
     //=   none ended it, `Searched` where it ended within them with nothing left to try, `Unplaced` with an order by

@@ -24,9 +24,8 @@ impl<Q: Fifo + Send + Sync + Drop> Handle<SeatPool<Q>> {
     /// // The queue ends once both are dropped.
     /// ```
     pub fn try_clone(&self) -> Option<Handle<SeatPool<Q>>>
-        //= queues/cloned (queue, counted, part, pushes, pops): A handle whose seat is leased gives one more of its queue, which
-        //=   is counted with its side, so the queue ends no sooner. Its seat is another one of the same part: it may push, and
-        //=   may pop, just where this one's may.
+        //= queues/cloned (queue, counted, part, pushes, pops): A further handle of one whose seat is leased, where it is given,
+        //=   is of the same queue and side. Its seat is of the same part: it may push, and may pop, just where this one's may.
         ensures queue { IfSome result (λ h. queue_of h ≡ queue_of self.now) }
         ensures counted { IfSome result (λ h. side_of h ≡ side_of self.now) }
         ensures part { IfSome result (λ h. part_of (seat_of h) ≡ part_of (seat_of self.now)) }

@@ -45,8 +45,8 @@ impl<Q: Fifo + Drop> Shuts for Closer<Q> {
     type Seat = Q::Seat;
 
     fn shut(self) -> (Result<(), Refusal>, Q::Seat)
-        //= queues/ended (shut, refused, refusal, caused): As the last handle of a side is dropped its closer makes one call, a
-        //=   `try_shut` of 65,536 turns: the queue is shut by this one entry, or that is refused, with its cause.
+        //= queues/ended (shut, refused, refusal, caused): A side's closer has shut its queue by one entry, or is refused, with
+        //=   the cause of a `try_shut` of 65,536 turns. That the drop of the side's last handle calls it, no clause says.
         ensures shut { OnOk result.0 (DidShut (Q.known (closer_seat self)) (Q.known result.1)) }
         ensures refused { IfErr result.0
             (λ refusal. PushRefused (Q.known (closer_seat self)) refusal (Q.known result.1)) }

@@ -26,7 +26,8 @@ pub fn parse_holding<'a>(
 ) -> Result<Vec<Stamped>, Refusal>
     requires { length held.now ≤ 1000000 }
     //= texts/holding (ok, err): A recording of a queue that holds texts at the start is parsed exactly, to the history of the
-    //=   longer recording that pushes them first.
+    //=   longer recording that pushes them first; or refused with the first line whose numbers leave no room for these
+    //=   pushes.
     ensures ok { IfOk result (λ ops. StandsHolding (map bytes_of held.now) text.now ops.items) }
     ensures err { IfErr result (IsFaultHolding (length held.now) text.now) }
 {

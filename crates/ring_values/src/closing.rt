@@ -102,8 +102,8 @@ impl<T: Send + Drop> CloseCarrier for RingValues<T> {
 
     ghost ends = { λ _ _ _. Unit {0} };
 
-    //= ring_values/rest: An end of a ring of values asks for as many seats as it has, which are all, so that each place
-    //=   that was claimed is filled, and each slot that isn't in the queue is empty: what is left is then whole.
+    //= ring_values/rest: An end of a ring of values asks for as many seats as it has. Where each of its seats is among
+    //=   them, what is left is whole.
     ghost asks = { λ q seats. length seats ≡ length (permits_of q) };
 
     //= ring_values/room: Room for what is left of a ring of values is room for a number, a slot and a value of each slot.

@@ -24,10 +24,10 @@ impl<T> RingValues<T> {
         requires { IsQueueSeat self.now seat.old }
         ensures seat { IsQueueSeat self.now seat.new }
         ensures stored { KeepsStored seat.old seat.new }
-        //= ring_values/emptiness (seat, found): A seat that looks whether its ring of values is empty is told so, shut or not, or
-        //=   that it holds a value, as it was after some deeds that begin with those that the seat had seen and that it has now
-        //=   seen; or that Head moved, and then it has seen more pops than before; or that it was shut, with a place claimed at
-        //=   its front that isn't filled. It is in no call, as before, with no slot.
+        //= ring_values/emptiness (seat, stored, found): A seat that looks whether its ring of values is empty is told so, shut or
+        //=   not, or that it holds a value, as it was after some deeds that begin with those that the seat had seen and that it
+        //=   has now seen; or that Head moved, and then it has seen more pops than before; or that it was shut, with a place
+        //=   claimed at its front that isn't filled. It is in no call, as before, with no slot and as many places in reserve.
         ensures found { FoundSoOf (plan_of self.now) seat.old seat.new result }
     {
         self.ring.emptiness_in(seat)
@@ -45,10 +45,10 @@ impl<T> RingValues<T> {
         requires { IsQueueSeat self.now seat.old }
         ensures seat { IsQueueSeat self.now seat.new }
         ensures stored { KeepsStored seat.old seat.new }
-        //= ring_values/len (seat, long): A seat that looks how long its ring of values is is told two bounds, between which the
-        //=   length was after some deeds that begin with those that the seat had seen and that it has now seen. They are at most
-        //=   as far apart as the pops that it has newly seen and, of a ring that is shut, all reserves. It is in no call, as
-        //=   before, with no slot.
+        //= ring_values/len (seat, stored, long): A seat that looks how long its ring of values is is told two bounds, between
+        //=   which the length was after some deeds that begin with those that the seat had seen and that it has now seen. They
+        //=   are at most as far apart as the pops that it has newly seen and, of a ring that is shut, all reserves. It is in no
+        //=   call, as before, with no slot and as many places in reserve.
         ensures long { WasSoLongOf (plan_of self.now) seat.old seat.new result }
     {
         self.ring.len_in(seat)
@@ -66,9 +66,10 @@ impl<T> RingValues<T> {
         requires { IsQueueSeat self.now seat.old }
         ensures seat { IsQueueSeat self.now seat.new }
         ensures stored { KeepsStored seat.old seat.new }
-        //= ring_values/left (seat, left): A seat that looks how many pushes its ring of values has left is told no more than are
-        //=   left after some deeds that begin with those that the seat had seen and that it has now seen, and just as many where
-        //=   the ring wasn't shut there. It is in no call, as before, with no slot.
+        //= ring_values/left (seat, stored, left): A seat that looks how many pushes its ring of values has left is told how
+        //=   many places are left up to its limit, but for those that all seats may have in reserve, after some deeds that
+        //=   begin with those that the seat had seen and that it has now seen; or fewer, where the ring was shut there. It is
+        //=   in no call, as before, with no slot and as many places in reserve.
         ensures left { LeavesPushesOf (plan_of self.now) seat.old seat.new result }
     {
         self.ring.left_in(seat)

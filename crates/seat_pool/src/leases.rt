@@ -207,7 +207,8 @@ impl<Q: Fifo + Drop> Lease<Q> {
     /// Takes no memory and doesn't wait.
     pub fn try_clone(&self) -> Option<Lease<Q>>
         //= leases/lease (pool, part, able): A lease is of the pool that gave it, and its seat has the part asked for, so it may push,
-        //=   and may pop, just as that part says. While it lasts nobody else has the seat.
+        //=   and may pop, just as that part says. That nobody else has the seat is a fact of its type; when there is none to give, no
+        //=   clause says.
         ensures pool { IfSome result (λ lease. pool_of lease ≡ pool_of self.now) }
         ensures part { IfSome result (λ lease. part_of lease ≡ part_of self.now) }
         ensures able { IfSome result (IsAble Q.permits Q.known) }

@@ -100,7 +100,8 @@ pub(crate) fn total<R: Threads + Wait + Sync>(
     alloc: Global,
     all: Range,
 ) -> Result<u64, Failure>
-    //= callers/split: Tasks that make further tasks, run by a fed pool, answer the exact sum of the squares of a range.
+    //= callers/split: At Ok tasks that make further tasks, run by a fed pool, answer the exact sum of the squares of a
+    //=   range.
     ensures { IfOk result (λ total. total ≡ squares_of all) }
 {
     let mut waiting = Vec::new(alloc);

@@ -26,8 +26,8 @@ pub fn on_bench<'b, R: Wait, const B: u32>(
     rt: &R,
     bench: &'b BenchOf<B>,
 ) -> MutexGuard<'b, WorldOf<B>>
-    //= both/benches (made, reached, sized): Whenever a bench's lock is got, the world behind it is reachable by its
-    //=   calls, with sizes in range.
+    //= both/benches (made, reached, sized): The world that `on_bench` lends, once it has got the bench's lock, is
+    //=   reachable by its calls, with sizes in range.
     ensures made { IsMade (mutex_guard_value result) }
     ensures reached { IsReached (mutex_guard_value result) }
     ensures sized { IsSized (mutex_guard_value result).setup (length (mutex_guard_value result).actors) }

@@ -60,6 +60,8 @@ pub fn values_are_taken_from_the_front()
 /// Every history is legal: by rising place, from the empty queue, each operation gets the reply that it was told.
 pub fn histories_are_legal()
     //= histories/legal: By rising place, from the empty queue, each operation gets the reply that it was told.
+    //=   (`NoNode`, `WornOut` and `Busy` fit any queue here; their causes are said of [both
+    //=   queues](#both-queues).)
     ensures { OfNonBlockingWorlds (λ w. IsLegal w.operations) }
 {}
 

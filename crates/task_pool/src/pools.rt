@@ -183,8 +183,8 @@ fn run_in<R: Threads + Wait + Sync, T: Task, C: CloseCarrier<Item = Numbered<T>>
 /// of each, in their order. The queue is closed.
 ///
 /// A task that finds no room in the queue is run by the submitter, in this thread. A task that fails is answered by its
-/// error, and the others go on. One is handed back only where each worker was refused before it found the queue shut and
-/// empty. A worker for which no thread can be made runs here, once all tasks are offered.
+/// error, and the others go on. One is handed back only where no worker found the queue shut and empty. A worker for which
+/// no thread can be made runs here, once all tasks are offered.
 ///
 /// Refused for want of memory alone, before any task is offered; then all comes back. Takes memory for two outcomes a task,
 /// for what `close` takes and for what workers bring back, and each thread for its results; waits.
@@ -203,7 +203,7 @@ pub fn run_on<R: Threads + Wait + Sync, T: Task, C: CloseCarrier<Item = Numbered
     ensures joined { IfOk result (λ ran. length ran.ends.items + 1 ≡ length seats.items) }
     ensures finished { IfOk result
         (λ ran. Any IsFinished ran.ends.items → All IsAnswered ran.outcomes.items) }
-    //= tasks/unrun (queue, seats, tasks): Where memory is refused nothing was run, and all comes back.
+    //= tasks/unrun (queue, seats, tasks): Refused, `run_on` gives all back. Why it is, no clause says.
     ensures queue { IfErr result (λ unrun. unrun.queue ≡ queue) }
     ensures seats { IfErr result (λ unrun. unrun.seats.items ≡ seats.items) }
     ensures tasks { IfErr result (λ unrun. unrun.tasks.items ≡ tasks.items) }

@@ -19,7 +19,9 @@ pub trait Source {
     fn read(&mut self, into: &mut [u8]) -> io::Result<usize>
         ensures bound { IfOk result (λ count. count ≤ length into.new) }
         //= texts/devices: The bytes left are those that std's reader has left, while a further failure can be counted;
-        //=   the bytes held those that std's writer holds. A `Script` is both, over bytes of its own.
+        //=   the bytes held those that std's writer holds. A `Coloured` holds, without the codes of colours, what the
+        //=   sink behind it holds and what it has yet to hand on. A `Script` is both, a `KeptText` a sink, over bytes
+        //=   of its own.
         ensures bytes { Gives (state self.old) (state self.new) result into.new }
         ensures budget { Spends (state self.old) (state self.new) result }
         //= texts/failures: A source and a sink count a failure exactly where a call answers an error.

@@ -73,7 +73,7 @@ impl<T: Send, A: Algorithm<B>, const B: u32> Carrier for QueueOf<T, A, B> {
             (λ unpushed. PushRefusedOf (known_by seat.old) unpushed.refusal (known_by seat.new)) }
         ensures refusal { IfErr result (λ unpushed. StopsPush unpushed.refusal) }
         //= values/push_causes: A push of a value is refused only with the cause of a push of a number; or `Busy`, where
-        //=   turns and tries at slots failed, `turns` together: each such slot was another's when it was tried.
+        //=   turns and tries at slots failed, `turns` together: each such slot was taken when it was tried.
         ensures caused { IfErr result (λ unpushed.
             PushRefused A.push_worn (arena_of self.now) seat.old seat.new turns unpushed.refusal) }
     {

@@ -66,7 +66,7 @@ impl<T, A: Algorithm<B>, const B: u32> QueueOf<T, A, B> {
         requires seats { All (IsQueueSeat self) seats.items }
         //= values/closed (rest, few, alike, ends): A queue whose values need not be `Drop` tells of its end what `close_with`
         //=   of `CloseCarrier` does, and gives the values left one by one, no more than nodes. The numbers left are those in
-        //=   the words of the `Ended`, and of the same seats in the same order.
+        //=   the words of the `Ended`; they were pushed by the same seats as the values left, in the same order.
         ensures rest { ClosesLeft (permits_of self) (map known_by seats.items) result.0 }
         ensures few { length (values_in result.0) ≤ (arena_of self).plan.setup.size }
         ensures alike { pushers (left_of (rest_in result.0)) ≡ pushers_of (values_in result.0) }

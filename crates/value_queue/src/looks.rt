@@ -28,9 +28,10 @@ impl<T, A: Algorithm<B>, const B: u32> QueueOf<T, A, B> {
         requires { IsQueueSeat self.now seat.old }
         ensures seat { IsQueueSeat self.now seat.new }
         ensures stored { KeepsStored seat.old seat.new }
-        //= values/emptiness (seat, found): A seat that looks whether its queue of values is empty is told so, shut or not,
-        //=   or that it holds a value, as it was after some deeds that begin with those that the seat had seen and that it
-        //=   has now seen; or that Head moved, and then it has seen more pops than before. It is in no call, as before.
+        //= values/emptiness (seat, stored, found): A seat that looks whether its queue of values is empty is told so, shut
+        //=   or not, or that it holds a value, as it was after some deeds that begin with those that the seat had seen and
+        //=   that it has now seen; or that Head moved, and then it has seen more pops than before. It is in no call, as
+        //=   before, and stores the same: its pocket, and whether it keeps its nodes.
         ensures found { FoundSoOf (known_by seat.old) result (known_by seat.new) }
     {
         self.arena.emptiness(seat)
@@ -50,9 +51,10 @@ impl<T, A: Algorithm<B>, const B: u32> QueueOf<T, A, B> {
         requires counts { A.kind ≡ NonBlocking }
         ensures seat { IsQueueSeat self.now seat.new }
         ensures stored { KeepsStored seat.old seat.new }
-        //= values/len (seat, long): A seat that looks how long its non-blocking queue of values is is told two bounds,
-        //=   between which the length was after some deeds that begin with those that the seat had seen and that it has now
-        //=   seen. They are at most as far apart as the pops that it has newly seen, and one. It is in no call, as before.
+        //= values/len (seat, stored, long): A seat that looks how long its non-blocking queue of values is is told two
+        //=   bounds, between which the length was after some deeds that begin with those that the seat had seen and that it
+        //=   has now seen. They are at most as far apart as the pops that it has newly seen, and one. It is in no call, as
+        //=   before, and stores the same.
         ensures long { WasSoLongOf (known_by seat.old) result (known_by seat.new) }
     {
         self.arena.len(seat)

@@ -20,9 +20,10 @@ pub fn tail_counts_the_pushes()
 
 /// What the counts of Free, Tail and Head in a traced world leave up to the greatest one leaves so many pushes.
 pub fn words_last_for_what_their_counts_leave()
-    //= atomics/lasts: Where in a traced world the counts of Free, Tail and Head leave so much up to the greatest one, so many
-    //=   pushes are left: the least of half of what Free's leaves above the number of nodes, of one less than what Tail's
-    //=   leaves, and of what Head's leaves above the number of nodes. Neither Tail nor Head is worn out in a world whose
-    //=   history goes on from there with fewer pushes, nor Free where fewer nodes more were taken from the free list.
+    //= atomics/lasts: Where in a traced world the counts of Free, Tail and Head leave so much up to the greatest one, these
+    //=   words last for at least so many pushes: the least of half of what Free's leaves above the number of nodes, of one
+    //=   less than what Tail's leaves, and of what Head's leaves above the number of nodes. Neither Tail nor Head is worn out
+    //=   in a world whose history goes on from there with fewer pushes, nor Free where fewer nodes more were taken from the
+    //=   free list.
     ensures { EachLasts pushes_left }
 {}
