@@ -111,8 +111,8 @@ impl<T> RingQueue<T> {
         requires all { length seats.items ≡ length (permits_in self) }
         //= ring/values_left: The values left in a closed ring that carries them lie in the slots that the numbers left name, and
         //=   are those to which the history of its values leads, in order, each of the seat that pushed it; no more than slots.
-        //=   That history begins with what each seat had seen of it, and goes one by one with that of the numbers, of which it
-        //=   tells what it does of any queue.
+        //=   That history begins with what each seat had seen of it, and goes one by one with that of the numbers. What is said
+        //=   of any closed queue is so of the numbers.
         ensures { ClosesValues self seats.items result.0 result.1.items }
     {
         let RingQueue { table, plan } = self;
@@ -136,8 +136,8 @@ impl Close for RingQueue {
 
     ghost ends = { λ _ _ _. Unit {0} };
 
-    //= ring/rest: An end of a ring asks for as many seats as it has, which are all, so that each place that was claimed is
-    //=   filled: what is left is then whole.
+    //= ring/rest: An end of a ring asks for as many seats as it has. Where each of its seats is among them, what is left
+    //=   is whole.
     ghost asks = { λ q seats. length seats ≡ length (permits_in q) };
 
     //= ring/room: Room for what is left of a ring is room for a value of each slot.

@@ -24,10 +24,12 @@ impl Fifo for RingQueue {
 
     ghost known = { known_of };
 
-    //= ring/causes (push_cause, pop_cause, shut_cause): A push with a place in reserve is refused `Closed` alone. Else a push
-    //=   has cause for `NoNode` where at its last step the ring held as many values as make it full, for `WornOut` where its
-    //=   places were used up, and for `Busy` where in each turn another had raised Head. A pop is `Busy` where in each turn Head
-    //=   was raised, or at some step of the call a place from its seat's head on had been claimed.
+    //= ring/causes (push_cause, pop_cause, shut_cause): A push or a shut is refused `Closed` only where what its seat has seen
+    //=   by the end of the call leaves the ring shut, a pop only where that leaves it empty too. A shut, and a push with a
+    //=   place in reserve, are refused so alone. Another push has cause for `NoNode` where that leaves the ring full, for
+    //=   `WornOut` where it leaves fewer places up to the limit than all seats may have in reserve, for `Busy` where Head, as
+    //=   its seat read it, rose by `turns` or more in the call. A pop is `Busy` where Head rose so, or where, after no less
+    //=   than its seat had seen before, a place from its head on had been claimed or the ring was shut.
     ghost push_cause = { push_causes };
 
     ghost pop_cause = { pop_causes };
@@ -40,10 +42,10 @@ impl Fifo for RingQueue {
 
     ghost seat_prop = { IsQueueSeat-prop };
 
-    /// Refusals: `NoNode` where at one step the queue held as many values as make it full, `WornOut` where at one step the
-    /// places were used up, `Busy` where in each of so many turns another had popped, and `Closed` where at one step the
-    /// queue was shut. With a place in reserve the push ends in two steps, whatever others do. Takes no memory and doesn't
-    /// wait.
+    /// Refusals: `NoNode` where at one step the queue held as many values as make it full, `WornOut` where at one step fewer
+    /// places were left than all seats may have in reserve, `Busy` where in each of so many turns another had popped, and
+    /// `Closed` where at one step the queue was shut. With a place in reserve the push ends in two steps, whatever others do.
+    /// Takes no memory and doesn't wait.
     fn try_push(&self, seat: &mut Seat, body: Body, turns: u32) -> Result<(), Refusal> {
         self.push_in(seat, body, turns)
     }

@@ -17,14 +17,15 @@ pub fn every_moment_is_linearizable()
 /// claimed, before C4. What it will fill it with is the front value, or the mark of a queue that is shut and empty.
 pub fn who_holds_pops_up_is_named()
     //= ring/held_up: In each state of the rule in which Head's place was claimed and isn't filled, just one seat stands with that
-    //=   place claimed, and fills it with the front value, or with the mark where the queue is shut and empty.
+    //=   place claimed, and has the front value to fill it with, or the mark where the queue is shut and empty.
     ensures { NamesWhoHoldsUp }
 {}
 
 /// A push with a place in reserve begins at C3: it claims a place there and fills it at C4, whatever the words are before its two
 /// steps, so whatever others do.
 pub fn a_push_with_a_reserve_ends_in_two_steps()
-    //= ring/two_steps: By the lines, a push of an actor with a place in reserve ends with its second step, whatever others do:
-    //=   done, and it took effect with its first step, where the ring wasn't shut before that; else refused, without effect.
+    //= ring/two_steps: In the transition system of the lines, which no clause ties to the calls, a push of an actor with a
+    //=   place in reserve ends with its second step, whatever others do: done, and it took effect with its first step, where
+    //=   the ring wasn't shut before that; else refused, without effect.
     ensures { PushesInTwoSteps }
 {}

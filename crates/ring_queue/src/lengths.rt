@@ -101,10 +101,10 @@ impl<T> RingQueue<T> {
         requires { IsQueueSeat self.now seat.old }
         ensures seat { IsQueueSeat self.now seat.new }
         ensures stored { KeepsStored seat.old seat.new }
-        //= ring/emptiness (seat, found): A seat that looks whether its ring is empty is told so, shut or not, or that it holds a
-        //=   value, as it was after some history that begins with what the seat had seen and that it has now seen; or that Head
-        //=   moved, and then it has seen more pops than before; or that it was shut, with a place claimed at its front that
-        //=   isn't filled. It is in no call, as before.
+        //= ring/emptiness (seat, stored, found): A seat that looks whether its ring is empty is told so, shut or not, or that it
+        //=   holds a value, as it was after some history that begins with what the seat had seen and that it has now seen; or
+        //=   that Head moved, and then it has seen more pops than before; or that it was shut, with a place claimed at its front
+        //=   that isn't filled. It is in no call, as before, with as many places in reserve.
         ensures found { FoundSo self.now.plan (known_of seat.old) result (known_of seat.new) }
     {
         self.emptiness_in(seat)
@@ -125,9 +125,10 @@ impl<T> RingQueue<T> {
         requires { IsQueueSeat self.now seat.old }
         ensures seat { IsQueueSeat self.now seat.new }
         ensures stored { KeepsStored seat.old seat.new }
-        //= ring/len (seat, long): A seat that looks how long its ring is is told two bounds, between which the length was after
-        //=   some history that begins with what the seat had seen and that it has now seen. They are at most as far apart as
-        //=   the pops that it has newly seen and, of a ring that is shut, all reserves. It is in no call, as before.
+        //= ring/len (seat, stored, long): A seat that looks how long its ring is is told two bounds, between which the length
+        //=   was after some history that begins with what the seat had seen and that it has now seen. They are at most as far
+        //=   apart as the pops that it has newly seen and, of a ring that is shut, all reserves. It is in no call, as before,
+        //=   with as many places in reserve.
         ensures long { WasSoLong self.now.plan (known_of seat.old) result (known_of seat.new) }
     {
         self.len_in(seat)
@@ -145,9 +146,10 @@ impl<T> RingQueue<T> {
         requires { IsQueueSeat self.now seat.old }
         ensures seat { IsQueueSeat self.now seat.new }
         ensures stored { KeepsStored seat.old seat.new }
-        //= ring/left (seat, left): A seat that looks how many pushes its ring has left is told no more than are left after some
-        //=   history that begins with what the seat had seen and that it has now seen, and just as many where the ring wasn't
-        //=   shut there. It is in no call, as before.
+        //= ring/left (seat, stored, left): A seat that looks how many pushes its ring has left is told how many places are left
+        //=   up to its limit, but for those that all seats may have in reserve, after some history that begins with what the
+        //=   seat had seen and that it has now seen; or fewer, where the ring was shut there. It is in no call, as before, with
+        //=   as many places in reserve.
         ensures left { LeavesPushes self.now.plan (known_of seat.old) result (known_of seat.new) }
     {
         self.left_in(seat)
@@ -160,7 +162,7 @@ impl<T> RingQueue<T> {
         //= ring/look_slots: A look at how many values a ring holds, or how many pushes it has left, moves no slot.
         ensures slots { KeepsSlots seat.old seat.new }
         ensures stored { KeepsStored seat.old seat.new }
-        //= ring/emptiness
+        //= ring/emptiness (seat, stored, found)
         ensures found { FoundSo self.now.plan (known_of seat.old) result (known_of seat.new) }
     {
         self.look_at_head(seat);
@@ -188,7 +190,7 @@ impl<T> RingQueue<T> {
         //= ring/look_slots
         ensures slots { KeepsSlots seat.old seat.new }
         ensures stored { KeepsStored seat.old seat.new }
-        //= ring/len
+        //= ring/len (seat, stored, long)
         ensures long { WasSoLong self.now.plan (known_of seat.old) result (known_of seat.new) }
     {
         let reserve = self.all_reserves();
@@ -213,7 +215,7 @@ impl<T> RingQueue<T> {
         //= ring/look_slots
         ensures slots { KeepsSlots seat.old seat.new }
         ensures stored { KeepsStored seat.old seat.new }
-        //= ring/left
+        //= ring/left (seat, stored, left)
         ensures left { LeavesPushes self.now.plan (known_of seat.old) result (known_of seat.new) }
     {
         let plan = self.sizes();

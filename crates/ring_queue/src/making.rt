@@ -147,7 +147,7 @@ impl<T> RingQueue<T> {
         roles: &[Role],
     ) -> Result<(RingQueue<T>, Vec<Seat<T>>), Refusal>
         //= ring/slots (ok, refused): A new ring that carries values is as a new ring of numbers, with a slot for a value for
-        //=   each slot of the ring, all empty, and no seat has one.
+        //=   each slot of the ring, and no seat has one.
         ensures ok { IfOk result
             (λ r. IsMadeFor true most credits limit roles.now r.0 r.1.items) }
         ensures refused { IfErr result (NewRefused most credits limit roles.now) }

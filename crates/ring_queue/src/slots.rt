@@ -77,9 +77,9 @@ impl<T> RingQueue<T> {
         requires seat { IsRingSeat self.now seat.old }
         requires carries { self.now.plan.carries ≡ true }
         requires none { HasNoSlot seat.old }
-        //= ring/get_slot (seat, keeps, got, refused, few, failed, busy): A seat that has no slot gets an empty one, whose flag
-        //=   was down. Or Busy, after so many tries. Each try that failed was at a slot whose flag was up, in a state of the
-        //=   table by its rule in which the seat knew what it knew. The seat stores and knows the same as before.
+        //= ring/get_slot (*): A seat that has no slot gets an empty one, after fewer failed tries than it may make; or Busy,
+        //=   after as many. Each try that failed, at one slot after another, was at a slot whose flag was up, in a state of
+        //=   the table by its rule in which the seat knew what it knew. The seat stores and knows the same as before.
         ensures seat { IsRingSeat self.now seat.new }
         ensures keeps { KeepsKnown seat.old seat.new }
         ensures got { IfOk result (λ got. HasSlot self.now.plan seat.new got.slot None) }
@@ -135,8 +135,8 @@ impl<T> RingQueue<T> {
     pub fn free_slot(&self, seat: &mut Seat<T>, slot: usize)
         requires seat { IsRingSeat self.now seat.old }
         requires has { HasSlot self.now.plan seat.old slot None }
-        //= ring/free_slot (seat, keeps, none): A seat that gave back its slot has none. The slot is empty, at home, with its
-        //=   flag down, by the rule. The seat stores and knows the same as before.
+        //= ring/free_slot (seat, keeps, none): A seat that gave back its slot, which was empty, has none. The seat stores
+        //=   and knows the same as before.
         ensures seat { IsRingSeat self.now seat.new }
         ensures keeps { KeepsKnown seat.old seat.new }
         ensures none { HasNoSlot seat.new }
