@@ -25,11 +25,12 @@ pub fn check_text<R: Source, W: Sink>(
 ) -> Result<Verdict, Refusal>
     //= program/check (ok, quiet): `check_text` answers the verdict on the history read, Yes exactly where that is placed
     //=   and legal, and its text is written.
-    //= program/judge_refusals (ok, text, prefix, write, unwritten, refusal, reader): `check_text` and `place_text`
-    //=   refuse a faulty text, of either kind, with its first faulty line and what is wrong with it, unless memory or
-    //=   reading is refused. At `Write` a prefix of the text due was written, and a write failed or took nothing; at
-    //=   any other refusal nothing was written. At Ok, and at each refusal but `Memory` and `Read`, the reader has
-    //=   told its end and didn't fail; at `Read` one call of it failed, at `Memory` none.
+    //= program/judge_refusals (ok, text, prefix, write, unwritten, refusal, reader): `check_text`, `place_text`,
+    //=   `show_found` and `history_page` refuse a faulty text with its first faulty line and what is wrong with it,
+    //=   unless memory or reading is refused. They and `place_holding` have written a prefix of the text due at
+    //=   `Write`, where a write failed or took nothing, and nothing at any other refusal. At Ok, and at each refusal
+    //=   but `Memory` and `Read`, the reader has told its end and didn't fail; at `Read` one call of it failed, at
+    //=   `Memory` none.
     ensures ok { IfOk result (TellsVerdict (R.state reader.old).left (W.state writer.old)
         (W.state writer.new)) }
     ensures quiet { OnOk result ((W.state writer.new).failures ≡ (W.state writer.old).failures) }
@@ -58,11 +59,11 @@ pub fn check_text<R: Source, W: Sink>(
 /// the reader fails; `Text`, where the bytes are no history. It takes memory; whether it waits is up
 /// to the reader.
 pub fn history_in<R: Source>(alloc: Global, reader: &mut R) -> Result<Vec<Stamped>, Refusal>
-    //= program/readings (ok, text): What is read at Ok is a history in range whose text the bytes were or, by
-    //=   `record_in`, the one of a recording in range whose text they were. A faulty text is refused with its first
-    //=   faulty line and what is wrong with it, unless memory or reading is refused. At Ok, and at each refusal but
-    //=   `Memory` and `Read`, the reader has told its end and didn't fail; at `Read` one call of it failed, at
-    //=   `Memory` none.
+    //= program/readings (*): What is read at Ok is, by `history_in`, a history in range whose text the bytes were; by
+    //=   `record_in` that, or the one of a recording in range whose text they were; by `recording_in` the bytes, and
+    //=   that they are a recording's, no clause says. Refusals are `Memory`, `Read`, and `Text` with the first faulty
+    //=   line and what is wrong with it. At Ok and at `Text` the reader has told its end and didn't fail; at `Read`
+    //=   one call of it failed, at `Memory` none.
     ensures ok { IfOk result (λ history. IsTextOf (R.state reader.old).left history.items) }
     ensures text { IfErr result (TellsFirstFault (R.state reader.old).left) }
     ensures unwritten { IfErr result (λ refusal. refusal ≢ Refusal.Write) }

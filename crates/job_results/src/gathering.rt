@@ -27,7 +27,8 @@ impl<'a> Gather<'a> {
     ///
     /// Refused by `Memory` alone. Takes memory for a result of each job.
     pub fn new(alloc: Global, jobs: &'a [Job]) -> Result<Gather<'a>, Refusal>
-        //= jobs/gathering (jobs, none): A gathering begins with no result, and has at most one a job.
+        //= jobs/gathering (jobs, none, only_memory): A gathering begins with no result, and has at most one a job. Or
+        //=   Memory.
         ensures jobs { IfOk result (λ gather. jobs_in gather ≡ jobs.now) }
         ensures none { IfOk result (λ gather. found_in gather ≡ replicate (length jobs.now) None) }
         ensures only_memory { IfErr result (λ refusal. refusal ≡ Refusal.Memory) }

@@ -14,10 +14,10 @@ use text_io::{Source, parse_source};
 /// It is refused, in this order, by `Memory`, as soon as a growth is refused; `Read`, where a call of the reader fails;
 /// `Text`, where the bytes are neither a history nor a recording. It takes memory; whether it waits is up to the reader.
 pub fn record_in<R: Source>(alloc: Global, reader: &mut R) -> Result<Given, Refusal>
+    //= program/readings (*)
     ensures ok { IfOk result
         (λ given. IsRecordOf (R.state reader.old).left given.text.items given.history.items) }
     ensures text { IfErr result (TellsFaultOfRecord (R.state reader.old).left) }
-    //= program/readings (unwritten, refusal, reader)
     ensures unwritten { IfErr result (λ refusal. refusal ≢ Refusal.Write) }
     ensures refusal { IfErr result IsRunRefusal }
     ensures reader { EndsReadingFor result (R.state reader.old) (R.state reader.new) }

@@ -42,9 +42,9 @@ impl Parser for RecordingTexts {
 /// It is refused, in this order, by `Memory`, as soon as a growth is refused; `Read`, where a call of the reader fails;
 /// `Text`, where the bytes are no recording. It takes memory; whether it waits is up to the reader.
 pub fn recording_in<R: Source>(alloc: Global, reader: &mut R) -> Result<Vec<u8>, Refusal>
+    //= program/readings (*)
     ensures ok { IfOk result (λ text. WereAll (R.state reader.old).left text.items) }
     ensures text { IfErr result (TellsFaultOfRecording (R.state reader.old).left) }
-    //= program/readings
     ensures unwritten { IfErr result (λ refusal. refusal ≢ Refusal.Write) }
     ensures refusal { IfErr result IsRunRefusal }
     ensures reader { EndsReadingFor result (R.state reader.old) (R.state reader.new) }

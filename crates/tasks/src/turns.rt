@@ -92,8 +92,8 @@ pub fn run_next<R: Wait, T: Task, C: Carrier<Item = Numbered<T>>>(
     //=   results stay. Before that its seat did nothing to the queue.
     ensures ran { IfOk result
         (RunsNext T.answers (C.known seat.old) (C.known seat.new) done.old.items done.new.items) }
-    //= tasks/refused_turn (refused, refusal, same): A refused turn popped nothing, and leaves the results. It is refused as
-    //=   a pop is, or by `Memory`.
+    //= tasks/refused_turn (refused, refusal, same, caused): A refused turn popped nothing, and leaves the results. It is
+    //=   refused as a pop is, with the cause of a try of 8 turns, or by `Memory`.
     ensures refused { IfErr result (RunsNot (C.known seat.old) (C.known seat.new)) }
     ensures refusal { IfErr result StopsTurn }
     ensures same { OnErr result (done.new.items ≡ done.old.items) }
