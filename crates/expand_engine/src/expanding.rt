@@ -12,19 +12,10 @@ use engine_faults::Fault;
 use history::{Op, Refusal};
 use line_table::Section;
 use recipe_text::{Act, Recipe, Sizes, acts_of};
+use run_engine::by_bits;
 use schedule_text::{Event, Schedule, Version};
 use std::alloc::Global;
 use step_machine::WorldOf;
-
-/// Calls the function for worlds of so many bits, one of those that are listed.
-macro_rules! by_bits {
-    ($bits:expr, $expand:ident $given:tt $($each:literal)*) => {
-        match $bits {
-            $($each => $expand::<$each> $given,)*
-            _ => unreachable!(),
-        }
-    };
-}
 
 /// The world of these sizes in which nothing happened yet.
 fn opening_world<const B: u32>(alloc: Global, sizes: &Sizes) -> Result<WorldOf<B>, Refusal>
@@ -65,8 +56,7 @@ fn events_in(alloc: Global, sizes: &Sizes, acts: &[Act]) -> Result<Vec<Event>, F
     ensures refused { IfErr result (λ fault. RefusesAt sizes.now acts.now fault.line fault.refusal) }
 {
     let bits = sizes.bits;
-    by_bits!(bits, events_with (alloc, sizes, acts)
-        16 17 18 19 20 21 22 23 24 25 26 27 28 29 30 31 32)
+    by_bits!(bits, events_with(alloc, sizes, acts))
 }
 
 /// Whether an event can be told in version 1.

@@ -1,6 +1,7 @@
 //! The engine of `msq run`: from the text of a schedule to the text of its history.
 #![tactic(auto)]
 
+mod bits;
 mod engine;
 mod running;
 mod streaming;

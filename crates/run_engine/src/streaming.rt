@@ -15,6 +15,7 @@ ghost use Rattle.schedule_text.specs.declared.schedules.Event.{Event};
 ghost use Rattle.step_machine.specs.Calls.{setup_from};
 ghost use Rattle.step_machine.specs.Machine.{opening};
 
+use crate::by_bits;
 use crate::running::make;
 use engine_faults::Fault;
 use history::{Refusal, Stamped};
@@ -22,16 +23,6 @@ use schedule_text::{EventStream, Header};
 use std::alloc::Global;
 use step_machine::WorldOf;
 use text_io::Source;
-
-/// Calls the function for worlds of so many bits, one of those that are listed.
-macro_rules! by_bits {
-    ($bits:expr, $run:ident $given:tt $($each:literal)*) => {
-        match $bits {
-            $($each => $run::<$each, R> $given,)*
-            _ => unreachable!(),
-        }
-    };
-}
 
 /// The world of a schedule in which nothing happened yet.
 fn opening_world<const B: u32>(alloc: Global, header: &Header) -> Result<WorldOf<B>, Refusal>
@@ -109,8 +100,7 @@ fn history_in<R: Source>(
         → StopsRun first (R.state reader.new) fault.refusal fault.line) }
 {
     let bits = events.header().bits;
-    by_bits!(bits, history_with (alloc, events, reader)
-        16 17 18 19 20 21 22 23 24 25 26 27 28 29 30 31 32)
+    by_bits!(bits, history_with<R>(alloc, events, reader))
 }
 
 /// The history of the schedule whose text a source gives.

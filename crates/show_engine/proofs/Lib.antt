@@ -1,5 +1,3 @@
-mod Texts
-mod HasDrawn
 mod Ends
 mod Noted
 mod Truncations

@@ -10,9 +10,9 @@ use Rattle.step_machine.specs.declared.actors.Move.TheVariants.{Begin, Step, Giv
 use Rattle.step_machine.specs.declared.actors.Stepped.{Stepped}
 use Rattle.step_machine.specs.Accesses.{touched_by}
 use Rattle.step_machine.specs.Calls.{move_answer}
-use Rattle.step_machine.specs.Machine.{World, actor_of, mover, next}
+use Rattle.step_machine.specs.Machine.{World, actor_of, mover}
 use Rattle.run_engine.specs.Runs.{opening_of}
-use Rattle.trace_engine.specs.Steps.{text_on}
+use Rattle.trace_engine.specs.Pieces.{Pieces, actors_text, moves_text}
 use Rattle.show_engine.specs.declared.framing.Frame.{Frame}
 use Rattle.show_engine.specs.declared.framing.Meaning.{Meaning}
 use Rattle.show_engine.specs.declared.framing.View.{View}
@@ -21,7 +21,7 @@ use Rattle.show_engine.specs.Rows.{names_row, number_text, queue_text, row_text,
 use Rattle.show_engine.specs.Cells.{cell_text, gives_text, touch_text}
 use Rattle.show_engine.specs.Chains.{side_text, state_text}
 use Rattle.show_engine.specs.Legends.{legend_text, lines_in}
-use Rattle.show_engine.specs.Standing.{rest_text}
+use Rattle.show_engine.specs.Standing.{shown_stand}
 
 -- these numbers, behind another one, if there is one
 abbrev pub with_point : Option ℕ → List ℕ → List ℕ
@@ -60,25 +60,20 @@ told_row f marked bits w v (Give me) (Some told) = numbered_row f bits w v me (c
 abbrev pub drawn_text : Frame → (marked : ℕ → Bool) → (bits : ℕ) → (w v : World) → Move → List ℕ
 drawn_text f marked bits w v m = if shows f (w.steps + 1) (mover m) then told_row f marked bits w v m (move_answer w m) else []
 
--- the text of moves, one after another, from a world on, where this is the text of each
-abbrev pub moves_text : (World → World → Move → List ℕ) → List Move → World → List ℕ
-moves_text text [] w = []
-moves_text text (m ∷ ms) w = text_on (λ v. text w v m ++ moves_text text ms v) (next w m)
+-- what a picture in a frame has of a run, where this says which numbers are marked, and so many bits hold a node
+abbrev pub picture_pieces : Frame → (marked : ℕ → Bool) → (bits : ℕ) → Pieces
+picture_pieces f marked bits =
+    record { heading = λ s. queue_text s ++ names_row f; each = drawn_text f marked bits; stand = shown_stand f bits; last = λ w event. [] }
 
 -- the rows of the moves of these events of a schedule, where so many bits hold a node
 abbrev pub rows_text : Frame → (marked : ℕ → Bool) → (bits : ℕ) → Schedule → List Event → List ℕ
 rows_text f marked bits s events = moves_text (drawn_text f marked bits) (moves_of events) (opening_of s)
 
--- behind a text the lines above the rows, the rows of these events of a schedule, and these rows behind theirs
-abbrev pub made_text : (before : List ℕ) → Frame → (marked : ℕ → Bool) → (bits : ℕ) → Schedule → List Event → (behind : List ℕ) → List ℕ
-made_text before f marked bits s events behind =
-    ((before ++ (queue_text s ++ names_row f)) ++ rows_text f marked bits s events) ++ behind
-
 -- a picture in a frame of these events of a schedule, which are so many steps, with these rows behind theirs, and behind it what is
 -- told of the lines in theirs
 abbrev pub framed_text : Frame → List Meaning → (marked : ℕ → Bool) → (steps bits : ℕ) → Schedule → List Event → (behind : List ℕ) → List ℕ
 framed_text f legend marked steps bits s events behind =
-    made_text [] f marked bits s events behind ++ shown_text f s.actors steps ++ legend_text f legend (lines_in f s events)
+    (((queue_text s ++ names_row f) ++ rows_text f marked bits s events) ++ behind) ++ shown_text f s.actors steps ++ legend_text f legend (lines_in f s events)
 
 -- a picture of these events of a schedule, which lead to a world, with these rows behind theirs: a row is marked where an operation
 -- of that world takes effect
@@ -90,8 +85,8 @@ events_text view s events w behind =
 abbrev pub picture_text : View → Schedule → World → List ℕ
 picture_text view s w = events_text view s s.events w []
 
--- the picture of a schedule of which these events lead to a world and the next one is refused: where actors stand then is behind
--- their rows
+-- the picture of a schedule of which these events lead to a world and the next one is refused: where the actors stand then that have
+-- columns is behind their rows
 abbrev pub stopped_text : View → Schedule → List Event → World → Event → List ℕ
 stopped_text view s before w event =
-    events_text view s before w (rest_text (frame_of view s.actors) s.bits w s.actors (Some event))
+    events_text view s before w (actors_text (shown_stand (frame_of view s.actors) s.bits w) s.actors)

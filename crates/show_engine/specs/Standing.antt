@@ -1,11 +1,10 @@
 -- Where actors stand, in their columns.
 use Rattle.std.specs.Prelude.{ℕ, List, [], ◌++◌, Option, Some, None, codes, if◌then◌else◌}
 use Rattle.line_steps.specs.Memory.{Word}
-use Rattle.schedule_text.specs.declared.schedules.Event.{Event}
 use Rattle.step_machine.specs.Accesses.{contents_in, touched_by}
 use Rattle.step_machine.specs.Calls.{line_of}
 use Rattle.step_machine.specs.Machine.{World, actor_of}
-use Rattle.trace_engine.specs.Standing.{actors_text, at_text}
+use Rattle.trace_engine.specs.Standing.{at_text}
 use Rattle.show_engine.specs.declared.framing.Frame.{Frame}
 use Rattle.show_engine.specs.Cells.{held_text, place_text}
 use Rattle.show_engine.specs.Frames.{has_column}
@@ -24,8 +23,3 @@ stand_row f bits w me (Some x) = row_text f me [] (stand_text bits w me x) []
 -- the row of where an actor stands that has a column
 abbrev pub shown_stand : Frame → (bits : ℕ) → World → (me : ℕ) → List ℕ
 shown_stand f bits w me = if has_column f me then stand_row f bits w me (touched_by w me (actor_of w me)) else []
-
--- the rows of where so many actors stand, if an event is refused
-abbrev pub rest_text : Frame → (bits : ℕ) → World → (actors : ℕ) → Option Event → List ℕ
-rest_text f bits w actors None = []
-rest_text f bits w actors (Some event) = actors_text (shown_stand f bits w) actors

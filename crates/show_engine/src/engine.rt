@@ -11,19 +11,11 @@ use crate::drawing::draw;
 use crate::framing::{Frame, View};
 use engine_faults::Fault;
 use history::Refusal;
+use run_engine::by_bits;
 use schedule_text::{Schedule, read_schedule};
 use std::alloc::Global;
 use text_io::{Sink, Source};
-
-/// Calls the function for worlds of so many bits, one of those that are listed.
-macro_rules! by_bits {
-    ($bits:expr, $show:ident $given:tt $($each:literal)*) => {
-        match $bits {
-            $($each => $show::<$each, W> $given,)*
-            _ => unreachable!(),
-        }
-    };
-}
+use trace_engine::refuse_at;
 
 /// Writes the picture of a schedule of `B` bits, which is run once before, to find where its operations take effect.
 fn show_with<const B: u32, W: Sink>(
@@ -40,13 +32,7 @@ fn show_with<const B: u32, W: Sink>(
     let counted = count::<B>(alloc, schedule)?;
     let frame = Frame::of(view, schedule.actors);
     draw::<B, W>(alloc, schedule, frame, &counted, view.legend, writer)?;
-    match counted.run.refusal {
-        None => Ok(()),
-        Some(refusal) => {
-            let before = schedule.version.header_lines() + counted.run.made as u64;
-            Err(Fault::at(before + 1, refusal))
-        }
-    }
+    refuse_at(schedule, &counted.run)
 }
 
 /// The same with as many bits as the schedule says.
@@ -61,8 +47,7 @@ fn show_in<W: Sink>(
         (writer.new ≡ writer.old) result }
 {
     let bits = schedule.bits;
-    by_bits!(bits, show_with (alloc, schedule, view, writer)
-        16 17 18 19 20 21 22 23 24 25 26 27 28 29 30 31 32)
+    by_bits!(bits, show_with<W>(alloc, schedule, view, writer))
 }
 
 /// Writes a picture of the schedule whose text the reader gives: an actor a column and a step a row, and a star where an operation

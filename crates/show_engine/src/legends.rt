@@ -9,7 +9,6 @@ ghost use Rattle.text_io.specs.Blocks.{Writes};
 ghost use Rattle.show_engine.specs.Frames.{IsFitting};
 ghost use Rattle.show_engine.specs.Legends.{has_line, legend_text, lines_in, meaning_row, with_line, with_move, with_moves, with_stepped};
 
-use crate::drawing::moves_in;
 use crate::framing::{Frame, Meaning};
 use crate::moving::mover;
 use crate::rows::pair_line;
@@ -19,7 +18,7 @@ use schedule_text::{Event, Schedule};
 use std::alloc::Global;
 use step_machine::{Move, Stepped, WorldOf, step_in};
 use text_io::{Block, Line, Sink};
-use trace_engine::{first_events, opening_world};
+use trace_engine::{first_events, moves_in, opening_world};
 
 /// Whether a line is one of these.
 fn has_line(lines: &[At], at: At) -> bool

@@ -96,9 +96,10 @@ pub fn show_found<R: Source, W: Sink>(
     view: View<'_>,
     steps: u64,
 ) -> Result<(), Refusal>
-    //= program/reason_picture (ok, quiet): `show_found` writes what `place_text` does, and behind the line of a reason a row for each
-    //=   operation whose times meet those of the reason's operations: whether it is one of these, its bar in these times, and the line
-    //=   of the text that says it, with its number, byte for byte.
+    //= program/reason_picture (ok, quiet): `show_found` writes what `place_text` does, and behind the line of a
+    //=   reason a row for each operation that the view shows from the first time of the reason's operations to their
+    //=   last: whether it is one of them, its bar, and the line of the text that says it, with its number, byte for
+    //=   byte.
     ensures ok { OnOk result (DrawsFound view.entry (R.state reader.old).left steps
         (W.state writer.old) (W.state writer.new)) }
     ensures quiet { OnOk result ((W.state writer.new).failures ≡ (W.state writer.old).failures) }

@@ -1,18 +1,15 @@
 //! The rows of where actors stand as an event is refused.
-ghost use Rattle.std.specs.Prelude.{◌≡◌, ◌++◌, Some, IsSome};
+ghost use Rattle.std.specs.Prelude.{◌≡◌, Some, IsSome};
 ghost use Rattle.step_machine.specs.Accesses.{touched_by, word_named};
 ghost use Rattle.step_machine.specs.Machine.{actor_of};
-ghost use Rattle.text_io.specs.Blocks.{Puts};
-ghost use Rattle.trace_engine.specs.Standing.{actors_text};
 ghost use Rattle.show_engine.specs.Frames.{IsFitting};
 ghost use Rattle.show_engine.specs.Standing.{shown_stand, stand_row};
 
 use crate::cells::stand_cell;
 use crate::framing::Frame;
 use crate::rows::row;
-use history::Refusal;
 use step_machine::{WordName, WorldOf};
-use text_io::{Block, Line, Sink};
+use text_io::Line;
 use trace_engine::line_of;
 
 /// The row of an actor that is there, whose next step touches this word.
@@ -26,7 +23,7 @@ fn touching_row<const B: u32>(world: &WorldOf<B>, frame: Frame, actor: u16, word
 }
 
 /// The row of where an actor stands that has a column, or nothing where it has no call.
-fn shown_stand<const B: u32>(world: &WorldOf<B>, frame: Frame, actor: u16) -> Line
+pub(crate) fn shown_stand<const B: u32>(world: &WorldOf<B>, frame: Frame, actor: u16) -> Line
     requires { IsFitting frame }
     ensures { result ≡ shown_stand frame B world.now actor }
 {
@@ -37,22 +34,4 @@ fn shown_stand<const B: u32>(world: &WorldOf<B>, frame: Frame, actor: u16) -> Li
         Some(word) => touching_row(world, frame, actor, word),
         None => Line::new(),
     }
-}
-
-/// Puts the rows of where the first so many actors stand.
-pub(crate) fn put_stands<const B: u32, W: Sink>(
-    world: &WorldOf<B>,
-    frame: Frame,
-    actors: u16,
-    block: &mut Block,
-    writer: &mut W,
-) -> Result<(), Refusal>
-    requires { IsFitting frame }
-    ensures { Puts (W.state writer.old) (W.state writer.new)
-        (block.old ++ actors_text (shown_stand frame B world.now) actors) block.new result }
-{
-    for index in 0..actors {
-        block.put(writer, shown_stand(world, frame, index + 1).as_slice())?;
-    }
-    Ok(())
 }

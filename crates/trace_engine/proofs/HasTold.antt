@@ -13,36 +13,36 @@ use Rattle.text_io.specs.Devices.{SinkState}
 use Rattle.text_io.proofs.Sends.{Sends-none, Sends-trans, Sends-all, TakesPrefix-longer, TakesPrefix-trans}
 use Rattle.run_engine.specs.Runs.{world_after}
 use Rattle.run_engine.proofs.Moves.{world_after_both, world_after_one}
-use Rattle.trace_engine.specs.Steps.{moves_text}
-use Rattle.trace_engine.specs.Tracing.{StopsTelling, Tells}
+use Rattle.trace_engine.specs.Pieces.{moves_text}
+use Rattle.trace_engine.specs.Answering.{StopsTelling, Tells}
 use Rattle.trace_engine.proofs.Texts.{moves_text-append, first_moves, later_moves, moves_of-drop, replicate-first}
 
 -- of these moves from a world on, those were made and told that led to another, and the others are left
-pub record HasTold (bits : ℕ) (old now : SinkState) (text : List ℕ) (start : World) (moves : List Move) (w : World) (held : List ℕ) (rest : List Move) : Type 0 where
+pub record HasTold (each : World → World → Move → List ℕ) (old now : SinkState) (text : List ℕ) (start : World) (moves : List Move) (w : World) (held : List ℕ) (rest : List Move) : Type 0 where
   pub before : List Move
   pub split : moves ≡ before ++ rest
   pub led : world_after before start ≡ Some w
-  pub sends : Sends old.contents now.contents (text ++ moves_text bits before start) held
+  pub sends : Sends old.contents now.contents (text ++ moves_text each before start) held
   pub quiet : now.failures ≡ old.failures
 
-module _ (bits : ℕ) (a b : SinkState) (text : List ℕ) (start : World) (moves : List Move) where
+module _ (each : World → World → Move → List ℕ) (a b : SinkState) (text : List ℕ) (start : World) (moves : List Move) where
   -- what is left can be made, where all can
-  pub HasTold-can : (w : World) (held : List ℕ) (rest : List Move) → HasTold bits a b text start moves w held rest → IsSome (world_after moves start) → IsSome (world_after rest w)
+  pub HasTold-can : (w : World) (held : List ℕ) (rest : List Move) → HasTold each a b text start moves w held rest → IsSome (world_after moves start) → IsSome (world_after rest w)
   HasTold-can w held rest t can =
       later_moves t.before rest start w t.led (subst (λ (ms : List Move). IsSome (world_after ms start)) t.split can)
 
   -- where nothing is left, all were made
-  pub HasTold-led : (w : World) (held : List ℕ) (rest : List Move) → HasTold bits a b text start moves w held rest → rest ≡ [] → world_after moves start ≡ Some w
+  pub HasTold-led : (w : World) (held : List ℕ) (rest : List Move) → HasTold each a b text start moves w held rest → rest ≡ [] → world_after moves start ≡ Some w
   HasTold-led w held rest t none =
       ap (λ (ms : List Move). world_after ms start) (t.split ∙ ap (λ (ms : List Move). t.before ++ ms) none ∙ append-nil t.before) ∙ t.led
 
   -- some more were made and told
-  pub HasTold-more : (c : SinkState) (w v : World) (held after : List ℕ) (left chunk rest : List Move) → HasTold bits a b text start moves w held left → left ≡ chunk ++ rest → world_after chunk w ≡ Some v
-      → Sends b.contents c.contents (held ++ moves_text bits chunk w) after → c.failures ≡ b.failures → HasTold bits a c text start moves v after rest
+  pub HasTold-more : (c : SinkState) (w v : World) (held after : List ℕ) (left chunk rest : List Move) → HasTold each a b text start moves w held left → left ≡ chunk ++ rest → world_after chunk w ≡ Some v
+      → Sends b.contents c.contents (held ++ moves_text each chunk w) after → c.failures ≡ b.failures → HasTold each a c text start moves v after rest
   HasTold-more c w v held after left chunk rest t parts led sends quiet =
-      let more = Sends-trans a.contents b.contents c.contents (text ++ moves_text bits t.before start) held (moves_text bits chunk w) after t.sends sends in
-      let whole : (text ++ moves_text bits t.before start) ++ moves_text bits chunk w ≡ text ++ moves_text bits (t.before ++ chunk) start =
-      append_assoc text (moves_text bits t.before start) (moves_text bits chunk w) ∙ ap (λ (l : List ℕ). text ++ l) (sym (moves_text-append bits t.before chunk start w t.led)) in
+      let more = Sends-trans a.contents b.contents c.contents (text ++ moves_text each t.before start) held (moves_text each chunk w) after t.sends sends in
+      let whole : (text ++ moves_text each t.before start) ++ moves_text each chunk w ≡ text ++ moves_text each (t.before ++ chunk) start =
+      append_assoc text (moves_text each t.before start) (moves_text each chunk w) ∙ ap (λ (l : List ℕ). text ++ l) (sym (moves_text-append each t.before chunk start w t.led)) in
       record {
         before = t.before ++ chunk;
         split = t.split ∙ ap (λ (l : List Move). t.before ++ l) parts ∙ sym (append_assoc t.before chunk rest);
@@ -52,39 +52,39 @@ module _ (bits : ℕ) (a b : SinkState) (text : List ℕ) (start : World) (moves
       }
 
   -- where the telling of some stopped, a prefix of the whole was told
-  pub HasTold-stopped : (c : SinkState) (w v : World) (held : List ℕ) (left chunk rest : List Move) → HasTold bits a b text start moves w held left → left ≡ chunk ++ rest → world_after chunk w ≡ Some v
-      → TakesPrefix b.contents c.contents (held ++ moves_text bits chunk w) → TakesPrefix a.contents c.contents (text ++ moves_text bits moves start)
+  pub HasTold-stopped : (c : SinkState) (w v : World) (held : List ℕ) (left chunk rest : List Move) → HasTold each a b text start moves w held left → left ≡ chunk ++ rest → world_after chunk w ≡ Some v
+      → TakesPrefix b.contents c.contents (held ++ moves_text each chunk w) → TakesPrefix a.contents c.contents (text ++ moves_text each moves start)
   HasTold-stopped c w v held left chunk rest t parts led begun =
-      let some = TakesPrefix-trans a.contents b.contents c.contents (text ++ moves_text bits t.before start) held (moves_text bits chunk w) t.sends begun in
-      let longer = TakesPrefix-longer a.contents c.contents ((text ++ moves_text bits t.before start) ++ moves_text bits chunk w) (moves_text bits rest v) some in
-      let here : moves_text bits chunk w ++ moves_text bits rest v ≡ moves_text bits left w = sym (ap (λ (l : List Move). moves_text bits l w) parts ∙ moves_text-append bits chunk rest w v led) in
-      let all : moves_text bits t.before start ++ moves_text bits left w ≡ moves_text bits moves start =
-      sym (ap (λ (l : List Move). moves_text bits l start) t.split ∙ moves_text-append bits t.before left start w t.led) in
-      let whole : ((text ++ moves_text bits t.before start) ++ moves_text bits chunk w) ++ moves_text bits rest v ≡ text ++ moves_text bits moves start =
-      append_assoc (text ++ moves_text bits t.before start) (moves_text bits chunk w) (moves_text bits rest v)
-      ∙ ap (λ (l : List ℕ). (text ++ moves_text bits t.before start) ++ l) here
-      ∙ append_assoc text (moves_text bits t.before start) (moves_text bits left w)
+      let some = TakesPrefix-trans a.contents b.contents c.contents (text ++ moves_text each t.before start) held (moves_text each chunk w) t.sends begun in
+      let longer = TakesPrefix-longer a.contents c.contents ((text ++ moves_text each t.before start) ++ moves_text each chunk w) (moves_text each rest v) some in
+      let here : moves_text each chunk w ++ moves_text each rest v ≡ moves_text each left w = sym (ap (λ (l : List Move). moves_text each l w) parts ∙ moves_text-append each chunk rest w v led) in
+      let all : moves_text each t.before start ++ moves_text each left w ≡ moves_text each moves start =
+      sym (ap (λ (l : List Move). moves_text each l start) t.split ∙ moves_text-append each t.before left start w t.led) in
+      let whole : ((text ++ moves_text each t.before start) ++ moves_text each chunk w) ++ moves_text each rest v ≡ text ++ moves_text each moves start =
+      append_assoc (text ++ moves_text each t.before start) (moves_text each chunk w) (moves_text each rest v)
+      ∙ ap (λ (l : List ℕ). (text ++ moves_text each t.before start) ++ l) here
+      ∙ append_assoc text (moves_text each t.before start) (moves_text each left w)
       ∙ ap (λ (l : List ℕ). text ++ l) all in
       subst (λ (l : List ℕ). TakesPrefix a.contents c.contents l) whole longer
 
 -- of copies of a move one more was made and told
-pub told_one : (bits : ℕ) (a b c : SinkState) (text : List ℕ) (start : World) (m : Move) (count i : ℕ) (w v : World) (held after : List ℕ) → i < count
-    → HasTold bits a b text start (replicate count m) w held (replicate (count - i) m) → next w m ≡ Some v
-    → Sends b.contents c.contents (held ++ moves_text bits (m ∷ []) w) after → c.failures ≡ b.failures
-    → HasTold bits a c text start (replicate count m) v after (replicate (count - (i + 1)) m)
-told_one bits a b c text start m count i w v held after few told made sends quiet =
-    HasTold-more bits a b text start (replicate count m) c w v held after (replicate (count - i) m) (m ∷ []) (replicate (count - (i + 1)) m) told (replicate-first count i m few)
+pub told_one : (each : World → World → Move → List ℕ) (a b c : SinkState) (text : List ℕ) (start : World) (m : Move) (count i : ℕ) (w v : World) (held after : List ℕ) → i < count
+    → HasTold each a b text start (replicate count m) w held (replicate (count - i) m) → next w m ≡ Some v
+    → Sends b.contents c.contents (held ++ moves_text each (m ∷ []) w) after → c.failures ≡ b.failures
+    → HasTold each a c text start (replicate count m) v after (replicate (count - (i + 1)) m)
+told_one each a b c text start m count i w v held after few told made sends quiet =
+    HasTold-more each a b text start (replicate count m) c w v held after (replicate (count - i) m) (m ∷ []) (replicate (count - (i + 1)) m) told (replicate-first count i m few)
     (world_after_one m w v made) sends quiet
 
 -- the telling of one of them stopped
-pub stopped_one : (bits : ℕ) (a b c : SinkState) (text : List ℕ) (start : World) (m : Move) (count i : ℕ) (w : World) (held : List ℕ) → i < count
-    → HasTold bits a b text start (replicate count m) w held (replicate (count - i) m) → IsSome (world_after (replicate count m) start)
-    → TakesPrefix b.contents c.contents (held ++ moves_text bits (m ∷ []) w) → TakesPrefix a.contents c.contents (text ++ moves_text bits (replicate count m) start)
-stopped_one bits a b c text start m count i w held few told can begun =
+pub stopped_one : (each : World → World → Move → List ℕ) (a b c : SinkState) (text : List ℕ) (start : World) (m : Move) (count i : ℕ) (w : World) (held : List ℕ) → i < count
+    → HasTold each a b text start (replicate count m) w held (replicate (count - i) m) → IsSome (world_after (replicate count m) start)
+    → TakesPrefix b.contents c.contents (held ++ moves_text each (m ∷ []) w) → TakesPrefix a.contents c.contents (text ++ moves_text each (replicate count m) start)
+stopped_one each a b c text start m count i w held few told can begun =
     let parts = replicate-first count i m few in
-    let left = HasTold-can bits a b text start (replicate count m) w held (replicate (count - i) m) told can in
+    let left = HasTold-can each a b text start (replicate count m) w held (replicate (count - i) m) told can in
     let first = first_moves (m ∷ []) (replicate (count - (i + 1)) m) w (subst (λ (ms : List Move). IsSome (world_after ms w)) parts left) in
-    HasTold-stopped bits a b text start (replicate count m) c w first.0 held (replicate (count - i) m) (m ∷ []) (replicate (count - (i + 1)) m) told parts first.1 begun
+    HasTold-stopped each a b text start (replicate count m) c w first.0 held (replicate (count - i) m) (m ∷ []) (replicate (count - (i + 1)) m) told parts first.1 begun
 
 -- the calls before the one at which a telling stopped didn't fail
 pub StopsTelling-behind : (a b c : SinkState) (refusal : Refusal) → b.failures ≡ a.failures → StopsTelling refusal b c → StopsTelling refusal a c
@@ -120,31 +120,31 @@ Tells-written a b text (Ok done) writes = record { ok = Sends-all a.contents b.c
 Tells-written a b text (Err refusal) writes = record { ok = tt; quiet = tt; prefix = writes.prefix; cause = StopsTelling-write a b refusal writes.only_write writes.cause }
 
 -- the moves of one event more, which are these
-module _ (bits : ℕ) (a b c : SinkState) (text : List ℕ) (start : World) (events : List Event) (i : ℕ) (event : Event) (within : i < length events) (is : event ≡ get_or events i event) (w : World) (held : List ℕ)
-    (chunk : List Move) (same : chunk ≡ moves_of_event event) (told : HasTold bits a b text start (moves_of events) w held (moves_of (drop i events))) where
+module _ (each : World → World → Move → List ℕ) (a b c : SinkState) (text : List ℕ) (start : World) (events : List Event) (i : ℕ) (event : Event) (within : i < length events) (is : event ≡ get_or events i event) (w : World) (held : List ℕ)
+    (chunk : List Move) (same : chunk ≡ moves_of_event event) (told : HasTold each a b text start (moves_of events) w held (moves_of (drop i events))) where
   parts : moves_of (drop i events) ≡ chunk ++ moves_of (drop (i + 1) events)
   parts = moves_of-drop events i event within is ∙ ap (λ (ms : List Move). ms ++ moves_of (drop (i + 1) events)) (sym same)
 
   first : IsSome (world_after (moves_of events) start) → (v : World) × (world_after chunk w ≡ Some v)
   first can =
       first_moves chunk (moves_of (drop (i + 1) events)) w
-      (subst (λ (ms : List Move). IsSome (world_after ms w)) parts (HasTold-can bits a b text start (moves_of events) w held (moves_of (drop i events)) told can))
+      (subst (λ (ms : List Move). IsSome (world_after ms w)) parts (HasTold-can each a b text start (moves_of events) w held (moves_of (drop i events)) told can))
 
   -- they can be made
   pub can_event : IsSome (world_after (moves_of events) start) → IsSome (world_after chunk w)
   can_event can = subst (λ (o : Option World). IsSome o) (sym (first can).1) refl
 
   -- they were made and told
-  pub told_event : (v : World) (after : List ℕ) → world_after chunk w ≡ Some v → Sends b.contents c.contents (held ++ moves_text bits chunk w) after → c.failures ≡ b.failures
-      → HasTold bits a c text start (moves_of events) v after (moves_of (drop (i + 1) events))
+  pub told_event : (v : World) (after : List ℕ) → world_after chunk w ≡ Some v → Sends b.contents c.contents (held ++ moves_text each chunk w) after → c.failures ≡ b.failures
+      → HasTold each a c text start (moves_of events) v after (moves_of (drop (i + 1) events))
   told_event v after led sends quiet =
-      HasTold-more bits a b text start (moves_of events) c w v held after (moves_of (drop i events)) chunk (moves_of (drop (i + 1) events)) told parts led sends quiet
+      HasTold-more each a b text start (moves_of events) c w v held after (moves_of (drop i events)) chunk (moves_of (drop (i + 1) events)) told parts led sends quiet
 
   -- their telling stopped
-  pub stopped_event : IsSome (world_after (moves_of events) start) → TakesPrefix b.contents c.contents (held ++ moves_text bits chunk w)
-      → TakesPrefix a.contents c.contents (text ++ moves_text bits (moves_of events) start)
+  pub stopped_event : IsSome (world_after (moves_of events) start) → TakesPrefix b.contents c.contents (held ++ moves_text each chunk w)
+      → TakesPrefix a.contents c.contents (text ++ moves_text each (moves_of events) start)
   stopped_event can begun =
-      HasTold-stopped bits a b text start (moves_of events) c w (first can).0 held (moves_of (drop i events)) chunk (moves_of (drop (i + 1) events)) told parts (first can).1 begun
+      HasTold-stopped each a b text start (moves_of events) c w (first can).0 held (moves_of (drop i events)) chunk (moves_of (drop (i + 1) events)) told parts (first can).1 begun
 
 -- behind what was told of a text, more of it is told
 pub Tells-then : {A : Type 0} (a b c : SinkState) (text held more after : List ℕ) (result : Result A Refusal) → Sends a.contents b.contents text held → b.failures ≡ a.failures

@@ -5,3 +5,4 @@ pub mod HasCounted
 pub mod Stops
 pub mod Answered
 pub mod Standings
+mod Traced

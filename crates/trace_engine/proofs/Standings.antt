@@ -4,7 +4,7 @@ use Rattle.std.proofs.lemmas.List.{append-nil}
 use Rattle.text_io.specs.Blocks.{Sends, TakesPrefix}
 use Rattle.text_io.specs.Devices.{SinkState}
 use Rattle.text_io.proofs.Sends.{Sends-trans, TakesPrefix-longer, TakesPrefix-trans}
-use Rattle.trace_engine.specs.Standing.{actors_text}
+use Rattle.trace_engine.specs.Pieces.{actors_text}
 
 module _ (each : ℕ → List ℕ) where
   -- one actor more

@@ -9,27 +9,27 @@ use Rattle.step_machine.specs.declared.actors.Move.{Move}
 use Rattle.step_machine.specs.Machine.{World, next, run_on}
 use Rattle.run_engine.specs.Runs.{world_after}
 use Rattle.run_engine.proofs.Moves.{world_after-append}
-use Rattle.trace_engine.specs.Steps.{move_text, text_on, moves_text}
+use Rattle.trace_engine.specs.Pieces.{text_on, moves_text}
 
 -- no value is none
 pub no_some : (A : Type 0) → IsSome {T = A} None → ⊥
 no_some A e = absurd cc
 
-module _ (bits : ℕ) where
+module _ (each : World → World → Move → List ℕ) where
   -- the text of moves, and then of more of them
-  pub moves_text-append : (xs ys : List Move) (w v : World) → world_after xs w ≡ Some v → moves_text bits (xs ++ ys) w ≡ moves_text bits xs w ++ moves_text bits ys v
-  moves_text-append [] ys w v led = let same : w ≡ v = cc in ap (moves_text bits ys) same
+  pub moves_text-append : (xs ys : List Move) (w v : World) → world_after xs w ≡ Some v → moves_text each (xs ++ ys) w ≡ moves_text each xs w ++ moves_text each ys v
+  moves_text-append [] ys w v led = let same : w ≡ v = cc in ap (moves_text each ys) same
   moves_text-append (x ∷ xs) ys w v led =
       (elim (next w x) as (λ (o : Option World). run_on (world_after xs) o ≡ Some v
-      → text_on (λ u. move_text bits w u x ++ moves_text bits (xs ++ ys) u) o ≡ text_on (λ u. move_text bits w u x ++ moves_text bits xs u) o ++ moves_text bits ys v) [
+      → text_on (λ u. each w u x ++ moves_text each (xs ++ ys) u) o ≡ text_on (λ u. each w u x ++ moves_text each xs u) o ++ moves_text each ys v) [
         | None ↦ λ e. absurd cc
-        | Some u ↦ λ e. ap (λ (t : List ℕ). move_text bits w u x ++ t) (moves_text-append xs ys u v e)
-            ∙ sym (append_assoc (move_text bits w u x) (moves_text bits xs u) (moves_text bits ys v))
+        | Some u ↦ λ e. ap (λ (t : List ℕ). each w u x ++ t) (moves_text-append xs ys u v e)
+            ∙ sym (append_assoc (each w u x) (moves_text each xs u) (moves_text each ys v))
       ]) led
 
   -- the text of one move
-  pub moves_text-one : (m : Move) (w v : World) → next w m ≡ Some v → moves_text bits (m ∷ []) w ≡ move_text bits w v m
-  moves_text-one m w v made = rw made (append-nil (move_text bits w v m))
+  pub moves_text-one : (m : Move) (w v : World) → next w m ≡ Some v → moves_text each (m ∷ []) w ≡ each w v m
+  moves_text-one m w v made = rw made (append-nil (each w v m))
 
 -- where moves can be made, the first of them can
 pub first_moves : (xs ys : List Move) (w : World) → IsSome (world_after (xs ++ ys) w) → (v : World) × (world_after xs w ≡ Some v)

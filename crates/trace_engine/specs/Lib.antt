@@ -1,5 +1,6 @@
+pub mod Pieces
 pub mod Steps
-pub mod Tracing
 pub mod Standing
 pub mod Answering
 pub mod Stopping
+pub mod Tracing

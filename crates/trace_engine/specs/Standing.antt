@@ -28,11 +28,6 @@ stand_text bits w me (Some x) =
 abbrev pub standing_text : (bits : ℕ) → World → (me : ℕ) → List ℕ
 standing_text bits w me = stand_text bits w me (touched_by w me (actor_of w me))
 
--- what this is of each of the first so many actors, one after another
-abbrev pub actors_text : (each : ℕ → List ℕ) → (actors : ℕ) → List ℕ
-actors_text each zero = []
-actors_text each (suc n) = actors_text each n ++ each (suc n)
-
 -- one where an actor touches nothing more, and else one more than so many, if so many do
 abbrev pub one_or_more : Option Word → Option ℕ → Option ℕ
 one_or_more None more = Some 1
@@ -65,13 +60,6 @@ actor_in (StepAt me l) = me
 actor_in (Steps me count) = me
 actor_in (Give me) = me
 
--- what is told of a world in which an event is refused: where so many actors stand, and how soon the call of that of the event
--- ends alone
-abbrev pub stop_text : (bits : ℕ) → World → (actors : ℕ) → Event → List ℕ
-stop_text bits w actors event =
-    actors_text (standing_text bits w) actors ++ alone_text (actor_in event) (touched_by w (actor_in event) (actor_of w (actor_in event))) (steps_alone 64 (actor_in event) w)
-
--- the same where an event is refused, and nothing where none is
-abbrev pub rest_text : (bits : ℕ) → World → (actors : ℕ) → Option Event → List ℕ
-rest_text bits w actors None = []
-rest_text bits w actors (Some event) = stop_text bits w actors event
+-- how soon the call of the actor of an event ends alone
+abbrev pub alone_told : World → Event → List ℕ
+alone_told w event = alone_text (actor_in event) (touched_by w (actor_in event) (actor_of w (actor_in event))) (steps_alone 64 (actor_in event) w)

@@ -1,5 +1,5 @@
 -- The text of the steps that a world's moves are.
-use Rattle.std.specs.Prelude.{ℕ, List, [], ◌∷◌, ◌++◌, Option, Some, None, codes, decimal}
+use Rattle.std.specs.Prelude.{ℕ, List, [], ◌++◌, Option, Some, None, codes, decimal}
 use Rattle.history_text.specs.HistoryText.{reply_text}
 use Rattle.line_steps.specs.Memory.{Shared, Word, Fresh, Free, Head, Tail, Tail_lock, Head_lock, Next, Value_of}
 use Rattle.line_table.specs.Names.{name_of}
@@ -13,8 +13,9 @@ use Rattle.step_machine.specs.declared.actors.Stepped.{Stepped}
 use Rattle.step_machine.specs.declared.actors.Stepped.TheVariants.{Began, Went, Ended}
 use Rattle.step_machine.specs.Accesses.{contents_in, touched_by}
 use Rattle.step_machine.specs.Calls.{move_answer}
-use Rattle.step_machine.specs.Machine.{World, actor_of, next}
+use Rattle.step_machine.specs.Machine.{World, actor_of}
 use Rattle.run_engine.specs.Runs.{opening_of}
+use Rattle.trace_engine.specs.Pieces.{moves_text}
 
 -- the name of a word
 abbrev pub word_text : Word → List ℕ
@@ -73,16 +74,6 @@ told_text bits w v (Give me) (Some told) = row_text v.steps me (codes " gives") 
 abbrev pub move_text : (bits : ℕ) → (w v : World) → Move → List ℕ
 move_text bits w v m = told_text bits w v m (move_answer w m)
 
--- what a world gives a text; there is none where there is no world
-abbrev pub text_on : (World → List ℕ) → Option World → List ℕ
-text_on text None = []
-text_on text (Some v) = text v
-
--- the text of moves, one after another, from a world on
-abbrev pub moves_text : (bits : ℕ) → List Move → World → List ℕ
-moves_text bits [] w = []
-moves_text bits (m ∷ ms) w = text_on (λ v. move_text bits w v m ++ moves_text bits ms v) (next w m)
-
 -- the lines before the steps: the version, the queue with its sizes, the actors, and how many lines of steps follow
 unfoldable pub header_text : Schedule → (steps : ℕ) → List ℕ
 header_text s steps =
@@ -91,7 +82,7 @@ header_text s steps =
 
 -- the text of the steps of a schedule, where so many bits hold a node
 abbrev pub steps_text : (bits : ℕ) → Schedule → List ℕ
-steps_text bits s = moves_text bits (moves_of s.events) (opening_of s)
+steps_text bits s = moves_text (move_text bits) (moves_of s.events) (opening_of s)
 
 -- the trace of a schedule that leads to a world
 abbrev pub trace_text : Schedule → World → List ℕ

@@ -1,10 +1,11 @@
-//! Runs a schedule once, to find how many of its events can be made, how many steps these are, and what the next one is refused.
-ghost use Rattle.std.specs.Prelude.{◌≡◌, ◌≤◌, None, All, IfOk, IfErr, length};
+//! How far the events of a schedule can be made: how many of them, how many steps these are, and what the next one is refused.
+ghost use Rattle.std.specs.Prelude.{◌≡◌, ◌≤◌, None, All, IfOk, IfErr, length, take};
 ghost use Rattle.history.specs.declared.refusals.Refusal.TheVariants.{Memory};
 ghost use Rattle.run_engine.specs.Runs.{EventsLead, opening_of};
 ghost use Rattle.schedule_text.specs.Texts.{IsEventInRange, IsInRange};
-ghost use Rattle.trace_engine.specs.Stopping.{IsCount, IsCountOf};
+ghost use Rattle.trace_engine.specs.Stopping.{EndsAsCounted, IsCount, IsCountOf};
 
+use engine_faults::Fault;
 use history::Refusal;
 use run_engine::make;
 use schedule_text::{Event, Schedule};
@@ -69,6 +70,14 @@ pub fn make_all<const B: u32>(world: &mut WorldOf<B>, events: &[Event]) -> Resul
     })
 }
 
+/// The first so many events of a schedule.
+pub fn first_events(schedule: &Schedule, made: usize) -> &[Event]
+    requires { made ≤ length schedule.now.events }
+    ensures { result.now ≡ take made schedule.now.events }
+{
+    &schedule.events[..made]
+}
+
 /// How far the events of a schedule can be made, on a world of their own.
 pub(crate) fn count_steps<const B: u32>(
     alloc: Global,
@@ -81,4 +90,19 @@ pub(crate) fn count_steps<const B: u32>(
 {
     let mut world = opening_world::<B>(alloc, schedule)?;
     make_all(&mut world, &schedule.events)
+}
+
+/// Refuses a schedule as the first of its events is that can't be made, with the line of that; where all can be, it is Ok.
+pub fn refuse_at(schedule: &Schedule, counted: &Counted) -> Result<(), Fault>
+    requires range { IsInRange schedule.now }
+    requires count { IsCountOf schedule.now counted.now }
+    ensures { EndsAsCounted schedule.now counted.now result }
+{
+    match counted.refusal {
+        None => Ok(()),
+        Some(refusal) => {
+            let before = schedule.version.header_lines() + counted.made as u64;
+            Err(Fault::at(before + 1, refusal))
+        }
+    }
 }

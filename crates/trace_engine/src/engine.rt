@@ -3,26 +3,16 @@ ghost use Rattle.std.specs.Prelude.{◌≡◌, ◌≢◌, ◌⊎◌, None, IfErr
 ghost use Rattle.run_engine.specs.Runs.{EndsReading, IsRunFault, RunRefused, TellsFaultyLine};
 ghost use Rattle.schedule_text.specs.Texts.{IsInRange};
 ghost use Rattle.text_io.specs.Blocks.{GivesUp};
-ghost use Rattle.trace_engine.specs.Stopping.{BeginsTrace, Traces, WritesStop};
-ghost use Rattle.trace_engine.specs.Tracing.{WritesTrace};
+ghost use Rattle.trace_engine.specs.Tracing.{BeginsTrace, Traces, WritesStop, WritesTrace};
 
-use crate::counting::count_steps;
-use crate::telling::tell_steps;
+use crate::counting::{count_steps, refuse_at};
+use crate::traces::write_trace;
 use engine_faults::Fault;
 use history::Refusal;
+use run_engine::by_bits;
 use schedule_text::{Schedule, read_schedule};
 use std::alloc::Global;
 use text_io::{Sink, Source};
-
-/// Calls the function for worlds of so many bits, one of those that are listed.
-macro_rules! by_bits {
-    ($bits:expr, $trace:ident $given:tt $($each:literal)*) => {
-        match $bits {
-            $($each => $trace::<$each, W> $given,)*
-            _ => unreachable!(),
-        }
-    };
-}
 
 /// Writes the trace of a schedule of `B` bits, which is run once before, so that the header tells how many steps there are.
 fn trace_with<const B: u32, W: Sink>(
@@ -36,14 +26,8 @@ fn trace_with<const B: u32, W: Sink>(
         result }
 {
     let counted = count_steps::<B>(alloc, schedule)?;
-    tell_steps::<B, W>(alloc, schedule, &counted, writer)?;
-    match counted.refusal {
-        None => Ok(()),
-        Some(refusal) => {
-            let before = schedule.version.header_lines() + counted.made as u64;
-            Err(Fault::at(before + 1, refusal))
-        }
-    }
+    write_trace::<B, W>(alloc, schedule, &counted, writer)?;
+    refuse_at(schedule, &counted)
 }
 
 /// The same with as many bits as the schedule says.
@@ -53,8 +37,7 @@ fn trace_in<W: Sink>(alloc: Global, schedule: &Schedule, writer: &mut W) -> Resu
         result }
 {
     let bits = schedule.bits;
-    by_bits!(bits, trace_with (alloc, schedule, writer)
-        16 17 18 19 20 21 22 23 24 25 26 27 28 29 30 31 32)
+    by_bits!(bits, trace_with<W>(alloc, schedule, writer))
 }
 
 /// Writes the trace of the schedule whose text the reader gives: a header, and then a line for each of its steps. Where an event is
@@ -93,15 +76,15 @@ pub fn trace_text<R: Source, W: Sink>(
     // At any other fault without a line nothing is.
     ensures unwritten { IfErr result (λ fault. fault.line ≡ None → fault.refusal ≢ Refusal.Write
         → fault.refusal ≢ Refusal.Memory → writer.new ≡ writer.old) }
-    //= program/stopped (stopped, none_failed_there): Where an event is refused, the trace or the picture of the events
-    //=   before it is written, and then where each actor stands that has a call and is shown; in a trace, how many
-    //=   steps alone end the call of the event's actor, too.
+    //= program/stopped (stopped, none_failed_there): Where an event is refused, the trace or the picture of the
+    //=   events before it is written, and then where each actor stands that has a call and is shown; in a trace also
+    //=   how many steps alone, of 64 at most, end the call of the event's actor, or `-`.
     ensures stopped { IfErr result (λ fault. IfSome fault.line (λ line. WritesStop (R.state reader.old).left
         line fault.refusal (W.state writer.old) (W.state writer.new))) }
     ensures none_failed_there { IfErr result (λ fault. IfSome fault.line (λ line.
         (W.state writer.new).failures ≡ (W.state writer.old).failures)) }
-    //= program/other_faults (fault, text, refused, reader): Other faults of a trace or a picture, and the reader's end,
-    //=   are as of `run_text`.
+    //= program/other_faults (fault, text, refused, reader): Other faults of a trace, a picture or a page, and the
+    //=   reader's end, are as of `run_text`.
     ensures fault { IfErr result (λ fault. IsRunFault fault.refusal fault.line) }
     // A text that is no schedule is refused by its first faulty line.
     ensures text { IfErr result (λ fault. TellsFaultyLine (R.state reader.old).left fault.refusal) }

@@ -3,15 +3,14 @@ ghost use Rattle.std.specs.Prelude.{◌≡◌, ◌+◌, ◌<◌, ◌≤◌, ◌^
 ghost use Rattle.step_machine.specs.Accesses.{touched_by, word_named};
 ghost use Rattle.step_machine.specs.Calls.{line_of};
 ghost use Rattle.step_machine.specs.Machine.{actor_of};
-ghost use Rattle.text_io.specs.Blocks.{Puts};
-ghost use Rattle.trace_engine.specs.Standing.{actor_in, actors_text, alone_text, at_text, count_text, stand_text, standing_text, steps_alone, stop_text};
+ghost use Rattle.trace_engine.specs.Standing.{actor_in, alone_text, at_text, count_text, stand_text, standing_text, steps_alone};
 
 use crate::printing::{push_contents, push_short, push_word};
-use history::{Refusal, Reply};
+use history::Reply;
 use line_table::Line as At;
 use schedule_text::Event;
 use step_machine::{WordName, WorldOf};
-use text_io::{Block, LINE_ROOM, Line, Sink};
+use text_io::{LINE_ROOM, Line};
 
 /// How many steps alone are tried for the end of a call.
 const MOST_STEPS: u32 = 64;
@@ -53,29 +52,13 @@ fn touching_line<const B: u32>(world: &WorldOf<B>, actor: u16, word: WordName) -
 }
 
 /// Where an actor stands, or nothing where it has no call.
-fn stand_line<const B: u32>(world: &WorldOf<B>, actor: u16) -> Line
+pub(crate) fn stand_line<const B: u32>(world: &WorldOf<B>, actor: u16) -> Line
     ensures { result ≡ standing_text B world.now actor }
 {
     match world.touches(actor) {
         Some(word) => touching_line(world, actor, word),
         None => Line::new(),
     }
-}
-
-/// Puts where the first so many actors stand.
-fn put_standings<const B: u32, W: Sink>(
-    world: &WorldOf<B>,
-    actors: u16,
-    block: &mut Block,
-    writer: &mut W,
-) -> Result<(), Refusal>
-    ensures { Puts (W.state writer.old) (W.state writer.new)
-        (block.old ++ actors_text (standing_text B world.now) actors) block.new result }
-{
-    for index in 0..actors {
-        block.put(writer, stand_line(world, index + 1).as_slice())?;
-    }
-    Ok(())
 }
 
 /// How many steps of an actor alone end its call, if so many at most do. They are taken.
@@ -114,7 +97,7 @@ fn push_count(line: &mut Line, count: Option<u32>)
 }
 
 /// How soon the call of an actor ends alone, or nothing where it has none.
-fn alone_line<const B: u32>(world: &mut WorldOf<B>, actor: u16) -> Line
+pub(crate) fn alone_line<const B: u32>(world: &mut WorldOf<B>, actor: u16) -> Line
     requires { world.old.steps + 64 < 2 ^ 64 }
     ensures { result ≡ alone_text actor (touched_by world.old actor (actor_of world.old actor))
         (steps_alone 64 actor world.old) }
@@ -130,7 +113,7 @@ fn alone_line<const B: u32>(world: &mut WorldOf<B>, actor: u16) -> Line
 }
 
 /// Whose event it is.
-fn actor_in(event: Event) -> u16
+pub(crate) fn actor_in(event: Event) -> u16
     ensures { result ≡ actor_in event }
 {
     match event {
@@ -139,21 +122,4 @@ fn actor_in(event: Event) -> u16
         | Event::Steps(actor, _)
         | Event::Give(actor) => actor,
     }
-}
-
-/// Puts where the first so many actors stand as an event is refused, and how soon the call of the event's actor ends alone.
-pub(crate) fn put_stop<const B: u32, W: Sink>(
-    world: &mut WorldOf<B>,
-    actors: u16,
-    event: Event,
-    block: &mut Block,
-    writer: &mut W,
-) -> Result<(), Refusal>
-    requires { world.old.steps + 64 < 2 ^ 64 }
-    ensures { Puts (W.state writer.old) (W.state writer.new)
-        (block.old ++ stop_text B world.old actors event) block.new result }
-{
-    put_standings(world, actors, block, writer)?;
-    let alone = alone_line(world, actor_in(event));
-    block.put(writer, alone.as_slice())
 }
