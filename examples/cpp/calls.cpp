@@ -7,6 +7,7 @@
 #include "msq_queue.hpp"
 
 #include <atomic>
+#include <chrono>
 #include <csignal>
 #include <cstdio>
 #include <pthread.h>
@@ -198,6 +199,8 @@ template <class Seat> void another_call_uses_the_seat(msq::kind kind) {
     while (seats[0].meet(seats[1]) != MSQ_TWO_CALLS) {
         std::this_thread::yield();
     }
+    // (it sleeps by then, and no more looks at its seat, which a close that is refused moves away and back)
+    std::this_thread::sleep_for(std::chrono::milliseconds(100));
     each(all.pushes, seats[0], "another call", MSQ_TWO_CALLS);
     each(all.pops, seats[0], "another call", MSQ_TWO_CALLS);
     each(all.shuts, seats[0], "another call", MSQ_TWO_CALLS);
