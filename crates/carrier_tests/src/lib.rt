@@ -1,4 +1,4 @@
-//! Tests of queues of values, by their calls: what no clause says.
+//! Tests of queues of values, and of channels and offices over them, by their calls: what no clause says.
 #![tactic(auto)]
 
 #[cfg(test)]

@@ -1,9 +1,11 @@
-//! Values of several types that go through queues, and come back from them.
+//! Values of several types that go through queues, channels and offices, and come back from them.
 mod calls;
 mod handed;
+mod handles;
 mod looks;
 mod memory;
 mod numbers;
+mod offices;
 mod rings;
 mod texts;
 mod waiting;

@@ -1,4 +1,5 @@
 //! Runs of letters, with the answers worked out by hand.
+mod both_runs;
 mod comparing;
 mod drawn;
 mod letters;

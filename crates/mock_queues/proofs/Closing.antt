@@ -9,7 +9,8 @@ use Rattle.history.specs.Seats.{Known, IsPermitted}
 use Rattle.history.specs.Rests.{left_of, taken_of, whole_of, was_shut_of}
 use Rattle.history.specs.Closing.{pushes_of, pops_of, IsOfOne, Closes}
 use Rattle.mock_queues.specs.declared.full.FullSeat.{FullSeat}
-use Rattle.mock_queues.specs.Full.{one_permit, knows_empties}
+use Rattle.mock_queues.specs.Permits.{one_permit}
+use Rattle.mock_queues.specs.Full.{knows_empties}
 
 -- seats that made no calls have no entries
 own_none : (seats : List FullSeat) → All (λ k. own_entries k.number [] ≡ k.mine) (map knows_empties seats)

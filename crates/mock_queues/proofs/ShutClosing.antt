@@ -12,7 +12,7 @@ use Rattle.history.specs.Seats.{Known, IsPermitted}
 use Rattle.history.specs.Rests.{left_of, taken_of, whole_of, was_shut_of}
 use Rattle.history.specs.Closing.{pushes_of, pops_of, shuts_of, IsOfOne, AreAll, Closes}
 use Rattle.mock_queues.specs.declared.shut.ShutSeat.{ShutSeat}
-use Rattle.mock_queues.specs.Full.{one_permit}
+use Rattle.mock_queues.specs.Permits.{one_permit}
 use Rattle.mock_queues.specs.Shut.{one_shut, knows_shut}
 
 -- the shut is each seat's own
@@ -41,7 +41,9 @@ has_shut s ss =
 
 -- what of such a queue holds, whoever is handed in, and whether it is whole
 module _ (seats : List ShutSeat) (rest : Rest) where
-  closes_with : left_of rest ≡ [] → taken_of rest ≡ 0 → was_shut_of rest ≡ true → (IsTrue (whole_of rest) ↔ (1 ≤ shuts_of (map knows_shut seats))) → (IsTrue (whole_of rest) → All (IsOfOne (map knows_shut seats)) one_shut) → (AreAll one_permit (map knows_shut seats) → IsTrue (whole_of rest)) → Closes one_permit (map knows_shut seats) rest
+  closes_with : left_of rest ≡ [] → taken_of rest ≡ 0 → was_shut_of rest ≡ true → (IsTrue (whole_of rest) ↔ (1 ≤ shuts_of (map knows_shut seats)))
+      → (IsTrue (whole_of rest) → All (IsOfOne (map knows_shut seats)) one_shut) → (AreAll one_permit (map knows_shut seats) → IsTrue (whole_of rest))
+      → Closes one_permit (map knows_shut seats) rest
   closes_with left taken shut whole theirs all =
       let none : length (left_of rest) ≡ 0 = ap length left in
       let is_shut : IsTrue (was_shut_of rest) = shut in
@@ -58,7 +60,8 @@ module _ (seats : List ShutSeat) (rest : Rest) where
       }
 
 -- a rest with nothing, of a queue that was shut, is whole where a seat is handed in: that one shut it
-pub closes_shut : (seats : List ShutSeat) (rest : Rest) → left_of rest ≡ [] → taken_of rest ≡ 0 → whole_of rest ≡ not (nat_eq (length seats) 0) → was_shut_of rest ≡ true → Closes one_permit (map knows_shut seats) rest
+pub closes_shut : (seats : List ShutSeat) (rest : Rest) → left_of rest ≡ [] → taken_of rest ≡ 0 → whole_of rest ≡ not (nat_eq (length seats) 0)
+    → was_shut_of rest ≡ true → Closes one_permit (map knows_shut seats) rest
 closes_shut [] rest left taken whole shut =
     closes_with [] rest left taken shut
     (λ w. absurd (let f : false ≡ true = sym whole ∙ w in cc), λ h. absurd (omega (arith, h)))

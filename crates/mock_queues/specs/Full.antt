@@ -1,20 +1,17 @@
 -- A queue with no room.
-use Rattle.std.specs.Prelude.{◌≡◌, true, List, [], ◌∷◌, replicate, refl}
+use Rattle.std.specs.Prelude.{◌≡◌, [], replicate, refl}
 use Rattle.std.proofs.Common.{le_refl, inl}
 use Rattle.std.proofs.lemmas.List.Elements.{All-nil, All-replicate}
 use Rattle.history.specs.declared.refusals.Refusal.{Refusal}
 use Rattle.history.specs.declared.refusals.Refusal.TheVariants.{NoNode, WornOut, Closed}
 use Rattle.history.specs.declared.refusals.WornWord.TheVariants.{Tail}
 use Rattle.history.specs.Queue.{empty}
-use Rattle.history.specs.Seats.{Permit, Known, IsSound, IsPermitted, IsNoted}
+use Rattle.history.specs.Seats.{Known, IsSound, IsPermitted, IsNoted}
 use Rattle.history.specs.declared.rests.Rest.{Rest}
 use Rattle.history.specs.Rests.{left_of, taken_of}
+use Rattle.mock_queues.specs.Permits.{one_permit}
 use Rattle.mock_queues.specs.declared.full.FullQueue.{FullQueue}
 use Rattle.mock_queues.specs.declared.full.FullSeat.{FullSeat}
-
--- its one seat may push and pop
-abbrev pub one_permit : List Permit
-one_permit = record { pushes = true; pops = true } ∷ []
 
 -- its seat is number 1, and sees nothing: each pop notes that the queue was empty from the start
 abbrev pub knows_empties : FullSeat → Known

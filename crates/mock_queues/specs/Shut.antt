@@ -9,7 +9,7 @@ use Rattle.history.specs.declared.refusals.Refusal.TheVariants.{Busy, Closed}
 use Rattle.history.specs.Seats.{Known, IsSound, IsPermitted, IsNoted}
 use Rattle.mock_queues.specs.declared.shut.ShutQueue.{ShutQueue}
 use Rattle.mock_queues.specs.declared.shut.ShutSeat.{ShutSeat}
-use Rattle.mock_queues.specs.Full.{one_permit}
+use Rattle.mock_queues.specs.Permits.{one_permit}
 
 -- all that was ever done: the seat of number 1 shut the queue
 abbrev pub one_shut : List Entry

@@ -30,7 +30,8 @@ impl Fifo for FullQueue {
     ghost use Rattle.std.specs.Coded.{Unit-prop};
     ghost use Rattle.history.specs.declared.refusals.Refusal.TheVariants.{NoNode, WornOut, Busy};
     ghost use Rattle.history.specs.declared.refusals.WornWord.TheVariants.{Tail};
-    ghost use Rattle.mock_queues.specs.Full.{IsFullSeat, one_permit, knows_empties, empties_are_sound, closed_never};
+    ghost use Rattle.mock_queues.specs.Permits.{one_permit};
+    ghost use Rattle.mock_queues.specs.Full.{IsFullSeat, knows_empties, empties_are_sound, closed_never};
 
     type Seat = FullSeat;
 
@@ -82,7 +83,8 @@ impl Fifo for FullQueue {
 impl Close for FullQueue {
     ghost use Rattle.std.specs.Prelude.{◌≡◌, [], map};
     ghost use Rattle.history.specs.Closing.{Closes};
-    ghost use Rattle.mock_queues.specs.Full.{one_permit, knows_empties, LeavesNone};
+    ghost use Rattle.mock_queues.specs.Permits.{one_permit};
+    ghost use Rattle.mock_queues.specs.Full.{knows_empties, LeavesNone};
 
     type End = ();
 

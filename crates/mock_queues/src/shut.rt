@@ -45,7 +45,7 @@ impl ShutSeat {
 impl Fifo for ShutQueue {
     ghost use Rattle.std.specs.Prelude.{◌≡◌};
     ghost use Rattle.std.specs.Coded.{Unit-prop};
-    ghost use Rattle.mock_queues.specs.Full.{one_permit};
+    ghost use Rattle.mock_queues.specs.Permits.{one_permit};
     ghost use Rattle.mock_queues.specs.Shut.{IsShutSeat, shut_is_sound};
 
     type Seat = ShutSeat;
@@ -94,7 +94,8 @@ impl Fifo for ShutQueue {
 impl Close for ShutQueue {
     ghost use Rattle.std.specs.Prelude.{◌≡◌, [], map};
     ghost use Rattle.history.specs.Closing.{Closes};
-    ghost use Rattle.mock_queues.specs.Full.{one_permit, LeavesNone};
+    ghost use Rattle.mock_queues.specs.Permits.{one_permit};
+    ghost use Rattle.mock_queues.specs.Full.{LeavesNone};
 
     type End = ();
 

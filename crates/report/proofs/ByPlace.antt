@@ -50,7 +50,9 @@ tied_only a b h = go (nat_cmp a b) (nat_cmp b a) refl refl h
 abbrev those : ℕ → List Stamped → List Stamped
 those k ops = filter (λ o. tied k (point_or_zero o.at)) ops
 
-apart : (k : ℕ) (o p : Stamped) → point_or_zero p.at < point_or_zero o.at → (a b : Bool) → tied k (point_or_zero o.at) ≡ a → tied k (point_or_zero p.at) ≡ b → (qs : List Stamped) → cond b (p ∷ cond a (o ∷ qs) qs) (cond a (o ∷ qs) qs) ≡ cond a (o ∷ cond b (p ∷ qs) qs) (cond b (p ∷ qs) qs)
+apart : (k : ℕ) (o p : Stamped) → point_or_zero p.at < point_or_zero o.at → (a b : Bool) → tied k (point_or_zero o.at) ≡ a
+    → tied k (point_or_zero p.at) ≡ b → (qs : List Stamped) → cond b (p ∷ cond a (o ∷ qs) qs) (cond a (o ∷ qs) qs) ≡ cond a (o ∷ cond b (p ∷ qs) qs)
+    (cond b (p ∷ qs) qs)
 apart k o p l true true e f qs =
     let x : k ≡ point_or_zero o.at = tied_only k _ e in
     let y : k ≡ point_or_zero p.at = tied_only k _ f in
@@ -74,7 +76,9 @@ those-by_point : (k : ℕ) (ops : List Stamped) → those k (by_point ops) ≡ t
 those-by_point k [] = refl
 those-by_point k (o ∷ os) = go (is_some o.at) (those-by_point k os)
   where
-    go : (b : Bool) → those k (by_point os) ≡ those k (filter (λ o. is_some o.at) os) → those k (if b then inserted o (by_point os) else by_point os) ≡ those k (cond b (o ∷ filter (λ o. is_some o.at) os) (filter (λ o. is_some o.at) os))
+    go : (b : Bool) → those k (by_point os) ≡ those k (filter (λ o. is_some o.at) os)
+        → those k (if b then inserted o (by_point os) else by_point os) ≡ those k
+        (cond b (o ∷ filter (λ o. is_some o.at) os) (filter (λ o. is_some o.at) os))
     go true h = those-inserted k o (by_point os) ∙ ap (λ r. cond (tied k (point_or_zero o.at)) (o ∷ r) r) h
     go false h = h
 
@@ -95,7 +99,8 @@ none : Stamped
 none = record { actor = 0; op = Deq; first = 0; last = None; at = None; reply = None }
 
 -- entries that were sorted stably by their numbers are those of the operations by rising place
-pub sorted_rising : (ops : List Stamped) (xs ys : List (ℕ × Bor Stamped)) → map shown xs ≡ map numbered (filter (λ o. is_some o.at) ops) → IsNonDecreasingBy (λ e. e.0) ys → IsStableByKey (λ e. e.0) nat_cmp xs ys → map shown ys ≡ map numbered (by_point ops)
+pub sorted_rising : (ops : List Stamped) (xs ys : List (ℕ × Bor Stamped)) → map shown xs ≡ map numbered (filter (λ o. is_some o.at) ops)
+    → IsNonDecreasingBy (λ e. e.0) ys → IsStableByKey (λ e. e.0) nat_cmp xs ys → map shown ys ≡ map numbered (by_point ops)
 sorted_rising ops xs ys e up stable =
     sorted_once (λ e. e.0) tied tied_yes tied_only (map shown ys) (map numbered (by_point ops))
     (subst Ascends (sym (numbers-shown ys)) (ascends (λ e. e.0) ys up))

@@ -12,7 +12,9 @@ module _ {X K : Type 0} (kind : X → K) (same : K → K → Bool) (yes : (a : K
   kinds xs = map kind xs
 
   -- one more element is one more of its kind
-  pub counted_more : (xs : List X) (i : ℕ) (x : X) (eq : K → K → Bool) (k : K) (old new : List (K × ℕ)) (number : ℕ) → i < length xs → x ≡ get_or xs i x → eq ≡ same → k ≡ kind x → old ≡ counts same (kinds (take i xs)) → number ≡ unwrap_or (lookup (eq k) old) 0 → new ≡ insert_entry eq old k (number + 1) → new ≡ counts same (kinds (take (i + 1) xs))
+  pub counted_more : (xs : List X) (i : ℕ) (x : X) (eq : K → K → Bool) (k : K) (old new : List (K × ℕ)) (number : ℕ) → i < length xs
+      → x ≡ get_or xs i x → eq ≡ same → k ≡ kind x → old ≡ counts same (kinds (take i xs)) → number ≡ unwrap_or (lookup (eq k) old) 0
+      → new ≡ insert_entry eq old k (number + 1) → new ≡ counts same (kinds (take (i + 1) xs))
   counted_more xs i x eq k old new number l at s e h n put =
       let one : kinds (take (i + 1) xs) ≡ kinds (take i xs) ++ k ∷ [] =
       ap kinds (take_more xs i x l ∙ ap (λ x. take i xs ++ x ∷ []) (sym at)) ∙
@@ -23,7 +25,8 @@ module _ {X K : Type 0} (kind : X → K) (same : K → K → Bool) (yes : (a : K
       sym (counts-push same yes only k (kinds (take i xs))) ∙ ap (counts same) (sym one)
 
   -- so far there are no more of a kind than elements
-  pub counted_fits : (xs : List X) (i : ℕ) (eq : K → K → Bool) (k : K) (old : List (K × ℕ)) (number : ℕ) → i < length xs → eq ≡ same → old ≡ counts same (kinds (take i xs)) → number ≡ unwrap_or (lookup (eq k) old) 0 → number ≤ i
+  pub counted_fits : (xs : List X) (i : ℕ) (eq : K → K → Bool) (k : K) (old : List (K × ℕ)) (number : ℕ) → i < length xs → eq ≡ same
+      → old ≡ counts same (kinds (take i xs)) → number ≡ unwrap_or (lookup (eq k) old) 0 → number ≤ i
   counted_fits xs i eq k old number l s h n =
       let fits : unwrap_or (lookup (same k) (counts same (kinds (take i xs)))) 0 ≤ length (kinds (take i xs)) = number_fits same yes only k (kinds (take i xs)) in
       let e : number ≡ unwrap_or (lookup (same k) (counts same (kinds (take i xs)))) 0 =

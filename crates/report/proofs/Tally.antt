@@ -43,12 +43,17 @@ module _ {K : Type 0} (same : K → K → Bool) (yes : (a : K) → same a a ≡ 
   counts_of_others x xs [] = refl
   counts_of_others x xs (k ∷ ks) = go (same x k) refl (counts_of_others x xs ks)
     where
-      go : (b : Bool) → same x k ≡ b → map (λ k. (k, count_by (same k) (x ∷ xs))) (filter (λ o. not (same x o)) ks) ≡ others x (map (λ k. (k, count_by (same k) xs)) ks) → map (λ k. (k, count_by (same k) (x ∷ xs))) (cond (not b) (k ∷ filter (λ o. not (same x o)) ks) (filter (λ o. not (same x o)) ks)) ≡ cond (not b) ((k, count_by (same k) xs) ∷ others x (map (λ k. (k, count_by (same k) xs)) ks)) (others x (map (λ k. (k, count_by (same k) xs)) ks))
+      go : (b : Bool) → same x k ≡ b → map (λ k. (k, count_by (same k) (x ∷ xs))) (filter (λ o. not (same x o)) ks) ≡ others x
+          (map (λ k. (k, count_by (same k) xs)) ks) → map (λ k. (k, count_by (same k) (x ∷ xs)))
+          (cond (not b) (k ∷ filter (λ o. not (same x o)) ks) (filter (λ o. not (same x o)) ks)) ≡ cond (not b)
+          ((k, count_by (same k) xs) ∷ others x (map (λ k. (k, count_by (same k) xs)) ks)) (others x (map (λ k. (k, count_by (same k) xs)) ks))
       go true e h = h
-      go false e h = ap (λ n. (k, n) ∷ map (λ k. (k, count_by (same k) (x ∷ xs))) (filter (λ o. not (same x o)) ks)) (count-cons k x xs false (either_way k x ∙ e) ∙ zero_plus _) ∙ ap (λ r. (k, count_by (same k) xs) ∷ r) h
+      go false e h = ap (λ n. (k, n) ∷ map (λ k. (k, count_by (same k) (x ∷ xs))) (filter (λ o. not (same x o)) ks))
+          (count-cons k x xs false (either_way k x ∙ e) ∙ zero_plus _) ∙ ap (λ r. (k, count_by (same k) xs) ∷ r) h
 
   counts-cons : (x : K) (xs : List K) → counts same (x ∷ xs) ≡ (x, 1 + count_by (same x) xs) ∷ others x (counts same xs)
-  counts-cons x xs = ap (λ n. (x, n) ∷ map (λ k. (k, count_by (same k) (x ∷ xs))) (filter (λ o. not (same x o)) (kinds_in same xs))) (count-cons x x xs true (yes x)) ∙ ap (λ r. (x, 1 + count_by (same x) xs) ∷ r) (counts_of_others x xs (kinds_in same xs))
+  counts-cons x xs = ap (λ n. (x, n) ∷ map (λ k. (k, count_by (same k) (x ∷ xs))) (filter (λ o. not (same x o)) (kinds_in same xs)))
+      (count-cons x x xs true (yes x)) ∙ ap (λ r. (x, 1 + count_by (same x) xs) ∷ r) (counts_of_others x xs (kinds_in same xs))
 
   -- an entry of a kind isn't one of the others
   others-insert_own : (k : K) (v : ℕ) (es : List (K × ℕ)) → others k (insert_entry same es k v) ≡ others k es
@@ -65,7 +70,9 @@ module _ {K : Type 0} (same : K → K → Bool) (yes : (a : K) → same a a ≡ 
   others-insert_other x k v d [] = ap (λ b. cond (not b) ((k, v) ∷ []) []) d
   others-insert_other x k v d (e ∷ es) = go (same k e.0) (same x e.0) refl refl (others-insert_other x k v d es)
     where
-      go : (b c : Bool) → same k e.0 ≡ b → same x e.0 ≡ c → others x (insert_entry same es k v) ≡ insert_entry same (others x es) k v → others x (if b then (e.0, v) ∷ es else e ∷ insert_entry same es k v) ≡ insert_entry same (cond (not c) (e ∷ others x es) (others x es)) k v
+      go : (b c : Bool) → same k e.0 ≡ b → same x e.0 ≡ c → others x (insert_entry same es k v) ≡ insert_entry same (others x es) k v
+          → others x (if b then (e.0, v) ∷ es else e ∷ insert_entry same es k v) ≡ insert_entry same (cond (not c) (e ∷ others x es) (others x es)) k
+          v
       go true true f g h = cc (sym d ∙ ap (same x) (only k e.0 f) ∙ g)
       go true false f g h =
           ap (λ b. cond (not b) ((e.0, v) ∷ others x es) (others x es)) g ∙
@@ -103,20 +110,27 @@ module _ {K : Type 0} (same : K → K → Bool) (yes : (a : K) → same a a ≡ 
       first : ℕ
       first = 1 + count_by (same x) xs
 
-      right : (b : Bool) → same k x ≡ b → insert_entry same (counts same (x ∷ xs)) k (number (counts same (x ∷ xs)) k + 1) ≡ (if b then (x, unwrap_or (cond b (Some first) (lookup (same k) (others x entries))) 0 + 1) ∷ others x entries else (x, first) ∷ insert_entry same (others x entries) k (unwrap_or (cond b (Some first) (lookup (same k) (others x entries))) 0 + 1))
+      right : (b : Bool) → same k x ≡ b → insert_entry same (counts same (x ∷ xs)) k (number (counts same (x ∷ xs)) k + 1) ≡
+          (if b then (x, unwrap_or (cond b (Some first) (lookup (same k) (others x entries))) 0 + 1) ∷ others x entries else (x, first) ∷ insert_entry
+          same (others x entries) k (unwrap_or (cond b (Some first) (lookup (same k) (others x entries))) 0 + 1))
       right b e =
           ap (λ es. insert_entry same es k (number es k + 1)) (counts-cons x xs) ∙
-          ap (λ b. if b then (x, unwrap_or (cond b (Some first) (lookup (same k) (others x entries))) 0 + 1) ∷ others x entries else (x, first) ∷ insert_entry same (others x entries) k (unwrap_or (cond b (Some first) (lookup (same k) (others x entries))) 0 + 1)) e
+          ap (λ b. if b then (x, unwrap_or (cond b (Some first) (lookup (same k) (others x entries))) 0 + 1) ∷ others x entries else
+          (x, first) ∷ insert_entry same (others x entries) k (unwrap_or (cond b (Some first) (lookup (same k) (others x entries))) 0 + 1)) e
 
-      left : (b : Bool) → same x k ≡ b → counts same (xs ++ k ∷ []) ≡ insert_entry same entries k (number entries k + 1) → counts same (x ∷ xs ++ k ∷ []) ≡ (x, 1 + (count_by (same x) xs + cond b 1 0)) ∷ others x (insert_entry same entries k (number entries k + 1))
+      left : (b : Bool) → same x k ≡ b → counts same (xs ++ k ∷ []) ≡ insert_entry same entries k (number entries k + 1)
+          → counts same (x ∷ xs ++ k ∷ []) ≡ (x, 1 + (count_by (same x) xs + cond b 1 0)) ∷ others x
+          (insert_entry same entries k (number entries k + 1))
       left b e h =
           counts-cons x (xs ++ k ∷ []) ∙ ap (λ n. (x, 1 + n) ∷ others x (counts same (xs ++ k ∷ []))) (count-push x k xs b e) ∙
           ap (λ es. (x, 1 + (count_by (same x) xs + cond b 1 0)) ∷ others x es) h
 
-      go : (b : Bool) → same k x ≡ b → counts same (xs ++ k ∷ []) ≡ insert_entry same entries k (number entries k + 1) → counts same (x ∷ xs ++ k ∷ []) ≡ insert_entry same (counts same (x ∷ xs)) k (number (counts same (x ∷ xs)) k + 1)
+      go : (b : Bool) → same k x ≡ b → counts same (xs ++ k ∷ []) ≡ insert_entry same entries k (number entries k + 1)
+          → counts same (x ∷ xs ++ k ∷ []) ≡ insert_entry same (counts same (x ∷ xs)) k (number (counts same (x ∷ xs)) k + 1)
       go true e h =
           left true (either_way x k ∙ e) h ∙
-          ap (λ r. (x, 1 + (count_by (same x) xs + 1)) ∷ r) (ap (λ z. others z (insert_entry same entries k (number entries k + 1))) (sym (only k x e)) ∙ others-insert_own k (number entries k + 1) entries ∙ ap (λ z. others z entries) (only k x e)) ∙
+          ap (λ r. (x, 1 + (count_by (same x) xs + 1)) ∷ r) (ap (λ z. others z (insert_entry same entries k (number entries k + 1)))
+          (sym (only k x e)) ∙ others-insert_own k (number entries k + 1) entries ∙ ap (λ z. others z entries) (only k x e)) ∙
           ap (λ n. (x, n) ∷ others x entries) (regrouped (count_by (same x) xs)) ∙
           sym (right true e)
       go false e h =
@@ -130,7 +144,8 @@ module _ {K : Type 0} (same : K → K → Bool) (yes : (a : K) → same a a ≡ 
   number_within k ks [] = omega arith
   number_within k ks (c ∷ cs) = go (same k c) (number_within k ks cs)
     where
-      go : (b : Bool) → number (map (λ c. (c, count_by (same c) ks)) cs) k ≤ length ks → unwrap_or (cond b (Some (count_by (same c) ks)) (lookup (same k) (map (λ c. (c, count_by (same c) ks)) cs))) 0 ≤ length ks
+      go : (b : Bool) → number (map (λ c. (c, count_by (same c) ks)) cs) k ≤ length ks
+          → unwrap_or (cond b (Some (count_by (same c) ks)) (lookup (same k) (map (λ c. (c, count_by (same c) ks)) cs))) 0 ≤ length ks
       go true h = count_by-le-length (same c) ks
       go false h = h
 

@@ -10,6 +10,8 @@ mod kinds;
 mod result_rows;
 mod result_tables;
 mod sorting;
+#[cfg(test)]
+mod tests;
 
 pub use history_tables::history_table;
 pub use kinds::Kind;

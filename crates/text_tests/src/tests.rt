@@ -10,5 +10,4 @@ mod references;
 mod schedule_faults;
 mod schedules;
 mod streams;
-mod tables;
 mod verdicts;

@@ -2,7 +2,7 @@
 use super::calls::push;
 use carriers::Unpushed;
 use history::Refusal;
-use mock_carriers::FullCarrier;
+use mock_queues::FullCarrier;
 use std::test::Fail;
 
 #[test]

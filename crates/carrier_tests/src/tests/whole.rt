@@ -2,8 +2,7 @@
 use super::calls::{pop, push, shut};
 use carriers::{Carrier, Unpushed};
 use history::{Refusal, WornWord};
-use mock_carriers::{FullCarrier, PlannedCarrier};
-use mock_queues::Listed;
+use mock_queues::{FullCarrier, Listed, PlannedCarrier};
 use std::test::Fail;
 
 /// A value without `Drop` or `Clone`: it can only be taken apart.

@@ -4,15 +4,18 @@ ghost use Rattle.std.specs.Prelude.{◌<◌};
 use crate::tests::comparing::same;
 use check_engine::check_text;
 use engine_faults::{Ending, Fault, end_of};
+use expand_engine::expand_text;
 use history::{Refusal, TextCause};
 use place_engine::{place_holding, place_text};
 use placing::Placed;
 use run_engine::run_text;
+use show_engine::{View, show_found, show_history, show_text};
 use std::alloc::Global;
 use std::fmt::Display;
 use std::process::Abort;
 use std::test::Fail;
 use text_io::{Script, Trouble};
+use trace_engine::trace_text;
 
 /// The engine of a command.
 #[derive(Clone, Copy)]
@@ -24,29 +27,46 @@ pub enum Engine {
     Why,
     /// The same of a queue that holds `one` and `two` at the start.
     Holding,
+    Trace,
+    /// Expands a recipe.
+    Expand,
+    /// Shows a schedule's run.
+    Show(View<'static>),
+    /// Shows a history.
+    Timeline(View<'static>),
+    /// Shows what is found of a history or a recording.
+    Reason(View<'static>),
 }
 
 impl Engine {
-    // How it ends.
-    fn answer(
+    /// How it ends.
+    pub(crate) fn answer(
         self,
         alloc: Global,
         reader: &mut Script,
         writer: &mut Script,
     ) -> Result<Ending, Fault> {
         match self {
-            Engine::Run => {
-                run_text(alloc, reader, writer)?;
-                Ok(Ending::Well)
+            Engine::Run => run_text(alloc, reader, writer)?,
+            Engine::Trace => trace_text(alloc, reader, writer)?,
+            Engine::Expand => expand_text(alloc, reader, writer)?,
+            Engine::Show(view) => show_text(alloc, reader, writer, view)?,
+            Engine::Timeline(view) => show_history(alloc, reader, writer, view)?,
+            Engine::Reason(view) => show_found(alloc, reader, writer, view, 1_000)?,
+            Engine::Check => return Ok(Ending::from(check_text(alloc, reader, writer)?)),
+            Engine::Place => {
+                return Ok(ending_of(&place_text(alloc, reader, writer, 1_000, false)?.found));
             }
-            Engine::Check => Ok(Ending::from(check_text(alloc, reader, writer)?)),
-            Engine::Place => Ok(ending_of(&place_text(alloc, reader, writer, 1_000, false)?.found)),
-            Engine::Why => Ok(ending_of(&place_text(alloc, reader, writer, 1_000, true)?.found)),
+            Engine::Why => {
+                return Ok(ending_of(&place_text(alloc, reader, writer, 1_000, true)?.found));
+            }
             Engine::Holding => {
                 let held: [&[u8]; 2] = [b"one", b"two"];
-                Ok(ending_of(&place_holding(alloc, reader, writer, 1_000, true, &held)?.found))
+                let told = place_holding(alloc, reader, writer, 1_000, true, &held)?;
+                return Ok(ending_of(&told.found));
             }
         }
+        Ok(Ending::Well)
     }
 }
 
@@ -74,7 +94,7 @@ pub(crate) fn does(
     requires { 0 < piece }
 {
     let mut reader = Script::reader(alloc, text, piece)?;
-    let mut writer = Script::writer(alloc, 1000, piece)?;
+    let mut writer = Script::writer(alloc, 3000, piece)?;
     let mut complaints = Script::writer(alloc, 100, piece)?;
     let outcome = engine.answer(alloc, &mut reader, &mut writer);
     let status = end_of(outcome, &mut complaints);

@@ -1,14 +1,13 @@
 //! Letters over the two-lock queue, also where it refuses.
+use super::both_runs;
+use super::both_runs::{GREATEST_COUNT, came};
 use super::comparing::same;
-use super::letters::{a_loss_is_told_from_then_on, letters_come_in_the_order_sent, take_last};
-use super::loads::LOADS;
+use super::letters::take_last;
 use super::losses::{
     a_letter_of_no_task_is_lost, a_post_in_a_shut_office_is_lost,
     tasks_in_another_order_lose_a_letter,
 };
 use super::plans::{Late, Trouble, WornHead, WornTail};
-use super::shut_offices::a_shut_ends_an_office;
-use super::sleeping::{a_receiver_is_woken, a_sender_is_woken};
 use history::{Refusal, WornWord};
 use mail_engine::mail_queue;
 use mock_queues::Planned;
@@ -20,71 +19,8 @@ use std::test::Fail;
 use std::thread::Threads;
 use two_lock::TwoLockAlgorithm;
 
-/// The greatest count of all.
-const GREATEST_COUNT: u64 = 1_099_511_627_775;
-
 /// How often sender 1 and sender 2 try to be the first.
 const TRIES: u32 = 100;
-
-/// Three letters of two senders come in the order in which they were sent; then there is none.
-#[test]
-fn in_the_order_sent(rt: HostRuntime) -> Result<(), Fail> {
-    let (queue, seats, receiver) = mail_queue::<TwoLockAlgorithm>(rt.alloc(), 7, 100, 2)?;
-    letters_come_in_the_order_sent(&rt, rt.alloc(), queue, seats, receiver)?;
-    Ok(())
-}
-
-/// After a shut nothing is sent; what was sent before is taken, in order, and then each take finds the queue shut.
-#[test]
-fn what_was_sent_is_taken_after_a_shut(rt: HostRuntime) -> Result<(), Fail> {
-    let (queue, seats, receiver) = mail_queue::<TwoLockAlgorithm>(rt.alloc(), 7, 100, 2)?;
-    a_shut_ends_an_office(&rt, rt.alloc(), queue, seats, receiver)?;
-    Ok(())
-}
-
-/// A body that is no letter's index is lost, and then each take is.
-#[test]
-fn lost_from_then_on(rt: HostRuntime) -> Result<(), Fail> {
-    let (queue, seats, receiver) = mail_queue::<TwoLockAlgorithm>(rt.alloc(), 7, 100, 2)?;
-    a_loss_is_told_from_then_on(&rt, rt.alloc(), queue, seats, receiver)?;
-    Ok(())
-}
-
-// Posts the letters of so many senders, on 4,006 nodes: how many came, where each sender's came in order, and whether the
-// queue was then shut.
-fn came<R: Threads + Wait + Clock + Sync>(
-    rt: &R,
-    alloc: Global,
-    senders: u16,
-    load: Load,
-) -> Result<(Option<usize>, bool), Refusal> {
-    let (queue, seats, receiver) = mail_queue::<TwoLockAlgorithm>(
-        alloc,
-        4006,
-        GREATEST_COUNT,
-        senders,
-    )?;
-    let came = posted(rt, alloc, queue, seats, receiver, load)?;
-    Ok((came.in_order, came.shut))
-}
-
-/// All letters come, each sender's in their order, also where there are no letters, or no senders; and the queue is shut
-/// afterwards, where there are senders.
-/// Mutants, by hand, that fail here: a `post` in which the first sender that ends shuts; one that stops at the first take that
-/// finds none.
-#[test]
-fn each_senders_letters_come_in_order(rt: HostRuntime) -> Result<(), Fail> {
-    for (senders, count, all) in &LOADS {
-        let load = Load {
-            first: *count,
-            others: *count,
-        };
-        let found = came(&rt, rt.alloc(), *senders, load);
-        let tried = format_args!("{senders} senders of {count} letters");
-        same(&rt, found, Ok((Some(*all), *senders > 0)), tried);
-    }
-    Ok(())
-}
 
 /// Where one allocation is refused, the answer is the usual one or `Memory`, and the next post gives all letters.
 #[test]
@@ -93,8 +29,8 @@ fn a_refused_allocation_is_told_once(rt: HostRuntime) -> Result<(), Fail> {
         first: 2,
         others: 2,
     };
-    let found = match came(&rt, rt.alloc(), 2, load) {
-        Err(Refusal::Memory) => came(&rt, rt.alloc(), 2, load),
+    let found = match came::<TwoLockAlgorithm, _>(&rt, rt.alloc(), 2, load) {
+        Err(Refusal::Memory) => came::<TwoLockAlgorithm, _>(&rt, rt.alloc(), 2, load),
         found => found,
     };
     same(&rt, found, Ok((Some(4), true)), "");
@@ -195,35 +131,6 @@ fn a_post_ends_where_its_receiver_is_refused(rt: HostRuntime) -> Result<(), Fail
     Ok(())
 }
 
-/// A receiver is woken by a letter and by a shut, and a sender beside a full queue by a take.
-/// Mutants, by hand, with which this doesn't end: a push, a pop or a shut that wakes nobody.
-#[test]
-fn who_sleeps_is_woken(rt: HostRuntime) -> Result<(), Fail> {
-    let (queue, seats, receiver) = mail_queue::<TwoLockAlgorithm>(rt.alloc(), 4, 100, 1)?;
-    a_receiver_is_woken(&rt, rt.alloc(), queue, seats, receiver)?;
-    let (queue, seats, receiver) = mail_queue::<TwoLockAlgorithm>(rt.alloc(), 2, 100, 1)?;
-    a_sender_is_woken(&rt, rt.alloc(), queue, seats, receiver)?;
-    Ok(())
-}
-
-/// All letters come through a queue with room for one.
-#[test]
-fn letters_come_through_a_small_queue(rt: HostRuntime) -> Result<(), Fail> {
-    let (queue, seats, receiver) = mail_queue::<TwoLockAlgorithm>(
-        rt.alloc(),
-        2,
-        GREATEST_COUNT,
-        4,
-    )?;
-    let load = Load {
-        first: 200,
-        others: 200,
-    };
-    let came = posted(&rt, rt.alloc(), queue, seats, receiver, load)?;
-    same(&rt, (came.in_order, came.shut), (Some(800), true), "");
-    Ok(())
-}
-
 /// A letter that isn't the next one of its sender's is lost, or that is of no task; so are those of an office that was shut
 /// before.
 #[test]
@@ -262,4 +169,34 @@ fn the_first_senders_refusal_is_answered(rt: HostRuntime) -> Result<(), Fail> {
     let found = free_is_answered(&rt, rt.alloc());
     same(&rt, found, Ok(true), "");
     Ok(())
+}
+
+#[test]
+fn in_the_order_sent(rt: HostRuntime) -> Result<(), Fail> {
+    both_runs::in_the_order_sent::<TwoLockAlgorithm, _>(&rt)
+}
+
+#[test]
+fn what_was_sent_is_taken_after_a_shut(rt: HostRuntime) -> Result<(), Fail> {
+    both_runs::what_was_sent_is_taken_after_a_shut::<TwoLockAlgorithm, _>(&rt)
+}
+
+#[test]
+fn lost_from_then_on(rt: HostRuntime) -> Result<(), Fail> {
+    both_runs::lost_from_then_on::<TwoLockAlgorithm, _>(&rt)
+}
+
+#[test]
+fn each_senders_letters_come_in_order(rt: HostRuntime) -> Result<(), Fail> {
+    both_runs::each_senders_letters_come_in_order::<TwoLockAlgorithm, _>(&rt)
+}
+
+#[test]
+fn who_sleeps_is_woken(rt: HostRuntime) -> Result<(), Fail> {
+    both_runs::who_sleeps_is_woken::<TwoLockAlgorithm, _>(&rt)
+}
+
+#[test]
+fn letters_come_through_a_small_queue(rt: HostRuntime) -> Result<(), Fail> {
+    both_runs::letters_come_through_a_small_queue::<TwoLockAlgorithm, _>(&rt)
 }

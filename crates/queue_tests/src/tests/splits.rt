@@ -1,17 +1,14 @@
 //! Both queues where 16, 24 or 32 bits of a reference hold the number of a node.
-ghost use Rattle.std.specs.Prelude.{IfOk};
-ghost use Rattle.std.specs.List.{All};
 ghost use Rattle.counted_ref.specs.Ref.{IsSplit};
-ghost use Rattle.arena_queue.specs.Queues.{IsQueueSeat};
 
+use super::both_runs::queue_of;
 use super::comparing::same;
 use super::runs::{
     AMPLE_COUNT, GIVES_AND_SHUTS, ROUNDS_COUNT, TAKES_TO_THE_END, goes, last,
     one_seat_pops_what_it_pushed, words_of,
 };
-use arena_queue::{Algorithm, ArenaQueueOf};
-use history::Refusal;
-use node_arena::{Held, Role, Seat};
+use arena_queue::Algorithm;
+use node_arena::{Held, Role};
 use nonblocking::NonBlockingAlgorithm;
 use std::alloc::Global;
 use std::process::Abort;
@@ -115,22 +112,6 @@ const NON_BLOCKING_WORDS: [[u64; 12]; 3] = [
 
 /// The roles of the two seats of a queue that is shut.
 const ROLES: [Role; 2] = [Role::Giver, Role::Taker];
-
-// A queue of so many nodes and this greatest count, with a seat for each role.
-fn queue_of<A: Algorithm<B>, const B: u32>(
-    alloc: Global,
-    nodes: u32,
-    limit: u64,
-    roles: &[Role],
-) -> Result<(ArenaQueueOf<A, B>, Vec<Seat>), Refusal>
-    requires split { IsSplit B }
-    ensures { IfOk result (λ r. All (IsQueueSeat r.0) r.1.items) }
-{
-    match ArenaQueueOf::new(alloc, nodes, limit, roles) {
-        Ok(made) => Ok(made),
-        Err(refusal) => Err(refusal),
-    }
-}
 
 // Seat 1 of a new queue pushes and shuts it, seat 2 takes to the end, and the words are then these. A push that finds the
 // queue shut keeps its node in the pocket, and a shut leaves it there.

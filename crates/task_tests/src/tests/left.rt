@@ -4,7 +4,7 @@ use arena_queue::Algorithm;
 use blocking_carrier::BlockingCarrier;
 use executor::pool_queue;
 use history::Refusal;
-use mock_carriers::FullCarrier;
+use mock_queues::FullCarrier;
 use node_arena::MOST_COUNT;
 use nonblocking::NonBlockingAlgorithm;
 use std::alloc::Global;

@@ -19,6 +19,7 @@ overflow_add-number c =
 
 pub loop-operation-preserved : goal.loop-operation-preserved
 loop-operation-preserved c =
-    counted_more operation_kind same_kind same_kind_yes same_kind_only c.args.history.now c.loop-operation.operation-index c.operation-item.result _ c.kind_of_reply-kind.result _ _ c.unwrap_or-number.result c.loop-operation-test.true
+    counted_more operation_kind same_kind same_kind_yes same_kind_only c.args.history.now c.loop-operation.operation-index c.operation-item.result _
+    c.kind_of_reply-kind.result _ _ c.unwrap_or-number.result c.loop-operation-test.true
     c.operation-item.is equals_is c.kind_of_reply-kind.ensures c.loop-operation.invariant
     (c.unwrap_or-number.ensures ∙ ap (λ o. unwrap_or o 0) (c.copied.ensures ∙ c.get.ensures.value)) c.in-Ok.ensures.entries

@@ -21,6 +21,7 @@ overflow_add-number c =
 
 pub loop-result_of-preserved : goal.loop-result_of-preserved
 loop-result_of-preserved c =
-    counted_more kind_in same_job_kind same_job_kind_yes same_job_kind_only c.args.results.now c.loop-result_of.result_of-index c.result_of-item.result _ c.kind-kind.result _ _ c.unwrap_or-number.result c.loop-result_of-test.true
+    counted_more kind_in same_job_kind same_job_kind_yes same_job_kind_only c.args.results.now c.loop-result_of.result_of-index
+    c.result_of-item.result _ c.kind-kind.result _ _ c.unwrap_or-number.result c.loop-result_of-test.true
     c.result_of-item.is equals_is (c.kind-kind.ensures ∙ ap kind_of c.job.ensures) c.loop-result_of.invariant
     (c.unwrap_or-number.ensures ∙ ap (λ o. unwrap_or o 0) (c.copied.ensures ∙ c.get.ensures.value)) c.in-Ok.ensures.entries

@@ -1,3 +1,0 @@
-pub mod Permits
-pub mod Full
-pub mod Plans

@@ -1,5 +1,0 @@
-//! Tests of offices of letters.
-#![tactic(auto)]
-
-#[cfg(test)]
-mod tests;

@@ -1,5 +1,0 @@
-mod closing;
-mod common;
-mod ends;
-mod rings;
-mod threads;

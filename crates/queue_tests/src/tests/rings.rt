@@ -1,0 +1,7 @@
+//! A ring, by calls of one seat and of several, and of threads.
+mod calls;
+mod ends;
+mod looks;
+mod making;
+mod runs;
+mod threads;

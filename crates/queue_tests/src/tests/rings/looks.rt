@@ -1,0 +1,81 @@
+//! What a seat sees of a ring without taking anything.
+ghost use Rattle.ring_queue.specs.Queues.{IsQueueSeat};
+
+use super::calls::{last, pop, push, ring, shut};
+use crate::tests::comparing::same;
+use history::Refusal;
+use ring_queue::{Emptiness, RingQueue, Role, Seat};
+use std::test::Fail;
+
+// Whether the ring is empty, and both bounds of its length.
+fn told(queue: &RingQueue, seat: &mut Seat) -> (Emptiness, u64, u64)
+    requires { IsQueueSeat queue.now seat.old }
+    ensures { IsQueueSeat queue.now seat.new }
+{
+    let found = queue.emptiness(seat);
+    let len = queue.len(seat);
+    (found, len.least, len.most)
+}
+
+/// Of a ring with values the length is one number; behind a shut all reserves, here of 4 places, are taken off the lesser bound,
+/// and a place that was claimed behind the shut counts for the greater one.
+#[test]
+fn a_look_tells_what_is_there(rt: HostRuntime) -> Result<(), Fail> {
+    let (queue, mut seats) = ring(rt.alloc(), 8, 2, &[Role::Both; 2])?;
+    let mut seat = last(&queue, &mut seats)?;
+    let mut other = last(&queue, &mut seats)?;
+    same(
+        &rt,
+        told(&queue, &mut seat),
+        (Emptiness::Empty, 0, 0),
+        "new",
+    );
+    for body in 0..7 {
+        same(&rt, push(&queue, &mut seat, body, 1), Ok(()), "a push");
+    }
+    same(
+        &rt,
+        told(&queue, &mut other),
+        (Emptiness::Holds, 7, 7),
+        "seven",
+    );
+    same(
+        &rt,
+        pop(&queue, &mut other, 1),
+        Ok(Some((2, 0))),
+        "the first",
+    );
+    same(
+        &rt,
+        told(&queue, &mut seat),
+        (Emptiness::Holds, 6, 6),
+        "six",
+    );
+    same(&rt, shut(&queue, &mut other), Ok(()), "the shut");
+    same(
+        &rt,
+        told(&queue, &mut seat),
+        (Emptiness::Holds, 2, 6),
+        "shut",
+    );
+    for body in 1..7 {
+        same(
+            &rt,
+            pop(&queue, &mut other, 1),
+            Ok(Some((2, body))),
+            "a pop",
+        );
+    }
+    let none = (Emptiness::ShutEmpty, 0, 0);
+    same(&rt, told(&queue, &mut seat), none, "shut and empty");
+    let closed = Err(Refusal::Closed);
+    same(
+        &rt,
+        push(&queue, &mut seat, 7, 1),
+        closed,
+        "from the reserve",
+    );
+    let mark = (Emptiness::ShutEmpty, 0, 1);
+    same(&rt, told(&queue, &mut other), mark, "with a place claimed");
+    Ok(())
+}

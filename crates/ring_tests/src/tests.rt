@@ -1,7 +1,0 @@
-//! Calls of one seat and of several, and of threads.
-mod calls;
-mod ends;
-mod looks;
-mod making;
-mod runs;
-mod threads;

@@ -1,4 +1,0 @@
-//! Seats with their shares, in threads of their own and dropped one by one.
-mod leases;
-mod shares;
-mod threads;

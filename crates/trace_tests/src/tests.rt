@@ -1,6 +1,0 @@
-//! Traces, each against what was worked out by hand, or against the calls of a world.
-mod agreeing;
-mod chance;
-mod comparing;
-mod reading;
-mod typed;
