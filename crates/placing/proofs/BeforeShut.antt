@@ -69,7 +69,8 @@ given_empty actor Deq [] true h = absurd (cc h)
 given_empty actor Deq (front ∷ rest) true h = absurd (cc h)
 
 -- a shut that is done shuts
-given_shuts : (actor : ℕ) (values : List Taken) (shut : Bool) → Done ≡ (response actor Shut (record { values = values; shut = shut })).reply → (response actor Shut (record { values = values; shut = shut })).after.shut ≡ true
+given_shuts : (actor : ℕ) (values : List Taken) (shut : Bool) → Done ≡ (response actor Shut (record { values = values; shut = shut })).reply
+    → (response actor Shut (record { values = values; shut = shut })).after.shut ≡ true
 given_shuts actor values true h = refl
 given_shuts actor values false h = refl
 
@@ -77,7 +78,8 @@ closed_leaves : (refusal : Refusal) → is_closed refusal ≡ true → leaves re
 closed_leaves Closed a b = let x : false ≡ true = b in cc
 closed_leaves _ a b = let x : false ≡ true = a in cc
 
-pub told_shut_there : (queue : Queue) (o : Stamped) (refusal : Refusal) → is_closed refusal ≡ true → AgreesWithQueue queue o (Some (Refused refusal)) → Refused Closed ≡ (response o.actor o.op queue).reply
+pub told_shut_there : (queue : Queue) (o : Stamped) (refusal : Refusal) → is_closed refusal ≡ true → AgreesWithQueue queue o (Some (Refused refusal))
+    → Refused Closed ≡ (response o.actor o.op queue).reply
 told_shut_there queue o refusal closed (inl h) = absurd (closed_leaves refusal closed h)
 told_shut_there queue o refusal closed (inr h) = h.1
 
@@ -101,16 +103,20 @@ first_so : (a b : Bool) → 1 ≤ one_if (a && b) → a ≡ true
 first_so true b h = refl
 first_so false b h = absurd (omega arith)
 
-shown_by_told : (queue : Queue) (o : Stamped) (told : Option Reply) (reply : Reply) → IfSome told (λ told. reply ≡ told) → AgreesWithQueue queue o (Some reply) → shows_shut told o.op ≡ true → (answer queue o (Some reply)).after.shut ≡ true
+shown_by_told : (queue : Queue) (o : Stamped) (told : Option Reply) (reply : Reply) → IfSome told (λ told. reply ≡ told)
+    → AgreesWithQueue queue o (Some reply) → shows_shut told o.op ≡ true → (answer queue o (Some reply)).after.shut ≡ true
 shown_by_told queue o None reply g h s = absurd (let x : false ≡ true = s in cc)
 shown_by_told queue o (Some told) reply g h s = shown queue o o.op reply refl h (subst (λ r. shows_shut (Some r) o.op ≡ true) (sym g) s)
 
 -- where one of these operations shows it, the queue is shut after them
-shut_after : (time : ℕ) (queue : Queue) (xs : List Answered) → IsRun queue xs → AllByRecursion GivesRecordedReply xs → 1 ≤ sum_by (shown_before time) (operations_of xs) → (after_run queue xs).shut ≡ true
+shut_after : (time : ℕ) (queue : Queue) (xs : List Answered) → IsRun queue xs → AllByRecursion GivesRecordedReply xs
+    → 1 ≤ sum_by (shown_before time) (operations_of xs) → (after_run queue xs).shut ≡ true
 shut_after time queue [] r g h = absurd (let k : 1 ≤ 0 = h in omega (arith, k))
 shut_after time queue (a ∷ rest) r g h = go (nat_le 1 (shown_before time a.operation)) refl (λ more. shut_after time (answer queue a.operation (Some a.reply)).after rest r.1 g.1 more)
   where
-    go : (b : Bool) → nat_le 1 (shown_before time a.operation) ≡ b → (1 ≤ sum_by (shown_before time) (operations_of rest) → (after_run (answer queue a.operation (Some a.reply)).after rest).shut ≡ true) → (after_run (answer queue a.operation (Some a.reply)).after rest).shut ≡ true
+    go : (b : Bool) → nat_le 1 (shown_before time a.operation) ≡ b → (1 ≤ sum_by (shown_before time) (operations_of rest)
+        → (after_run (answer queue a.operation (Some a.reply)).after rest).shut ≡ true)
+        → (after_run (answer queue a.operation (Some a.reply)).after rest).shut ≡ true
     go true e later =
         let s : shows_shut a.operation.reply a.operation.op ≡ true = first_so (shows_shut a.operation.reply a.operation.op) (ended_before time a.operation.last) (leb-true _ _ e) in
         run_still_shut (answer queue a.operation (Some a.reply)).after rest (shown_by_told queue a.operation a.operation.reply a.reply g.0 r.0 s)
@@ -151,7 +157,8 @@ began_by_shut ops other time evidence stands shows ended xs a ys left o shut = g
         let times = times_parted xs a ys o.timely in
         let behind = sum_zero f (operations_of ys) (none_shown a.operation.first (operations_of ys) (follow_first a.operation (operations_of xs) (operations_of ys) times.1)) in
         let out = sum_zero f left (none_shown a.operation.first left (pending_ended a.operation.first left o.pending)) in
-        let is : (after_run empty xs).shut ≡ true = shut_after a.operation.first empty xs (run_parts empty xs (a ∷ ys) o.runs).0 (first_part GivesRecordedReply xs (a ∷ ys) o.told) (omega (arith, counts, one, all, parts, here, behind, out)) in
+        let is : (after_run empty xs).shut ≡ true = shut_after a.operation.first empty xs (run_parts empty xs (a ∷ ys) o.runs).0
+        (first_part GivesRecordedReply xs (a ∷ ys) o.told) (omega (arith, counts, one, all, parts, here, behind, out)) in
         absurd (let x : true ≡ false = sym is ∙ shut in cc)
 
 -- where a queue isn't shut after some operations, it isn't before them
@@ -247,7 +254,8 @@ shut_by_some : (queue : Queue) (xs : List Answered) → queue.shut ≡ false →
 shut_by_some queue [] h k = absurd (let x : false ≡ true = sym h ∙ k in cc)
 shut_by_some queue (a ∷ rest) h k = go (is_not_refused (Some a.reply) && is_shut_call a.operation.op) refl (λ still. shut_by_some (answer queue a.operation (Some a.reply)).after rest still k)
   where
-    go : (b : Bool) → (is_not_refused (Some a.reply) && is_shut_call a.operation.op) ≡ b → ((answer queue a.operation (Some a.reply)).after.shut ≡ false → 1 ≤ sum_by shut_in rest) → 1 ≤ sum_by shut_in (a ∷ rest)
+    go : (b : Bool) → (is_not_refused (Some a.reply) && is_shut_call a.operation.op) ≡ b
+        → ((answer queue a.operation (Some a.reply)).after.shut ≡ false → 1 ≤ sum_by shut_in rest) → 1 ≤ sum_by shut_in (a ∷ rest)
     go true e later =
         let d = sum_by-cons shut_in a rest in
         let one : shut_in a ≡ 1 = ap one_if e in
@@ -283,13 +291,16 @@ shut_began ops time xs a ys left o ended shut =
 
 -- ---- pushes
 
-no_push_given : (kind : Kind) (o : Stamped) (op : Op) (values : List Taken) (shut : Bool) (reply : Reply) → shut ≡ true → reply ≡ (response o.actor op (record { values = values; shut = shut })).reply → one_if (is_not_refused (Some reply) && is_push_in kind o.actor op) ≡ 0
+no_push_given : (kind : Kind) (o : Stamped) (op : Op) (values : List Taken) (shut : Bool) (reply : Reply) → shut ≡ true
+    → reply ≡ (response o.actor op (record { values = values; shut = shut })).reply
+    → one_if (is_not_refused (Some reply) && is_push_in kind o.actor op) ≡ 0
 no_push_given kind o (Enq body) values true reply h e = ap (λ r. one_if (is_not_refused (Some r) && is_push_in kind o.actor (Enq body))) e
 no_push_given kind o (Enq body) values false reply h e = absurd (let x : false ≡ true = h in cc)
 no_push_given kind o Deq values shut reply h e = and_false (is_not_refused (Some reply)) false refl
 no_push_given kind o Shut values shut reply h e = and_false (is_not_refused (Some reply)) false refl
 
-pub no_push : (kind : Kind) (queue : Queue) (o : Stamped) (reply : Reply) → queue.shut ≡ true → AgreesWithQueue queue o (Some reply) → one_if (is_not_refused (Some reply) && is_push_in kind o.actor o.op) ≡ 0
+pub no_push : (kind : Kind) (queue : Queue) (o : Stamped) (reply : Reply) → queue.shut ≡ true → AgreesWithQueue queue o (Some reply)
+    → one_if (is_not_refused (Some reply) && is_push_in kind o.actor o.op) ≡ 0
 no_push kind queue o (Refused refusal) s h = refl
 no_push kind queue o Done s h = no_push_given kind o o.op queue.values queue.shut Done s h
 no_push kind queue o (Value v) s h = no_push_given kind o o.op queue.values queue.shut (Value v) s h

@@ -8,7 +8,7 @@ use Rattle.std.specs.Ordering.{is_lt, nat_cmp, bool_cmp, ordering_then, ordering
 use Rattle.std.specs.declared.cmp.Ordering.{Ordering}
 use Rattle.std.specs.declared.cmp.Ordering.TheVariants.{Less, Equal, Greater}
 use Rattle.history.specs.declared.operations.Stamped.{Stamped}
-use Rattle.placing.specs.declared.searching.Edge.{Edge}
+use Rattle.placing.specs.declared.backtracking.Edge.{Edge}
 use Rattle.placing.specs.Tries.{edge_cmp, edges_from, beginning, Ending, ending_from, Ends}
 
 total : IsTotalOrder edge_cmp

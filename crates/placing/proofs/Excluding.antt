@@ -1,5 +1,6 @@
 -- A history with a reason isn't one of a queue.
-use Rattle.std.proofs.Common.{◌≡◌, ◌⊎◌, inl, inr, append_assoc, ℕ, ◌+◌, ◌≤◌, ◌<◌, Bool, true, false, ◌&&◌, ◌||◌, nat_le, nat_lt, Option, None, Some, IfSome, IsSome, List, [], ◌∷◌, ◌++◌, refl, sym, ap, ◌∙◌, subst, arith}
+use Rattle.std.proofs.Common.{◌≡◌, ◌⊎◌, inl, inr, append_assoc, ℕ, ◌+◌, ◌≤◌, ◌<◌, Bool, true, false, ◌&&◌, ◌||◌, nat_le, nat_lt, Option, None, Some}
+use Rattle.std.proofs.Common.{IfSome, IsSome, List, [], ◌∷◌, ◌++◌, refl, sym, ap, ◌∙◌, subst, arith}
 use Rattle.std.specs.Prelude.{IsNone, IsSomeAnd}
 use Rattle.std.specs.List.{sum_by, AllByRecursion}
 use Rattle.std.proofs.lemmas.Bool.{leb-true, leb-false, ltb-true, ltb-false}
@@ -113,7 +114,8 @@ spanned : (P : Span → Type 0) (first last time : ℕ) (spans : List Span) → 
 spanned P first last time [] c b e h = absurd (let k : last < first = c in omega (arith, k))
 spanned P first last time (span ∷ spans) c b e h = go _ refl (λ more. spanned P (span.last + 1) last time spans (c.1 (omega (arith, more, e))) more e h.1)
   where
-    go : (w : Bool) → nat_le time span.last ≡ w → (span.last + 1 ≤ time → (span : Span) × (span.first ≤ time) × (time ≤ span.last) × P span) → (span : Span) × (span.first ≤ time) × (time ≤ span.last) × P span
+    go : (w : Bool) → nat_le time span.last ≡ w → (span.last + 1 ≤ time → (span : Span) × (span.first ≤ time) × (time ≤ span.last) × P span)
+        → (span : Span) × (span.first ≤ time) × (time ≤ span.last) × P span
     go true w more = let k = c.0 in (span, omega (arith, k), leb-true _ _ w, h.0)
     go false w more = let k : span.last < time = leb-false _ _ w in more (omega arith)
 
@@ -129,7 +131,8 @@ empty_there queue actor op h = go op queue.shut queue.values h
     go Deq shut (v ∷ vs) h = absurd (cc h)
 
 -- those that may follow ended from the latest start on
-follow_late : (from time : ℕ) (a : Stamped) (os ys : List Stamped) → from ≤ time → ((last : ℕ) → a.first ≤ last → BeganBy last os → time ≤ last) → AllByRecursion (MayFollow os a) ys → AllByRecursion (EndedFrom from) ys
+follow_late : (from time : ℕ) (a : Stamped) (os ys : List Stamped) → from ≤ time → ((last : ℕ) → a.first ≤ last → BeganBy last os → time ≤ last)
+    → AllByRecursion (MayFollow os a) ys → AllByRecursion (EndedFrom from) ys
 follow_late from time a os [] h least f = tt
 follow_late from time a os (y ∷ ys) h least f = (go y.last f.0, follow_late from time a os ys h least f.1)
   where
@@ -195,7 +198,8 @@ not_full ops place spans h s =
     let early = began_while_open ops o t s.last s.time s.told starts began s.until in
     let in_time : latest.time ≤ s.time = latest.least s.time early.0 early.1 in
     let not_sooner : o.first ≤ latest.time = subst (λ n. n ≤ latest.time) first latest.began in
-    let one = spanned (λ span. IsHeld ops span.first span.last span.held) o.first s.time latest.time spans s.cover not_sooner in_time (recursion_from_All (λ span. IsHeld ops span.first span.last span.held) spans s.each) in
+    let one = spanned (λ span. IsHeld ops span.first span.last span.held) o.first s.time latest.time spans s.cover not_sooner in_time
+    (recursion_from_All (λ span. IsHeld ops span.first span.last span.held) spans s.each) in
     let stays = held_stays ops one.0.first one.0.last one.0.held one.3 in
     full_there ops o one.0.first one.0.last latest.time stays.0 t s.told stays.1 one.1 one.2 latest.others
     (subst (λ l. IfSome l (λ last. latest.time ≤ last)) (sym last) by_last)
@@ -243,7 +247,8 @@ kept_order : (kind : Kind) (v : Taken) (bs : List Answered) (e : Answered) (cs :
 kept_order kind v bs e cs o runs none gives =
     let middle : Queue = after_run empty bs in
     let parts = run_parts empty bs (e ∷ cs) runs in
-    let same : middle ≡ record { values = middle.values ++ []; shut = middle.shut } = ap (λ (vs : List Taken). let q : Queue = record { values = vs; shut = middle.shut } in q) (sym (append-nil middle.values)) in
+    let same : middle ≡ record { values = middle.values ++ []; shut = middle.shut } =
+    ap (λ (vs : List Taken). let q : Queue = record { values = vs; shut = middle.shut } in q) (sym (append-nil middle.values)) in
     let of_v = run_balance (same_value v) empty bs parts.0 in
     let of_kind = run_balance kind empty bs parts.0 in
     let ahead = goes_before kind v middle.values [] middle.shut (e ∷ cs) o (omega (arith, of_v, none))

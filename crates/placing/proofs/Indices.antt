@@ -1,5 +1,6 @@
 -- Lists by index, and the operations of an order.
-use Rattle.std.proofs.Common.{◌≡◌, ◌≢◌, ℕ, zero, suc, ◌≤◌, ◌<◌, max, Bool, true, false, nat_lt, ◌⊎◌, inl, inr, Option, None, Some, IfSome, IsSome, IsNone, List, [], ◌∷◌, map, length, replicate, slice_get, slice_set, All, AllPairs, refl, sym, ◌∙◌, ap, subst, arith}
+use Rattle.std.proofs.Common.{◌≡◌, ◌≢◌, ℕ, zero, suc, ◌≤◌, ◌<◌, max, Bool, true, false, nat_lt, ◌⊎◌, inl, inr, Option, None, Some, IfSome, IsSome}
+use Rattle.std.proofs.Common.{IsNone, List, [], ◌∷◌, map, length, replicate, slice_get, slice_set, All, AllPairs, refl, sym, ◌∙◌, ap, subst, arith}
 use Rattle.std.specs.Prelude.{◌↔◌}
 use Rattle.std.specs.List.{AllByRecursion, AllZip, Contains}
 use Rattle.std.proofs.Math.Nat.{max-le}

@@ -1,5 +1,6 @@
 -- What a reason names stays in the queue: the value of one push and its later take, or values that no pop was told.
-use Rattle.std.proofs.Common.{◌≡◌, inl, inr, ℕ, zero, suc, ◌+◌, ◌-◌, ◌*◌, ◌≤◌, ◌<◌, Bool, true, false, ◌&&◌, nat_eq, nat_le, nat_lt, Option, None, Some, List, [], ◌∷◌, length, slice_get, get_or, refl, sym, ap, ◌∙◌, subst, arith}
+use Rattle.std.proofs.Common.{◌≡◌, inl, inr, ℕ, zero, suc, ◌+◌, ◌-◌, ◌*◌, ◌≤◌, ◌<◌, Bool, true, false, ◌&&◌, nat_eq, nat_le, nat_lt, Option, None}
+use Rattle.std.proofs.Common.{Some, List, [], ◌∷◌, length, slice_get, get_or, refl, sym, ap, ◌∙◌, subst, arith}
 use Rattle.std.specs.List.{sum_by, AllByRecursion, Contains}
 use Rattle.std.proofs.lemmas.Bool.{eqb-true, lt-ltb}
 use Rattle.std.proofs.lemmas.Option.{slice_get_within, get_or_from_slice_get}
@@ -77,7 +78,8 @@ no_first true b e = absurd (let x : true ≡ false = e in cc)
 
 none_taken : (time : ℕ) (ops : List Stamped) → takes_begun_by time (left_in ops) ops ≤ 0
 none_taken time ops =
-    let k : sum_by (take_begun_by time (left_in ops)) ops ≤ length ops * 0 = sum_by-le (take_begun_by time (left_in ops)) 0 ops (λ k d lt. no_first (is_told_in (left_in ops) (get_or ops k d).reply) (nat_le (get_or ops k d).first time) (told_not_left ops k d lt)) in
+    let k : sum_by (take_begun_by time (left_in ops)) ops ≤ length ops * 0 = sum_by-le (take_begun_by time (left_in ops)) 0 ops
+    (λ k d lt. no_first (is_told_in (left_in ops) (get_or ops k d).reply) (nat_le (get_or ops k d).first time) (told_not_left ops k d lt)) in
     omega (arith, k)
 
 -- an operation of the rest of a list, whose places are counted on from a number, counts
@@ -92,7 +94,8 @@ counts_later : (f : Stamped → ℕ) (o : Stamped) (os : List Stamped) (past pla
 counts_later f o os past place more (p, zero, e, g, c) = absurd (let d : place ≡ past + 1 + 0 = e in omega (arith, d))
 counts_later f o os past place more (p, suc n, e, g, c) = (p, n, (let d : place ≡ past + 1 + suc n = e in omega (arith, d)), g, c)
 
-all_count_later : (f : Stamped → ℕ) (o : Stamped) (os : List Stamped) (past : ℕ) (places : List ℕ) → RisesFrom (past + 1) places → AllByRecursion (CountsOn f (o ∷ os) past) places → AllByRecursion (CountsOn f os (past + 1)) places
+all_count_later : (f : Stamped → ℕ) (o : Stamped) (os : List Stamped) (past : ℕ) (places : List ℕ) → RisesFrom (past + 1) places
+    → AllByRecursion (CountsOn f (o ∷ os) past) places → AllByRecursion (CountsOn f os (past + 1)) places
 all_count_later f o os past [] r h = tt
 all_count_later f o os past (p ∷ ps) r h =
     let k = r.0 in

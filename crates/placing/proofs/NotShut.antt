@@ -170,7 +170,8 @@ closed_empty actor Deq [] shut e h = refl
 closed_empty actor Deq (front ∷ rest) shut e h = absurd (cc h)
 
 -- no take began after a pop ended that was told that the queue is shut
-none_behind : (ops : List Stamped) (o : Stamped) (t : Standing ops o) (until push take : ℕ) → (after_run empty t.before).shut ≡ true → ((kind : Kind) → copies kind (after_run empty t.before).values ≡ 0)
+none_behind : (ops : List Stamped) (o : Stamped) (t : Standing ops o) (until push take : ℕ) → (after_run empty t.before).shut ≡ true
+    → ((kind : Kind) → copies kind (after_run empty t.before).values ≡ 0)
     → ((kind : Kind) → is_told_in kind t.here.operation.reply ≡ false) → BeganBy until (operations_of t.before) → IsTakenBehind ops until push take → ⊥
 none_behind ops o t until push take shut none no_value began h =
     let kind : Kind = same_value h.value in

@@ -1,5 +1,7 @@
 -- An order by which a history is one of a queue gets points, all stamps spread, that are judged Yes.
-use Rattle.std.proofs.Common.{◌≡◌, ℕ, zero, suc, ◌+◌, ◌*◌, ◌≤◌, ◌<◌, max, inl, inr, Option, None, Some, Result, Ok, Err, IfOk, IfSome, IsSome, IsSomeAnd, is_some, option_map, List, [], ◌∷◌, map, length, replicate, slice_get, slice_set, All, refl, sym, ◌∙◌, ap, subst, arith}
+use Rattle.std.proofs.Common.{◌≡◌, ℕ, zero, suc, ◌+◌, ◌*◌, ◌≤◌, ◌<◌, max, inl, inr, Option, None, Some, Result, Ok, Err, IfOk, IfSome, IsSome}
+use Rattle.std.proofs.Common.{IsSomeAnd, is_some, option_map, List, [], ◌∷◌, map, length, replicate, slice_get, slice_set, All, refl, sym, ◌∙◌, ap}
+use Rattle.std.proofs.Common.{subst, arith}
 use Rattle.std.specs.Prelude.{◌↔◌}
 use Rattle.std.specs.List.{AllByRecursion, AllZip}
 use Rattle.std.specs.List.Sorted.{IsStrictlyIncreasing}
@@ -18,7 +20,9 @@ use Rattle.placing.specs.Spreading.{EndsSo, IsFirstOf, IsLastOf, IsSpreadFrom, S
 use Rattle.placing.specs.Orders.{with_found, picked, IsOrder, NoneEndsTooSoon, IsBehindFirst, PutsPoints, ArePoints}
 use Rattle.placing.proofs.InOrder.{Orders, spread_orders}
 use Rattle.placing.proofs.Risen.{Has, RiseFrom, risen, by_point_has, has_by_point, by_point_rises, one_rising}
-use Rattle.placing.proofs.Indices.{one_value, not_none, set_other, set_there, at_has, has_at, has_or_not, contains_has, has_contains, AreOnce, are_once, few, replicated, mapped, IsSame, zip_get, zip_back, picked_has, has_picked, same_runs, ends_told, not_less, none_ends_too_soon, zero_is_least, apart_by_index, no_points, replicate_some}
+use Rattle.placing.proofs.Indices.{one_value, not_none, set_other, set_there, at_has, has_at, has_or_not, contains_has, has_contains, AreOnce}
+use Rattle.placing.proofs.Indices.{are_once, few, replicated, mapped, IsSame, zip_get, zip_back, picked_has, has_picked, same_runs, ends_told}
+use Rattle.placing.proofs.Indices.{not_less, none_ends_too_soon, zero_is_least, apart_by_index, no_points, replicate_some}
 
 -- ---- points
 

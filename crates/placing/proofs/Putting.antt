@@ -1,5 +1,7 @@
 -- Points put in one after another along an order.
-use Rattle.std.proofs.Common.{◌≡◌, ℕ, zero, suc, ◌+◌, ◌≤◌, ◌<◌, max, true, ◌⊎◌, inl, inr, Option, None, Some, IfSome, option_map, List, [], ◌∷◌, ◌++◌, map, take, drop, get_or, length, replicate, slice_get, slice_set, refl, sym, ◌∙◌, ap, subst, arith, add-one, All, Ordering}
+use Rattle.std.proofs.Common.{◌≡◌, ℕ, zero, suc, ◌+◌, ◌≤◌, ◌<◌, max, true, ◌⊎◌, inl, inr, Option, None, Some, IfSome, option_map, List, [], ◌∷◌, ◌++◌}
+use Rattle.std.proofs.Common.{map, take, drop, get_or, length, replicate, slice_get, slice_set, refl, sym, ◌∙◌, ap, subst, arith, add-one, All}
+use Rattle.std.proofs.Common.{Ordering}
 use Rattle.std.specs.Option.{option_flatten}
 use Rattle.std.specs.List.{Contains, ItemBy}
 use Rattle.std.specs.Ordering.{nat_cmp}

@@ -52,7 +52,8 @@ with_reply : (kind : Kind) (queue : Queue) (o : Stamped) (reply : Reply) → rep
     → one_if (is_told_in kind (Some reply)) + copies kind (response o.actor o.op queue).after.values
     ≡ one_if (is_not_refused (Some reply) && is_push_in kind o.actor o.op) + copies kind queue.values
 with_reply kind queue o reply h =
-    subst (λ r. one_if (is_told_in kind (Some r)) + copies kind (response o.actor o.op queue).after.values ≡ one_if (is_not_refused (Some r) && is_push_in kind o.actor o.op) + copies kind queue.values)
+    subst (λ r. one_if (is_told_in kind (Some r)) + copies kind (response o.actor o.op queue).after.values ≡ one_if
+    (is_not_refused (Some r) && is_push_in kind o.actor o.op) + copies kind queue.values)
     (sym h) (given_balance kind o.actor o.op queue.shut queue.values)
 
 pub step_balance : (kind : Kind) (queue : Queue) (o : Stamped) (reply : Reply) → AgreesWithQueue queue o (Some reply)
@@ -63,7 +64,8 @@ step_balance kind queue o Done h = with_reply kind queue o _ h
 step_balance kind queue o (Value w) h = with_reply kind queue o _ h
 step_balance kind queue o Empty h = with_reply kind queue o _ h
 
-given_taken : (kind : Kind) (actor : ℕ) (op : Op) (shut : Bool) (values : List Taken) → one_if (is_told_in kind (Some (response actor op (record { values = values; shut = shut })).reply)) ≤ copies kind values
+given_taken : (kind : Kind) (actor : ℕ) (op : Op) (shut : Bool) (values : List Taken)
+    → one_if (is_told_in kind (Some (response actor op (record { values = values; shut = shut })).reply)) ≤ copies kind values
 given_taken kind actor (Enq body) true values = omega arith
 given_taken kind actor (Enq body) false values = omega arith
 given_taken kind actor Shut true values = omega arith
@@ -133,14 +135,18 @@ GoesOn u us shut reply after =
 stays_as_it_is : (u : Taken) (us : List Taken) (shut shut_then : Bool) (reply : Reply) → GoesOn u us shut reply (record { values = u ∷ us; shut = shut_then })
 stays_as_it_is u us shut shut_then reply = inl ([], shut_then, ap (λ (vs : List Taken). let q : Queue = record { values = vs; shut = shut_then } in q) (sym (append-nil (u ∷ us))))
 
-given_goes_on : (u : Taken) (us : List Taken) (shut : Bool) (actor : ℕ) (op : Op) → GoesOn u us shut (response actor op (record { values = u ∷ us; shut = shut })).reply (response actor op (record { values = u ∷ us; shut = shut })).after
+given_goes_on : (u : Taken) (us : List Taken) (shut : Bool) (actor : ℕ) (op : Op)
+    → GoesOn u us shut (response actor op (record { values = u ∷ us; shut = shut })).reply
+    (response actor op (record { values = u ∷ us; shut = shut })).after
 given_goes_on u us false actor (Enq body) = inl (record { from = actor; body = body } ∷ [], false, refl)
 given_goes_on u us true actor (Enq body) = stays_as_it_is u us true true _
 given_goes_on u us false actor Shut = stays_as_it_is u us false true _
 given_goes_on u us true actor Shut = stays_as_it_is u us true true _
 given_goes_on u us shut actor Deq = inr (refl, refl)
 
-step_goes_on : (u : Taken) (us : List Taken) (shut : Bool) (o : Stamped) (reply : Reply) → AgreesWithQueue (record { values = u ∷ us; shut = shut }) o (Some reply) → GoesOn u us shut reply (answer (record { values = u ∷ us; shut = shut }) o (Some reply)).after
+step_goes_on : (u : Taken) (us : List Taken) (shut : Bool) (o : Stamped) (reply : Reply)
+    → AgreesWithQueue (record { values = u ∷ us; shut = shut }) o (Some reply)
+    → GoesOn u us shut reply (answer (record { values = u ∷ us; shut = shut }) o (Some reply)).after
 step_goes_on u us shut o (Refused refusal) h = stays_as_it_is u us shut shut _
 step_goes_on u us shut o Done h =
     subst (λ r. GoesOn u us shut r (response o.actor o.op (record { values = u ∷ us; shut = shut })).after) (sym h) (given_goes_on u us shut o.actor o.op)
@@ -188,8 +194,12 @@ goes_before kind v (u ∷ us) behind shut (a ∷ rest) o none h e =
     less z = let d = sum_by-cons (λ w. one_if (same_value v w)) u us in omega (arith, d, z)
 
     go : GoesOn u (us ++ behind) shut a.reply (answer (record { values = u ∷ (us ++ behind); shut = shut }) a.operation (Some a.reply)).after
-        → ((more : List Taken) (shut_then : Bool) → IsRun (record { values = (u ∷ us) ++ (behind ++ more); shut = shut_then }) rest → Value v ≡ (response o.actor o.op (after_run (record { values = (u ∷ us) ++ (behind ++ more); shut = shut_then }) rest)).reply → copies kind (u ∷ us) ≤ sum_by (taken_in kind) rest)
-        → (IsRun (record { values = us ++ behind; shut = shut }) rest → Value v ≡ (response o.actor o.op (after_run (record { values = us ++ behind; shut = shut }) rest)).reply → copies kind us ≤ sum_by (taken_in kind) rest)
+        → ((more : List Taken) (shut_then : Bool) → IsRun (record { values = (u ∷ us) ++ (behind ++ more); shut = shut_then }) rest
+        → Value v ≡ (response o.actor o.op (after_run (record { values = (u ∷ us) ++ (behind ++ more); shut = shut_then }) rest)).reply
+        → copies kind (u ∷ us) ≤ sum_by (taken_in kind) rest)
+        → (IsRun (record { values = us ++ behind; shut = shut }) rest → Value v ≡
+        (response o.actor o.op (after_run (record { values = us ++ behind; shut = shut }) rest)).reply
+        → copies kind us ≤ sum_by (taken_in kind) rest)
         → copies kind (u ∷ us) ≤ sum_by (taken_in kind) (a ∷ rest)
     go (inl (ws, shut_then, q)) stays goes =
         let same : (answer (record { values = u ∷ (us ++ behind); shut = shut }) a.operation (Some a.reply)).after ≡ record { values = (u ∷ us) ++ (behind ++ ws); shut = shut_then } =

@@ -5,9 +5,10 @@ use Rattle.history.specs.declared.operations.Op.TheVariants.{Enq, Deq}
 use Rattle.history.specs.declared.operations.Reply.{Reply}
 use Rattle.history.specs.declared.operations.Reply.TheVariants.{Done, Value}
 use Rattle.history.specs.declared.operations.Stamped.{Stamped}
-use Rattle.placing.specs.declared.searching.Edge.{Edge}
+use Rattle.placing.specs.declared.backtracking.Edge.{Edge}
 use Rattle.placing.specs.TriedQueues.{mixed}
-use Rattle.placing.specs.Tries.{without, with_again, passed, begun_anew, noted, put_in, changed_by, changed_back, put_changed, unended, taken_out, looking_behind, stepped, beginning, Ending, Found, InVain, UsedUp, ending_from}
+use Rattle.placing.specs.Tries.{without, with_again, passed, begun_anew, noted, put_in, changed_by, changed_back, put_changed, unended, taken_out}
+use Rattle.placing.specs.Tries.{looking_behind, stepped, beginning, Ending, Found, InVain, UsedUp, ending_from}
 
 -- how a search for these ends within so many steps, of edges in this order
 abbrev searched : (steps : ℕ) → List Stamped → List Edge → Ending

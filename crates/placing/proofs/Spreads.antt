@@ -1,5 +1,6 @@
 -- A history with spread stamps and points that is judged Yes shows the one that it was made of to be one of a queue.
-use Rattle.std.proofs.Common.{◌≡◌, inl, inr, ℕ, zero, suc, ◌≤◌, ◌<◌, Bool, true, false, nat_lt, Option, None, Some, IfSome, IsSome, List, [], ◌∷◌, ◌++◌, length, slice_set, slice_index_or, refl, sym, ap, ◌∙◌, subst, arith}
+use Rattle.std.proofs.Common.{◌≡◌, inl, inr, ℕ, zero, suc, ◌≤◌, ◌<◌, Bool, true, false, nat_lt, Option, None, Some, IfSome, IsSome, List, [], ◌∷◌}
+use Rattle.std.proofs.Common.{◌++◌, length, slice_set, slice_index_or, refl, sym, ap, ◌∙◌, subst, arith}
 use Rattle.std.specs.Prelude.{◌↔◌}
 use Rattle.std.specs.List.{AllByRecursion, AllZip, swap}
 use Rattle.std.specs.List.Sorted.{IsPermutation}
@@ -126,7 +127,8 @@ module _ (First Last : ℕ → ℕ → Type 0) (keeps : Keeps First Last) where
   same_given : (queue : Queue) (o p : Stamped) → Spread o p → response p.actor p.op queue ≡ response o.actor o.op queue
   same_given queue o p s = ap (λ n. response n p.op queue) s.actor ∙ ap (λ op. response o.actor op queue) s.op
 
-  still_gets : (queue : Queue) (o p : Stamped) (reply : Reply) → Spread o p → AgreesWithQueue queue p (Some reply) → AgreesWithQueue queue o (Some reply) × (answer queue p (Some reply) ≡ answer queue o (Some reply))
+  still_gets : (queue : Queue) (o p : Stamped) (reply : Reply) → Spread o p → AgreesWithQueue queue p (Some reply)
+      → AgreesWithQueue queue o (Some reply) × (answer queue p (Some reply) ≡ answer queue o (Some reply))
   still_gets queue o p (Refused refusal) s (inl h) = (inl h, refl)
   still_gets queue o p (Refused refusal) s (inr h) = (inr (h.0, h.1 ∙ ap (λ a. a.reply) (same_given queue o p s)), refl)
   still_gets queue o p Done s h = (h ∙ ap (λ a. a.reply) (same_given queue o p s), same_given queue o p s)

@@ -1,16 +1,18 @@
 -- Lists of numbers and edges, by one more, and the steps of a search.
-use Rattle.std.proofs.Common.{◌≡◌, ℕ, zero, suc, ◌+◌, ◌-◌, ◌≤◌, ◌<◌, Bool, true, false, if◌then◌else◌, nat_eq, List, [], ◌∷◌, ◌++◌, length, replicate, count_by, reverse, bit_xor, Some, None, Option, refl, sym, ◌∙◌, ap, inl, inr, arith}
+use Rattle.std.proofs.Common.{◌≡◌, ℕ, zero, suc, ◌+◌, ◌-◌, ◌≤◌, ◌<◌, Bool, true, false, if◌then◌else◌, nat_eq, List, [], ◌∷◌, ◌++◌, length, replicate}
+use Rattle.std.proofs.Common.{count_by, reverse, bit_xor, Some, None, Option, refl, sym, ◌∙◌, ap, inl, inr, arith}
 use Rattle.std.proofs.lemmas.Bool.Decides.{eqb_tells}
 use Rattle.std.proofs.lemmas.List.{reverse-append}
 use Rattle.history.specs.declared.operations.Stamped.{Stamped}
 use Rattle.placing.specs.declared.answers.Unknown.TheVariants.{Unplaced}
 use Rattle.placing.specs.declared.object.Effect.{Effect}
-use Rattle.placing.specs.declared.searching.Edge.{Edge}
-use Rattle.placing.specs.declared.searching.Tried.{Tried}
+use Rattle.placing.specs.declared.backtracking.Edge.{Edge}
+use Rattle.placing.specs.declared.backtracking.Tried.{Tried}
 use Rattle.placing.specs.Answers.{IsCause}
 use Rattle.placing.specs.Orders.{IsOrder}
 use Rattle.placing.specs.TriedQueues.{mixed, Queue, no_values, undone}
-use Rattle.placing.specs.Tries.{noted_ends, Links, all_linked, first_in, without, with_again, State, beginning, end_in, put_in, unended, taken_out, stepped, Ending, Found, InVain, UsedUp, indices, ending_after, ending_from, Ends}
+use Rattle.placing.specs.Tries.{noted_ends, Links, all_linked, first_in, without, with_again, State, beginning, end_in, put_in, unended, taken_out}
+use Rattle.placing.specs.Tries.{stepped, Ending, Found, InVain, UsedUp, indices, ending_after, ending_from, Ends}
 
 abbrev put_so : State → Links → ℕ → List Tried → ℕ → State
 put_so s ring left order mark = record s { ring = ring; left = left; order = order; mark = mark }

@@ -1,8 +1,8 @@
 -- Operations that are wrong by themselves.
 use Rattle.std.specs.Prelude.{◌⊎◌}
 use Rattle.history.specs.declared.operations.Stamped.{Stamped}
-use Rattle.placing.specs.declared.sorting.Fault.{Fault}
-use Rattle.placing.specs.declared.sorting.Fault.TheVariants.{Shape, Span, Reply}
+use Rattle.placing.specs.declared.kinds.Fault.{Fault}
+use Rattle.placing.specs.declared.kinds.Fault.TheVariants.{Shape, Span, Reply}
 use Rattle.placing.specs.Reasons.{IsMisshapen, EndsTooSoon, IsToldAmiss}
 
 -- an operation has a fault

@@ -12,7 +12,8 @@ use Rattle.placing.specs.declared.answers.Held.TheVariants.{Value as OneValue, L
 use Rattle.placing.specs.declared.answers.Span.{Span}
 use Rattle.placing.specs.declared.answers.Reason.{Reason}
 use Rattle.placing.specs.declared.answers.Reason.TheVariants.{Shape, Span as Spans, Reply as Replies, Sooner, Order, Full, Late, Twice, Unshut, Undrained}
-use Rattle.placing.specs.Kinds.{same_value, is_told_in, pushes_in, is_told_shut, is_done_shut, shows_shut, is_done_or_empty, ended_before, pushes_of, pushes_begun_by, pushes_begun_before, takes_ended_by, pending_by, left_in, shuts_begun_by}
+use Rattle.placing.specs.Kinds.{same_value, is_told_in, pushes_in, is_told_shut, is_done_shut, shows_shut, is_done_or_empty, ended_before, pushes_of}
+use Rattle.placing.specs.Kinds.{pushes_begun_by, pushes_begun_before, takes_ended_by, pending_by, left_in, shuts_begun_by}
 
 -- an operation stands at a place of a list, counted from 1
 pub record StandsAt (ops : List Stamped) (place : ℕ) (o : Stamped) : Type 0 where

@@ -1,16 +1,17 @@
 -- A search of the orders of the operations: which operation is tried next, and how the search ends.
-use Rattle.std.specs.Prelude.{◌≡◌, ℕ, zero, suc, ◌+◌, ◌-◌, Bool, true, false, if◌then◌else◌, nat_eq, List, [], ◌∷◌, ◌++◌, map, reverse, length, replicate, Option, None, Some, is_some, unwrap_or, count_by, slice_get, slice_set, bit_xor, IsPermutation, IsSorted}
+use Rattle.std.specs.Prelude.{◌≡◌, ℕ, zero, suc, ◌+◌, ◌-◌, Bool, true, false, if◌then◌else◌, nat_eq, List, [], ◌∷◌, ◌++◌, map, reverse, length}
+use Rattle.std.specs.Prelude.{replicate, Option, None, Some, is_some, unwrap_or, count_by, slice_get, slice_set, bit_xor, IsPermutation, IsSorted}
 use Rattle.std.specs.declared.cmp.Ordering.{Ordering}
 use Rattle.std.specs.Ordering.{nat_cmp, bool_cmp, ordering_then}
 use Rattle.std.specs.BTreeSet.{BTreeSet, contains, insert_key}
 use Rattle.history.specs.declared.operations.Stamped.{Stamped}
 use Rattle.placing.specs.declared.object.Effect.{Effect}
-use Rattle.placing.specs.declared.searching.Edge.{Edge}
-use Rattle.placing.specs.declared.searching.Tried.{Tried}
+use Rattle.placing.specs.declared.backtracking.Edge.{Edge}
+use Rattle.placing.specs.declared.backtracking.Tried.{Tried}
 use Rattle.placing.specs.declared.links.Ring.{Ring}
-use Rattle.placing.specs.declared.searching.Search.{Search}
-use Rattle.placing.specs.declared.searching.Outcome.{Outcome}
-use Rattle.placing.specs.declared.searching.Outcome.TheVariants.{Order, Nothing, Steps}
+use Rattle.placing.specs.declared.backtracking.Search.{Search}
+use Rattle.placing.specs.declared.backtracking.Outcome.{Outcome}
+use Rattle.placing.specs.declared.backtracking.Outcome.TheVariants.{Order, Nothing, Steps}
 use Rattle.placing.specs.Seen.{by_parts}
 use Rattle.placing.specs.TriedQueues.{mixed, Queue, queue_of, no_values, effect_of, changes, applied, undone, queue_mark}
 

@@ -2,28 +2,28 @@
 #![tactic(auto)]
 
 mod answers;
+mod backtracking;
 mod counts;
-mod cutting;
-mod explaining;
-mod finding;
-mod fitting;
-mod holding;
+mod cuts;
+mod held_values;
+mod kinds;
 mod known;
 pub mod laws;
-mod lining;
 mod links;
 mod object;
+mod operation_order;
 mod operations;
-mod ordering;
-mod pairing;
+mod pairs;
+mod placement;
 mod reasons;
-mod searching;
 mod shut_faults;
 mod shut_reasons;
-mod shutting;
-mod sorting;
-mod spreading;
+mod spread_stamps;
+mod stamp_room;
 mod times;
+mod value_order;
+mod value_reasons;
+mod without_shut;
 
 pub use answers::{Held, Placed, Reason, Span, Unknown};
-pub use finding::place;
+pub use placement::place;

@@ -4,8 +4,8 @@ ghost use Rattle.history.specs.History as rule;
 ghost use Rattle.placing.specs.TriedQueues as queues;
 ghost use Rattle.placing.specs.TriedQueues.{queue_of, no_values, queue_mark, pending_effect, done_effect, value_effect, empty_effect, closed_effect, is_value, applied, pushed_to, undone, changes};
 
+use crate::backtracking::mixed;
 use crate::operations::is_closed;
-use crate::searching::mixed;
 use history::{Op, Reply, Stamped, Taken};
 use std::alloc::{AllocError, Global};
 

@@ -8,7 +8,7 @@ ghost use Rattle.placing.specs.Reasons.{HasAt, IsMisshapen, EndsTooSoon, IsToldA
 
 use crate::answers::{Held, Reason, Span};
 use crate::counts::{pushes_begun_before, pushes_begun_by, takes_ended_by};
-use crate::holding::is_held;
+use crate::held_values::is_held;
 use crate::known::Known;
 use crate::operations::{at, is_told, pushes, took};
 use crate::shut_reasons::{is_late, is_twice, is_undrained, is_unshut, open_until};

@@ -1,11 +1,11 @@
 //! Reasons of histories in which the queue is shut, or said to be.
 use crate::answers::{Held, Reason};
 use crate::counts::pending_by;
+use crate::kinds::{ValueCall, place_of};
 use crate::known::Known;
 use crate::operations::{
     ended_before, is_done_or_empty, is_done_shut, is_told_shut, may_shut, pushed, shows_shut,
 };
-use crate::sorting::{ValueCall, place_of};
 use crate::times::When;
 use history::{Op, Stamped};
 use std::alloc::{AllocError, Global};

@@ -5,7 +5,7 @@ ghost use Rattle.placing.specs.Reasons.{IsTooLate, IsLate, IsTwice, IsUnshut, Is
 
 use crate::answers::Held;
 use crate::counts::{pushes_begun_by, shuts_begun_by};
-use crate::holding::are_left;
+use crate::held_values::are_left;
 use crate::known::Known;
 use crate::operations::{
     at, is_done_or_empty, is_done_shut, is_told, is_told_shut, pushed, shows_shut,
