@@ -22,7 +22,8 @@ one_way w me line m n u v first second =
 one_end : (w : World) (me m n : ℕ) (u v : World) → EndsCall w me m u → EndsCall w me n v → m ≡ n
 one_end w me m n u v first second =
     ⊎_elim (λ same. same)
-    (λ other. ⊎_elim (λ less. absurd (busy_not_idle (actor_of u me) (second.least m u less first.walked) first.ended)) (λ less. absurd (busy_not_idle (actor_of v me) (first.least n v less second.walked) second.ended)) other)
+    (λ other. ⊎_elim (λ less. absurd (busy_not_idle (actor_of u me) (second.least m u less first.walked) first.ended))
+    (λ less. absurd (busy_not_idle (actor_of v me) (first.least n v less second.walked) second.ended)) other)
     (cases_order m n)
 
 -- as many steps are one list of events, and lead to one world

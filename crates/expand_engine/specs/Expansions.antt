@@ -16,7 +16,7 @@ use Rattle.run_engine.specs.Runs.{EventLeads, EventRefused, IsRunFault}
 use Rattle.text_io.specs.Blocks.{TakesPrefix}
 use Rattle.text_io.specs.Devices.{SinkState, SourceState}
 use Rattle.text_io.specs.Readings.{EndsReadingAt, WereAll}
-use Rattle.text_lines.specs.declared.causes.TextCause.{TextCause}
+use Rattle.history.specs.declared.text_causes.TextCause.{TextCause}
 use Rattle.text_lines.specs.Grammars.{IsFirstFault}
 use Rattle.text_lines.specs.Numerals.{IsWithin}
 use Rattle.recipe_text.specs.Recipes.{IsActInRange, IsRecipe, is_act, recipe_lines}

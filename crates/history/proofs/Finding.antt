@@ -68,7 +68,8 @@ unfolding turned
 found [] before place v h = cc h
 found (o ∷ os) before place v h = go (fault_of before o) refl h (found os (o ∷ before) (place + 1) v)
   where
-    go : (c : Option Cause) → fault_of before o ≡ c → fault_or c place (first_fault (place + 1) (o ∷ before) os) ≡ Some v → (first_fault (place + 1) (o ∷ before) os ≡ Some v → IsFound os (place + 1) (o ∷ before) v) → IsFound (o ∷ os) place before v
+    go : (c : Option Cause) → fault_of before o ≡ c → fault_or c place (first_fault (place + 1) (o ∷ before) os) ≡ Some v
+        → (first_fault (place + 1) (o ∷ before) os ≡ Some v → IsFound os (place + 1) (o ∷ before) v) → IsFound (o ∷ os) place before v
     go (Some c) f h more =
         let e : v ≡ No place c = cc h in
         record {
@@ -143,7 +144,8 @@ told_is_fault ops place c n h = fault_stands ops place c (go (first_fault 1 [] o
 pub told_is_wrong : (ops : List Stamped) (place : ℕ) → verdict ops ≡ No place Reply → (first_fault 1 [] ops ≡ None) × (wrong_reply ops (first_wrong empty (by_point ops)) ≡ No place Reply)
 told_is_wrong ops place h = go (first_fault 1 [] ops) refl h
   where
-    go : (v : Option Verdict) → first_fault 1 [] ops ≡ v → fault_or_replies ops v ≡ No place Reply → (first_fault 1 [] ops ≡ None) × (wrong_reply ops (first_wrong empty (by_point ops)) ≡ No place Reply)
+    go : (v : Option Verdict) → first_fault 1 [] ops ≡ v → fault_or_replies ops v ≡ No place Reply → (first_fault 1 [] ops ≡ None)
+        × (wrong_reply ops (first_wrong empty (by_point ops)) ≡ No place Reply)
     go None f e = (f, e)
     go (Some v) f e =
         let r = fault_stands ops place Reply (f ∙ ap Some e) in

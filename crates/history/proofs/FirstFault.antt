@@ -11,7 +11,8 @@ use Rattle.history.proofs.Finding.{seen, told_is_fault, fault_is_told}
 use Rattle.history.proofs.Faulty.{misshapen, shape_fails, outside, span_fails, shares, sharing_passes}
 
 -- the same fault in other words
-refit : (F G : List Stamped → Stamped → Type 0) → ((earlier : List Stamped) (o : Stamped) → F earlier o → G earlier o) → (ops : List Stamped) (place : ℕ) → FirstFaultIs F ops place → FirstFaultIs G ops place
+refit : (F G : List Stamped → Stamped → Type 0) → ((earlier : List Stamped) (o : Stamped) → F earlier o → G earlier o)
+    → (ops : List Stamped) (place : ℕ) → FirstFaultIs F ops place → FirstFaultIs G ops place
 refit F G f ops place h = record {
   earlier = h.earlier;
   operation = h.operation;
@@ -21,7 +22,9 @@ refit F G f ops place h = record {
 }
 
 -- a no by a cause of these is the first fault, which is said in other words
-as_fault : (c : Cause) → (Reply ≡ c → ⊥) → (F : List Stamped → Stamped → Type 0) → ((earlier : List Stamped) (o : Stamped) → (fault_of earlier o ≡ Some c) ↔ F earlier o) → (ops : List Stamped) (place : ℕ) → (verdict ops ≡ No place c) ↔ FirstFaultIs F ops place
+as_fault : (c : Cause) → (Reply ≡ c → ⊥) → (F : List Stamped → Stamped → Type 0)
+    → ((earlier : List Stamped) (o : Stamped) → (fault_of earlier o ≡ Some c) ↔ F earlier o) → (ops : List Stamped) (place : ℕ)
+    → (verdict ops ≡ No place c) ↔ FirstFaultIs F ops place
 as_fault c n F f ops place = (
   λ h. refit (λ earlier o. fault_of earlier o ≡ Some c) F (λ earlier o. (f earlier o).0) ops place (told_is_fault ops place c n h),
   λ h. fault_is_told ops place c (refit F (λ earlier o. fault_of earlier o ≡ Some c) (λ earlier o. (f earlier o).1) ops place h),

@@ -1,12 +1,14 @@
 -- A no by a reply, in words: of the first operation, by rising place, whose reply the queue doesn't give.
-use Rattle.std.proofs.Common.{◌≡◌, ◌≢◌, ℕ, ◌+◌, ◌⊎◌, inl, inr, Bool, true, false, nat_le, if◌then◌else◌, Option, Some, None, is_some, IsSome, IfSome, List, [], ◌∷◌, ◌++◌, length, ◌↔◌, refl, sym, ap, ◌∙◌, subst, arith, add-zero}
+use Rattle.std.proofs.Common.{◌≡◌, ◌≢◌, ℕ, ◌+◌, ◌⊎◌, inl, inr, Bool, true, false, nat_le, if◌then◌else◌, Option, Some, None, is_some, IsSome, IfSome}
+use Rattle.std.proofs.Common.{List, [], ◌∷◌, ◌++◌, length, ◌↔◌, refl, sym, ap, ◌∙◌, subst, arith, add-zero}
 use Rattle.std.specs.List.{AllByRecursion}
 use Rattle.std.proofs.lemmas.Bool.{false_from_ne_true, both_ways}
 use Rattle.history.specs.declared.operations.Stamped.{Stamped}
 use Rattle.history.specs.declared.operations.Verdict.TheVariants.{No}
 use Rattle.history.specs.declared.operations.Cause.TheVariants.{Reply}
 use Rattle.history.specs.Queue.{Queue, empty}
-use Rattle.history.specs.History.{point_or_zero, AreApart, Placement, inserted, by_point, answer, IsSequentialRun, queue_after, agrees_with_queue, first_wrong, index_by_point, wrong_reply, fault_or_replies, verdict}
+use Rattle.history.specs.History.{point_or_zero, AreApart, Placement, inserted, by_point, answer, IsSequentialRun, queue_after, agrees_with_queue}
+use Rattle.history.specs.History.{first_wrong, index_by_point, wrong_reply, fault_or_replies, verdict}
 use Rattle.history.specs.Faults.{FirstIsWrong}
 use Rattle.history.proofs.Judging.{gets_right, placement_from_no_fault}
 use Rattle.history.proofs.Judged.{got, not_same, no_fault_from_placement}
@@ -25,7 +27,8 @@ split : (ops : List Stamped) (queue : Queue) (o : Stamped) → first_wrong queue
 split [] queue o h = cc h
 split (p ∷ ps) queue o h = go (agrees_with_queue queue p p.reply) refl h (split ps (answer queue p p.reply).after o)
   where
-    go : (b : Bool) → agrees_with_queue queue p p.reply ≡ b → (if b then first_wrong (answer queue p p.reply).after ps else Some p) ≡ Some o → (first_wrong (answer queue p p.reply).after ps ≡ Some o → IsSplit (answer queue p p.reply).after ps o) → IsSplit queue (p ∷ ps) o
+    go : (b : Bool) → agrees_with_queue queue p p.reply ≡ b → (if b then first_wrong (answer queue p p.reply).after ps else Some p) ≡ Some o
+        → (first_wrong (answer queue p p.reply).after ps ≡ Some o → IsSplit (answer queue p p.reply).after ps o) → IsSplit queue (p ∷ ps) o
     go true g h more =
         let r = more h in
         record {
@@ -45,7 +48,8 @@ split (p ∷ ps) queue o h = go (agrees_with_queue queue p p.reply) refl h (spli
           wrong = subst (λ o. agrees_with_queue queue o o.reply ≡ false) e g;
         }
 
-first_wrong-append : (sooner : List Stamped) (queue : Queue) (o : Stamped) (afterwards : List Stamped) → IsSequentialRun queue sooner → agrees_with_queue (queue_after queue sooner) o o.reply ≡ false → first_wrong queue (sooner ++ o ∷ afterwards) ≡ Some o
+first_wrong-append : (sooner : List Stamped) (queue : Queue) (o : Stamped) (afterwards : List Stamped) → IsSequentialRun queue sooner
+    → agrees_with_queue (queue_after queue sooner) o o.reply ≡ false → first_wrong queue (sooner ++ o ∷ afterwards) ≡ Some o
 first_wrong-append [] queue o afterwards r w =
     ap (λ b. if b then first_wrong (answer queue o o.reply).after afterwards else Some o) w
 first_wrong-append (p ∷ ps) queue o afterwards r w =
@@ -92,11 +96,13 @@ stands : (o : Stamped) (ops : List Stamped) → Has o ops → (earlier : List St
 stands o [] h = absurd h
 stands o (p ∷ ps) h = go h (stands o ps)
   where
-    go : Has o (p ∷ ps) → (Has o ps → (earlier : List Stamped) × (later : List Stamped) × (ps ≡ earlier ++ o ∷ later)) → (earlier : List Stamped) × (later : List Stamped) × (p ∷ ps ≡ earlier ++ o ∷ later)
+    go : Has o (p ∷ ps) → (Has o ps → (earlier : List Stamped) × (later : List Stamped) × (ps ≡ earlier ++ o ∷ later)) → (earlier : List Stamped)
+        × (later : List Stamped) × (p ∷ ps ≡ earlier ++ o ∷ later)
     go (inl e) more = ([], ps, ap (λ o. o ∷ ps) (sym e))
     go (inr h) more = let r = more h in (p ∷ r.0, r.1, ap (λ r. p ∷ r) r.2)
 
-place_differs : (xs : List Stamped) (o : Stamped) (ys : List Stamped) (place : Option ℕ) → IfSome place (λ at. AllByRecursion (λ p. p.at ≢ Some at) (xs ++ o ∷ ys)) → IfSome place (λ at. o.at ≢ Some at)
+place_differs : (xs : List Stamped) (o : Stamped) (ys : List Stamped) (place : Option ℕ)
+    → IfSome place (λ at. AllByRecursion (λ p. p.at ≢ Some at) (xs ++ o ∷ ys)) → IfSome place (λ at. o.at ≢ Some at)
 place_differs xs o ys None h = tt
 place_differs xs o ys (Some at) h = middle xs h
   where
@@ -105,7 +111,8 @@ place_differs xs o ys (Some at) h = middle xs h
     middle (x ∷ xs) h = middle xs h.1
 
 -- where an operation stands in a list whose places are apart
-index_by_point-append : (earlier : List Stamped) (n : ℕ) (o : Stamped) (later : List Stamped) → IsSome o.at → AreApart (earlier ++ o ∷ later) → index_by_point o.at n (earlier ++ o ∷ later) ≡ n + length earlier
+index_by_point-append : (earlier : List Stamped) (n : ℕ) (o : Stamped) (later : List Stamped) → IsSome o.at → AreApart (earlier ++ o ∷ later)
+    → index_by_point o.at n (earlier ++ o ∷ later) ≡ n + length earlier
 index_by_point-append [] n o later s a =
     ap (λ b. if b then n else index_by_point o.at (n + 1) later) (same_from o.at o.at s refl) ∙ sym (add-zero n)
 index_by_point-append (p ∷ ps) n o later s a =

@@ -8,7 +8,9 @@ use Rattle.history.specs.declared.operations.Stamped.{Stamped}
 use Rattle.history.specs.declared.operations.Verdict.TheVariants.{Yes}
 use Rattle.history.specs.declared.operations.Cause.TheVariants.{Shape, Span, Shared}
 use Rattle.history.specs.Queue.{Queue, empty, response}
-use Rattle.history.specs.History.{leaves, is_closed, refuses, LiesIn, IsPlaced, AreApart, Placement, by_point, AgreesWithQueue, answer, IsSequentialRun, IsLegal, is_shaped, lies_within, same_point, is_shared, fault_or, first_fault, same_reply, agrees_with_queue, first_wrong, wrong_reply, fault_or_replies, verdict}
+use Rattle.history.specs.History.{leaves, is_closed, refuses, LiesIn, IsPlaced, AreApart, Placement, by_point, AgreesWithQueue, answer}
+use Rattle.history.specs.History.{IsSequentialRun, IsLegal, is_shaped, lies_within, same_point, is_shared, fault_or, first_fault, same_reply}
+use Rattle.history.specs.History.{agrees_with_queue, first_wrong, wrong_reply, fault_or_replies, verdict}
 
 shape_of : (first : ℕ) (last at : Option ℕ) (reply : Option Reply) → LiesIn first last at reply → is_shaped last at reply ≡ true
 shape_of first None None None h = refl
@@ -43,7 +45,8 @@ not_same None (Some at) h = refl
 not_same (Some b) None h = refl
 not_same (Some b) (Some at) h = ne_eqb b at (λ e. h (ap Some e))
 
-joined : (o : Stamped) (earlier os : List Stamped) → IfSome o.at (λ at. AllByRecursion (λ p. p.at ≢ Some at) os) → AllByRecursion (λ p. is_shared p earlier ≡ false) os → AllByRecursion (λ p. is_shared p (o ∷ earlier) ≡ false) os
+joined : (o : Stamped) (earlier os : List Stamped) → IfSome o.at (λ at. AllByRecursion (λ p. p.at ≢ Some at) os)
+    → AllByRecursion (λ p. is_shared p earlier ≡ false) os → AllByRecursion (λ p. is_shared p (o ∷ earlier) ≡ false) os
 joined o earlier [] h g = tt
 joined o earlier (p ∷ ps) h g =
     (or_from _ _ (not_same p.at o.at (first o.at h)) g.0, joined o earlier ps (rest o.at h) g.1)

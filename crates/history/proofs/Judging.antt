@@ -13,7 +13,9 @@ use Rattle.history.specs.declared.operations.Cause.TheVariants.{Shape, Span, Sha
 use Rattle.history.specs.Queue.{Queue, empty, response}
 use Rattle.history.specs.declared.refusals.Refusal.{Refusal}
 use Rattle.history.specs.declared.refusals.Refusal.TheVariants.{Closed}
-use Rattle.history.specs.History.{leaves, is_closed, refuses, LiesIn, IsPlaced, AreApart, Placement, by_point, AgreesWithQueue, answer, IsSequentialRun, IsLegal, is_shaped, lies_within, same_point, is_shared, fault_of, fault_or, first_fault, same_reply, agrees_with_queue, first_wrong, wrong_reply, fault_or_replies, verdict}
+use Rattle.history.specs.History.{leaves, is_closed, refuses, LiesIn, IsPlaced, AreApart, Placement, by_point, AgreesWithQueue, answer}
+use Rattle.history.specs.History.{IsSequentialRun, IsLegal, is_shaped, lies_within, same_point, is_shared, fault_of, fault_or, first_fault}
+use Rattle.history.specs.History.{same_reply, agrees_with_queue, first_wrong, wrong_reply, fault_or_replies, verdict}
 
 lies : (first : ℕ) (last at : Option ℕ) (reply : Option Reply) → is_shaped last at reply ≡ true → lies_within first last at ≡ true → LiesIn first last at reply
 lies first None None None s w = record { ended = (λ x. x, λ x. x); placed = λ x. x; not_before = tt; not_after = tt }
@@ -60,7 +62,8 @@ apart_from (Some at) os h = all os h
     all [] h = tt
     all (p ∷ ps) h = (differs p.at at h.0, all ps h.1)
 
-split_shared : (o : Stamped) (earlier os : List Stamped) → AllByRecursion (λ p. is_shared p (o ∷ earlier) ≡ false) os → AllByRecursion (λ p. same_point p.at o.at ≡ false) os × AllByRecursion (λ p. is_shared p earlier ≡ false) os
+split_shared : (o : Stamped) (earlier os : List Stamped) → AllByRecursion (λ p. is_shared p (o ∷ earlier) ≡ false) os
+    → AllByRecursion (λ p. same_point p.at o.at ≡ false) os × AllByRecursion (λ p. is_shared p earlier ≡ false) os
 split_shared o earlier [] h = (tt, tt)
 split_shared o earlier (p ∷ ps) h =
     let a = shared_with p o earlier h.0 in let b = split_shared o earlier ps h.1 in ((a.0, b.0), (a.1, b.1))
@@ -101,7 +104,8 @@ refuses_is : (given : Reply) → refuses given ≡ true → Refused Closed ≡ g
 refuses_is (Refused refusal) e = ap Refused (sym (closed_is refusal e))
 refuses_is _ e = cc e
 
-refused_right : (b : Bool) (given : Reply) (refusal : Refusal) → leaves refusal ≡ b → (b || is_closed refusal && refuses given) ≡ true → (leaves refusal ≡ true) ⊎ ((refusal ≡ Closed) × (Refused Closed ≡ given))
+refused_right : (b : Bool) (given : Reply) (refusal : Refusal) → leaves refusal ≡ b → (b || is_closed refusal && refuses given) ≡ true
+    → (leaves refusal ≡ true) ⊎ ((refusal ≡ Closed) × (Refused Closed ≡ given))
 refused_right true given refusal is e = inl is
 refused_right false given refusal is e =
     let h = and_parts (is_closed refusal) (refuses given) e in
@@ -115,7 +119,9 @@ gets_right queue o (Some Done) e = same_answer Done _ e
 gets_right queue o (Some (Value v)) e = same_answer (Value v) _ e
 gets_right queue o (Some Empty) e = same_answer Empty _ e
 
-right_from : (b : Bool) (queue : Queue) (o : Stamped) (os : List Stamped) → agrees_with_queue queue o o.reply ≡ b → (if b then first_wrong (answer queue o o.reply).after os else Some o) ≡ None → (first_wrong (answer queue o o.reply).after os ≡ None → IsSequentialRun (answer queue o o.reply).after os) → IsSequentialRun queue (o ∷ os)
+right_from : (b : Bool) (queue : Queue) (o : Stamped) (os : List Stamped) → agrees_with_queue queue o o.reply ≡ b
+    → (if b then first_wrong (answer queue o o.reply).after os else Some o) ≡ None
+    → (first_wrong (answer queue o o.reply).after os ≡ None → IsSequentialRun (answer queue o o.reply).after os) → IsSequentialRun queue (o ∷ os)
 right_from true queue o os f g more = (gets_right queue o o.reply f, more g)
 right_from false queue o os f g more = cc g
 

@@ -56,7 +56,8 @@ rest_pending : (os : List Stamped) → AllByRecursion IsPlaced os → AllByRecur
 rest_pending [] h = tt
 rest_pending (o ∷ os) h = go (has_place o) refl (rest_pending os h.1)
   where
-    go : (b : Bool) → has_place o ≡ b → AllByRecursion IsPending (filter (λ o. not (has_place o)) os) → AllByRecursion IsPending (cond (not b) (o ∷ filter (λ o. not (has_place o)) os) (filter (λ o. not (has_place o)) os))
+    go : (b : Bool) → has_place o ≡ b → AllByRecursion IsPending (filter (λ o. not (has_place o)) os)
+        → AllByRecursion IsPending (cond (not b) (o ∷ filter (λ o. not (has_place o)) os) (filter (λ o. not (has_place o)) os))
     go true e more = more
     go false e more = (pending o h.0 e, more)
 
@@ -66,7 +67,8 @@ rest_pending (o ∷ os) h = go (has_place o) refl (rest_pending os h.1)
 abbrev LiesAtItsPlace : Stamped → Type 0
 LiesAtItsPlace o = (o.first ≤ point_or_zero o.at) × IfSome o.last (λ last. point_or_zero o.at ≤ last)
 
-lies_at_its_place : (first : ℕ) (last at : Option ℕ) (reply : Option Reply) → LiesIn first last at reply → is_some at ≡ true → (first ≤ point_or_zero at) × IfSome last (λ last. point_or_zero at ≤ last)
+lies_at_its_place : (first : ℕ) (last at : Option ℕ) (reply : Option Reply) → LiesIn first last at reply → is_some at ≡ true
+    → (first ≤ point_or_zero at) × IfSome last (λ last. point_or_zero at ≤ last)
 lies_at_its_place first last (Some at) reply h some = (h.not_before, h.not_after)
 lies_at_its_place first last None reply h some = cc some
 
@@ -91,7 +93,8 @@ before_last : (first a b : ℕ) (last : Option ℕ) → first ≤ a → a ≤ b 
 before_last first a b None h k l = tt
 before_last first a b (Some last) h k l = omega arith
 
-come_before : (o : Stamped) (ps : List Stamped) → LiesAtItsPlace o → AllByRecursion (λ p. point_or_zero o.at ≤ point_or_zero p.at) ps → AllByRecursion LiesAtItsPlace ps → AllByRecursion (MayComeBefore o) ps
+come_before : (o : Stamped) (ps : List Stamped) → LiesAtItsPlace o → AllByRecursion (λ p. point_or_zero o.at ≤ point_or_zero p.at) ps
+    → AllByRecursion LiesAtItsPlace ps → AllByRecursion (MayComeBefore o) ps
 come_before o [] h r l = tt
 come_before o (p ∷ ps) h r l =
     (before_last o.first (point_or_zero o.at) (point_or_zero p.at) p.last h.0 r.0 l.0.1, come_before o ps h r.1 l.1)
@@ -147,7 +150,8 @@ given_is_given actor Deq queue = front_is_given queue queue.values
 given_is_given actor Shut queue = unless_shut_is_given queue.shut queue _
 
 -- an operation that is given what the queue gives gets it, and leads where the queue leads
-gets_given : (queue : Queue) (o : Stamped) (given : Answer) (reply : Reply) → given ≡ response o.actor o.op queue → reply ≡ given.reply → IsGiven queue given → AgreesWithQueue queue o (Some reply) × (answer queue o (Some reply) ≡ response o.actor o.op queue)
+gets_given : (queue : Queue) (o : Stamped) (given : Answer) (reply : Reply) → given ≡ response o.actor o.op queue → reply ≡ given.reply
+    → IsGiven queue given → AgreesWithQueue queue o (Some reply) × (answer queue o (Some reply) ≡ response o.actor o.op queue)
 gets_given queue o given Done is e n = (e ∙ ap (λ a. a.reply) is, refl)
 gets_given queue o given (Value v) is e n = (e ∙ ap (λ a. a.reply) is, refl)
 gets_given queue o given Empty is e n = (e ∙ ap (λ a. a.reply) is, refl)
@@ -157,7 +161,9 @@ gets_given queue o given (Refused refusal) is e n =
       (λ i. record { reply = e i; after = sym h.1 i }) ∙ is,
     )
 
-runs_on : (queue : Queue) (o : Stamped) (os : List Stamped) (reply : Option Reply) → AgreesWithQueue queue o reply → IsRun (answer queue o reply).after (answered (answer queue o reply).after os) → AgreesWithQueue queue o (Some (reply_in queue o reply)) × IsRun (answer queue o (Some (reply_in queue o reply))).after (answered (answer queue o reply).after os)
+runs_on : (queue : Queue) (o : Stamped) (os : List Stamped) (reply : Option Reply) → AgreesWithQueue queue o reply
+    → IsRun (answer queue o reply).after (answered (answer queue o reply).after os) → AgreesWithQueue queue o (Some (reply_in queue o reply))
+    × IsRun (answer queue o (Some (reply_in queue o reply))).after (answered (answer queue o reply).after os)
 runs_on queue o os (Some reply) g more = (g, more)
 runs_on queue o os None g more =
     let h = gets_given queue o (response o.actor o.op queue) (response o.actor o.op queue).reply refl refl (given_is_given o.actor o.op queue) in

@@ -57,6 +57,8 @@ pub rising_moves : (ops : List Stamped) → IsPermutation (filter (λ o. is_some
 rising_moves [] = IsPermutation-refl []
 rising_moves (o ∷ os) = go (is_some o.at) (rising_moves os)
   where
-    go : (b : Bool) → IsPermutation (filter (λ o. is_some o.at) os) (by_point os) → IsPermutation (cond b (o ∷ filter (λ o. is_some o.at) os) (filter (λ o. is_some o.at) os)) (if b then inserted o (by_point os) else by_point os)
+    go : (b : Bool) → IsPermutation (filter (λ o. is_some o.at) os) (by_point os)
+        → IsPermutation (cond b (o ∷ filter (λ o. is_some o.at) os) (filter (λ o. is_some o.at) os))
+        (if b then inserted o (by_point os) else by_point os)
     go true h = IsPermutation-trans _ _ _ (IsPermutation-cons o _ _ h) (inserted_moves o (by_point os))
     go false h = h

@@ -35,7 +35,8 @@ module _ {X : Type 0} (R : X → X → Type 0) where
       at_a (inr other) = at_b other (cases_eq place b)
 
   -- two places had two places
-  stood_apart : (a b i j s t : ℕ) → ((i ≡ a) × (s ≡ b)) ⊎ ((i ≡ b) × (s ≡ a)) ⊎ ((i ≢ a) × (i ≢ b) × (s ≡ i)) → ((j ≡ a) × (t ≡ b)) ⊎ ((j ≡ b) × (t ≡ a)) ⊎ ((j ≢ a) × (j ≢ b) × (t ≡ j)) → i ≢ j → s ≢ t
+  stood_apart : (a b i j s t : ℕ) → ((i ≡ a) × (s ≡ b)) ⊎ ((i ≡ b) × (s ≡ a)) ⊎ ((i ≢ a) × (i ≢ b) × (s ≡ i)) → ((j ≡ a) × (t ≡ b))
+      ⊎ ((j ≡ b) × (t ≡ a)) ⊎ ((j ≢ a) × (j ≢ b) × (t ≡ j)) → i ≢ j → s ≢ t
   stood_apart a b i j s t p q apart same = grind (arith, p, q)
 
   stood_within : (a b n i s : ℕ) → ((i ≡ a) × (s ≡ b)) ⊎ ((i ≡ b) × (s ≡ a)) ⊎ ((i ≢ a) × (i ≢ b) × (s ≡ i)) → a < n → b < n → i < n → s < n
@@ -49,7 +50,8 @@ module _ {X : Type 0} (R : X → X → Type 0) where
       let long : length (swap xs a b) ≡ length xs = length-swap xs a b in
       subst (λ x. R x (get_or (swap xs a b) j d)) (sym p.1)
       (subst (R (get_or xs p.0 d)) (sym q.1)
-      (h p.0 q.0 d (stood_apart a b i j p.0 q.0 p.2 q.2 apart) (stood_within a b (length xs) i p.0 p.2 in_a in_b (subst (λ n. i < n) long in_i)) (stood_within a b (length xs) j q.0 q.2 in_a in_b (subst (λ n. j < n) long in_j))))
+      (h p.0 q.0 d (stood_apart a b i j p.0 q.0 p.2 q.2 apart) (stood_within a b (length xs) i p.0 p.2 in_a in_b (subst (λ n. i < n) long in_i))
+      (stood_within a b (length xs) j q.0 q.2 in_a in_b (subst (λ n. j < n) long in_j))))
 
   -- so it holds of any two of a list with the same elements
   any_two_moved : (xs ys : List X) → OfAnyTwo xs → IsPermutation xs ys → OfAnyTwo ys

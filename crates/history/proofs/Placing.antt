@@ -1,5 +1,6 @@
 -- A map by place against the operations by rising place.
-use Rattle.std.proofs.Common.{◌≡◌, ℕ, ◌+◌, ◌<◌, Bool, true, false, not, ◌||◌, cond, nat_le, nat_eq, if◌then◌else◌, Option, None, Some, is_some, List, [], ◌∷◌, ◌++◌, map, take, drop, get_or, length, refl, sym, ap, ◌∙◌, subst, arith, add-one, Ordering}
+use Rattle.std.proofs.Common.{◌≡◌, ℕ, ◌+◌, ◌<◌, Bool, true, false, not, ◌||◌, cond, nat_le, nat_eq, if◌then◌else◌, Option, None, Some, is_some, List}
+use Rattle.std.proofs.Common.{[], ◌∷◌, ◌++◌, map, take, drop, get_or, length, refl, sym, ap, ◌∙◌, subst, arith, add-one, Ordering}
 use Rattle.std.proofs.Math.Seq.{take-suc, drop-cons}
 use Rattle.std.specs.Borrow.{Bor}
 use Rattle.std.specs.BTreeMap.{insert_entry, is_at, get}
@@ -27,7 +28,9 @@ shown-insert : (at : ℕ) (o : Bor Stamped) (es : List (ℕ × Bor Stamped)) →
 shown-insert at o [] = refl
 shown-insert at o (e ∷ es) = go (nat_cmp at e.0) (shown-insert at o es)
   where
-    go : (r : Ordering) → map shown (insert_entry nat_cmp es at o) ≡ insert_entry nat_cmp (map shown es) at o.now → map shown (match_ordering r ((at, o) ∷ e ∷ es) ((e.0, o) ∷ es) (e ∷ insert_entry nat_cmp es at o)) ≡ match_ordering r ((at, o.now) ∷ shown e ∷ map shown es) ((e.0, o.now) ∷ map shown es) (shown e ∷ insert_entry nat_cmp (map shown es) at o.now)
+    go : (r : Ordering) → map shown (insert_entry nat_cmp es at o) ≡ insert_entry nat_cmp (map shown es) at o.now
+        → map shown (match_ordering r ((at, o) ∷ e ∷ es) ((e.0, o) ∷ es) (e ∷ insert_entry nat_cmp es at o)) ≡ match_ordering r
+        ((at, o.now) ∷ shown e ∷ map shown es) ((e.0, o.now) ∷ map shown es) (shown e ∷ insert_entry nat_cmp (map shown es) at o.now)
     go Less h = refl
     go Equal h = refl
     go Greater h = ap (λ r. shown e ∷ r) h
@@ -42,14 +45,19 @@ has-shown test (e ∷ es) = go (test e.0) (has-shown test es)
     go false h = h
 
 -- where a new number isn't among those of a list, its entry goes where its operation is put in
-numbered-insert : (o : Stamped) (at : ℕ) → point_or_zero o.at ≡ at → (ps : List Stamped) → is_some (lookup (is_at (nat_cmp at)) (map numbered ps)) ≡ false → insert_entry nat_cmp (map numbered ps) at o ≡ map numbered (inserted o ps)
+numbered-insert : (o : Stamped) (at : ℕ) → point_or_zero o.at ≡ at → (ps : List Stamped)
+    → is_some (lookup (is_at (nat_cmp at)) (map numbered ps)) ≡ false → insert_entry nat_cmp (map numbered ps) at o ≡ map numbered (inserted o ps)
 numbered-insert o at e [] h = ap (λ n. (n, o) ∷ []) (sym e)
 numbered-insert o at e (p ∷ ps) h = go (nat_cmp at (point_or_zero p.at)) refl h (numbered-insert o at e ps)
   where
     both : (b : Bool) → nat_le (point_or_zero o.at) (point_or_zero p.at) ≡ b → map numbered (inserted o (p ∷ ps)) ≡ map numbered (if b then o ∷ p ∷ ps else p ∷ inserted o ps)
     both b f = ap (λ b. map numbered (if b then o ∷ p ∷ ps else p ∷ inserted o ps)) f
 
-    go : (r : Ordering) → nat_cmp at (point_or_zero p.at) ≡ r → is_some (cond (is_eq r) (Some p) (lookup (is_at (nat_cmp at)) (map numbered ps))) ≡ false → (is_some (lookup (is_at (nat_cmp at)) (map numbered ps)) ≡ false → insert_entry nat_cmp (map numbered ps) at o ≡ map numbered (inserted o ps)) → match_ordering r ((at, o) ∷ map numbered (p ∷ ps)) ((point_or_zero p.at, o) ∷ map numbered ps) (numbered p ∷ insert_entry nat_cmp (map numbered ps) at o) ≡ map numbered (inserted o (p ∷ ps))
+    go : (r : Ordering) → nat_cmp at (point_or_zero p.at) ≡ r → is_some (cond (is_eq r) (Some p) (lookup (is_at (nat_cmp at)) (map numbered ps))) ≡
+        false → (is_some (lookup (is_at (nat_cmp at)) (map numbered ps)) ≡ false
+        → insert_entry nat_cmp (map numbered ps) at o ≡ map numbered (inserted o ps))
+        → match_ordering r ((at, o) ∷ map numbered (p ∷ ps)) ((point_or_zero p.at, o) ∷ map numbered ps)
+        (numbered p ∷ insert_entry nat_cmp (map numbered ps) at o) ≡ map numbered (inserted o (p ∷ ps))
     go Less f h ih =
         let l : at < point_or_zero p.at = ranked at (point_or_zero p.at) Less (sym f) in
         ap (λ n. (n, o) ∷ map numbered (p ∷ ps)) (sym e) ∙ sym (both true (le-leb _ _ (omega arith)))
@@ -72,7 +80,9 @@ has-inserted : (test : ℕ → Bool) (p : Stamped) (ps : List Stamped) → is_so
 has-inserted test p [] = has_head (test (point_or_zero p.at)) p None
 has-inserted test p (q ∷ qs) = go (nat_le (point_or_zero p.at) (point_or_zero q.at)) (has-inserted test p qs)
   where
-    go : (b : Bool) → is_some (lookup test (map numbered (inserted p qs))) ≡ (test (point_or_zero p.at) || is_some (lookup test (map numbered qs))) → is_some (lookup test (map numbered (if b then p ∷ q ∷ qs else q ∷ inserted p qs))) ≡ (test (point_or_zero p.at) || is_some (lookup test (map numbered (q ∷ qs))))
+    go : (b : Bool) → is_some (lookup test (map numbered (inserted p qs))) ≡ (test (point_or_zero p.at) || is_some (lookup test (map numbered qs)))
+        → is_some (lookup test (map numbered (if b then p ∷ q ∷ qs else q ∷ inserted p qs))) ≡
+        (test (point_or_zero p.at) || is_some (lookup test (map numbered (q ∷ qs))))
     go true h = has_head (test (point_or_zero p.at)) p (lookup test (map numbered (q ∷ qs)))
     go false h =
         has_head (test (point_or_zero q.at)) q (lookup test (map numbered (inserted p qs))) ∙
@@ -93,7 +103,8 @@ has-by_point : (o : Stamped) (at : ℕ) → o.at ≡ Some at → (ps : List Stam
 has-by_point o at e [] = refl
 has-by_point o at e (p ∷ ps) = go p.at refl (has-by_point o at e ps)
   where
-    go : (b : Option ℕ) → p.at ≡ b → is_some (lookup (is_at (nat_cmp at)) (map numbered (by_point ps))) ≡ is_shared o ps → is_some (lookup (is_at (nat_cmp at)) (map numbered (by_point (p ∷ ps)))) ≡ (same_point o.at p.at || is_shared o ps)
+    go : (b : Option ℕ) → p.at ≡ b → is_some (lookup (is_at (nat_cmp at)) (map numbered (by_point ps))) ≡ is_shared o ps
+        → is_some (lookup (is_at (nat_cmp at)) (map numbered (by_point (p ∷ ps)))) ≡ (same_point o.at p.at || is_shared o ps)
     go None f h =
         ap (λ r. is_some (lookup (is_at (nat_cmp at)) (map numbered r))) (by_point-cons p ps false (ap is_some f)) ∙
         h ∙ sym (ap (λ s. s || is_shared o ps) (ap (λ x. same_point x p.at) e ∙ ap (same_point (Some at)) f))
@@ -112,7 +123,8 @@ has_place places before o at h e =
     ap (λ es. is_some (lookup (is_at (nat_cmp at)) es)) h ∙ has-by_point o at e before
 
 -- an operation in shape and within its steps has no fault but a shared place
-fault-shared : (before : List Stamped) (o : Stamped) (d : Bool) → is_shaped o.last o.at o.reply ≡ true → lies_within o.first o.last o.at ≡ true → is_shared o before ≡ d → fault_of before o ≡ (if d then Some Shared else None)
+fault-shared : (before : List Stamped) (o : Stamped) (d : Bool) → is_shaped o.last o.at o.reply ≡ true → lies_within o.first o.last o.at ≡ true
+    → is_shared o before ≡ d → fault_of before o ≡ (if d then Some Shared else None)
 fault-shared before o d s w e =
     ap (λ b. if not b then Some Shape else if not (lies_within o.first o.last o.at) then Some Span else if is_shared o before then Some Shared else None) s ∙
     ap (λ c. if not c then Some Span else if is_shared o before then Some Shared else None) w ∙
@@ -130,7 +142,9 @@ judges_unplaced places o s w e before h = (
 )
 
 -- an operation whose place is new
-pub judges_new : (old new : OperationsByPoint) (o : Bor Stamped) (at : ℕ) → is_shaped o.now.last o.now.at o.now.reply ≡ true → lies_within o.now.first o.now.last o.now.at ≡ true → o.now.at ≡ Some at → get nat_cmp old at ≡ None → new.entries ≡ insert_entry nat_cmp old.entries at o → Judges old new o.now None
+pub judges_new : (old new : OperationsByPoint) (o : Bor Stamped) (at : ℕ) → is_shaped o.now.last o.now.at o.now.reply ≡ true
+    → lies_within o.now.first o.now.last o.now.at ≡ true → o.now.at ≡ Some at → get nat_cmp old at ≡ None
+    → new.entries ≡ insert_entry nat_cmp old.entries at o → Judges old new o.now None
 judges_new old new o at s w e n i before h =
     let d : is_shared o.now before ≡ false = sym (has_place old before o.now at h e) ∙ ap is_some n in
     let k : is_some (lookup (is_at (nat_cmp at)) (map numbered (by_point before))) ≡ false = has-by_point o.now at e before ∙ d in (
@@ -142,7 +156,8 @@ judges_new old new o at s w e n i before h =
     )
 
 -- an operation whose place is there already
-pub judges_shared : (old new : OperationsByPoint) (o : Stamped) (at : ℕ) (p : Bor Stamped) → is_shaped o.last o.at o.reply ≡ true → lies_within o.first o.last o.at ≡ true → o.at ≡ Some at → get nat_cmp old at ≡ Some p → Judges old new o (Some Shared)
+pub judges_shared : (old new : OperationsByPoint) (o : Stamped) (at : ℕ) (p : Bor Stamped) → is_shaped o.last o.at o.reply ≡ true
+    → lies_within o.first o.last o.at ≡ true → o.at ≡ Some at → get nat_cmp old at ≡ Some p → Judges old new o (Some Shared)
 judges_shared old new o at p s w e n before h =
     let d : is_shared o before ≡ true = sym (has_place old before o at h e) ∙ ap is_some n in
     (sym (fault-shared before o true s w d), λ f. cc f)
@@ -174,7 +189,8 @@ fault_seen o d =
     else None
 
 -- one more operation without fault
-pub passes_on : (ops : List Stamped) (i : ℕ) (x : Stamped) (old new : OperationsByPoint) (cause : Option Cause) → IsPassed ops i old → i < length ops → x ≡ get_or ops i x → Judges old new x cause → cause ≡ None → IsPassed ops (i + 1) new
+pub passes_on : (ops : List Stamped) (i : ℕ) (x : Stamped) (old new : OperationsByPoint) (cause : Option Cause) → IsPassed ops i old → i < length ops
+    → x ≡ get_or ops i x → Judges old new x cause → cause ≡ None → IsPassed ops (i + 1) new
 passes_on ops i x old new cause p l e j n =
     let t : take (i + 1) ops ≡ take i ops ++ x ∷ [] = rw (add-one, take-suc ops i x l, ← e) refl in
     let d : drop i ops ≡ x ∷ drop (i + 1) ops = rw (add-one, drop-cons ops i x l, ← e) refl in

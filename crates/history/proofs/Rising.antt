@@ -17,7 +17,8 @@ opposite a b true d e =
 opposite a b false d e =
     let h : point_or_zero b.at < point_or_zero a.at = leb-false _ _ e in le-leb _ _ (omega arith)
 
-commute_front : (a b p : Stamped) (ps : List Stamped) (x y z : Bool) → point_or_zero a.at ≢ point_or_zero b.at → at_most a p ≡ x → at_most b p ≡ y → at_most a b ≡ z → inserted a (inserted b ps) ≡ inserted b (inserted a ps) → inserted a (inserted b (p ∷ ps)) ≡ inserted b (inserted a (p ∷ ps))
+commute_front : (a b p : Stamped) (ps : List Stamped) (x y z : Bool) → point_or_zero a.at ≢ point_or_zero b.at → at_most a p ≡ x → at_most b p ≡ y
+    → at_most a b ≡ z → inserted a (inserted b ps) ≡ inserted b (inserted a ps) → inserted a (inserted b (p ∷ ps)) ≡ inserted b (inserted a (p ∷ ps))
 commute_front a b p ps true true true d ea eb e ih =
     ap (inserted a) (front b p ps true eb) ∙ front a b (p ∷ ps) true e ∙
     sym (ap (inserted b) (front a p ps true ea) ∙ front b a (p ∷ ps) false (opposite a b true d e) ∙ ap (λ r. a ∷ r) (front b p ps true eb))
@@ -62,7 +63,8 @@ numbers_differ (Some a) (Some b) s t e h = eqb-false a b e (sym h)
 numbers_differ None b s t e h = cc s
 numbers_differ (Some a) None s t e h = cc t
 
-push_front : (o p : Stamped) (ps : List Stamped) (b : Bool) → is_some o.at ≡ true → is_some p.at ≡ b → same_point o.at p.at ≡ false → by_point (ps ++ o ∷ []) ≡ inserted o (by_point ps) → by_point (p ∷ ps ++ o ∷ []) ≡ inserted o (by_point (p ∷ ps))
+push_front : (o p : Stamped) (ps : List Stamped) (b : Bool) → is_some o.at ≡ true → is_some p.at ≡ b → same_point o.at p.at ≡ false
+    → by_point (ps ++ o ∷ []) ≡ inserted o (by_point ps) → by_point (p ∷ ps ++ o ∷ []) ≡ inserted o (by_point (p ∷ ps))
 push_front o p ps true s t d e =
     by_point-cons p (ps ++ o ∷ []) true t ∙ ap (inserted p) e ∙
     commute p o (by_point ps) (numbers_differ o.at p.at s t d) ∙ ap (inserted o) (sym (by_point-cons p ps true t))

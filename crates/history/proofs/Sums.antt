@@ -1,5 +1,7 @@
 -- The entries of some seats in a history: they are at most all, and they are all where no entry is another's.
-use Rattle.std.proofs.Common.{◌≡◌, ◌≢◌, ◌↔◌, ℕ, ◌+◌, ◌-◌, ◌<◌, ◌≤◌, zero, suc, Bool, true, false, cond, if◌then◌else◌, nat_eq, IsTrue, Option, Some, None, IsSomeAnd, slice_get, slice_index_or, List, [], ◌∷◌, ◌++◌, length, length-append, take, sym, refl, ap, ◌∙◌, arith, eq-eqb, eqb-true, ne_eqb}
+use Rattle.std.proofs.Common.{◌≡◌, ◌≢◌, ◌↔◌, ℕ, ◌+◌, ◌-◌, ◌<◌, ◌≤◌, zero, suc, Bool, true, false, cond, if◌then◌else◌, nat_eq, IsTrue, Option, Some}
+use Rattle.std.proofs.Common.{None, IsSomeAnd, slice_get, slice_index_or, List, [], ◌∷◌, ◌++◌, length, length-append, take, sym, refl, ap, ◌∙◌, arith}
+use Rattle.std.proofs.Common.{eq-eqb, eqb-true, ne_eqb}
 use Rattle.std.specs.List.{All, count_by, sum_by}
 use mathlib.Core.List.{IsPrefix}
 use Rattle.std.proofs.lemmas.List.Elements.{All-nil, All-cons, All-head, All-tail}
@@ -63,7 +65,8 @@ by_entry-cons p k ks [] = refl
 by_entry-cons p k ks (e ∷ es) = go (nat_eq (seat_of e) k.number) (p e) refl (by_entry-cons p k ks es)
   where
     go : (c b : Bool) → p e ≡ b → by_entry p (k ∷ ks) es ≡ count p (own_entries k.number es) + by_entry p ks es
-        → cond b (one_more c (times (seat_of e) ks)) 0 + by_entry p (k ∷ ks) es ≡ count p (cond c (e ∷ own_entries k.number es) (own_entries k.number es)) + (cond b (times (seat_of e) ks) 0 + by_entry p ks es)
+        → cond b (one_more c (times (seat_of e) ks)) 0 + by_entry p (k ∷ ks) es ≡ count p
+        (cond c (e ∷ own_entries k.number es) (own_entries k.number es)) + (cond b (times (seat_of e) ks) 0 + by_entry p ks es)
     go true true is ih = omega (arith, ih, ap (λ b. one_more b (count p (own_entries k.number es))) is)
     go true false is ih = omega (arith, ih, ap (λ b. one_more b (count p (own_entries k.number es))) is)
     go false true is ih = omega (arith, ih)
@@ -124,7 +127,8 @@ some_times : (n : ℕ) (ks : List Known) → 1 ≤ times n ks → (i : ℕ) × I
 some_times n [] h = absurd (omega (arith, h))
 some_times n (k ∷ ks) h = go (nat_eq n k.number) refl h (some_times n ks)
   where
-    go : (b : Bool) → nat_eq n k.number ≡ b → 1 ≤ one_more b (times n ks) → (1 ≤ times n ks → (i : ℕ) × IsSomeAnd (slice_get ks i) (λ j. n ≡ j.number)) → (i : ℕ) × IsSomeAnd (slice_get (k ∷ ks) i) (λ j. n ≡ j.number)
+    go : (b : Bool) → nat_eq n k.number ≡ b → 1 ≤ one_more b (times n ks) → (1 ≤ times n ks → (i : ℕ)
+        × IsSomeAnd (slice_get ks i) (λ j. n ≡ j.number)) → (i : ℕ) × IsSomeAnd (slice_get (k ∷ ks) i) (λ j. n ≡ j.number)
     go true e some more = (0, eqb-true n k.number e)
     go false e some more = let t = more some in (suc t.0, t.1)
 
@@ -147,7 +151,8 @@ module _ (p : Entry → Bool) (ks : List Known) where
       let t = go (p e) h (by_entry-most apart es) in
       All-cons Counted e es t.1 (by_entry-all apart es t.0)
     where
-      go : (b : Bool) → cond b (times (seat_of e) ks) 0 + by_entry p ks es ≡ one_more b (count p es) → by_entry p ks es ≤ count p es → (by_entry p ks es ≡ count p es) × (b ≡ true → 1 ≤ times (seat_of e) ks)
+      go : (b : Bool) → cond b (times (seat_of e) ks) 0 + by_entry p ks es ≡ one_more b (count p es) → by_entry p ks es ≤ count p es
+          → (by_entry p ks es ≡ count p es) × (b ≡ true → 1 ≤ times (seat_of e) ks)
       go true f le = (omega (arith, f, le, times-most (seat_of e) ks apart), λ _. omega (arith, f, le))
       go false f le = (omega (arith, f), λ t. absurd (let u : false ≡ true = t in cc))
 
@@ -161,7 +166,8 @@ module _ (p : Entry → Bool) (ks : List Known) where
       go false ih = omega (arith, ih)
 
 -- the pushes and the values before are as many as the pops and the values after
-plays_count : (es : List Entry) (shut : Bool) (values : List Taken) (r : Queue) → Plays (record { values = values; shut = shut }) es r → count is_push es + length values ≡ count is_pop es + length r.values
+plays_count : (es : List Entry) (shut : Bool) (values : List Taken) (r : Queue) → Plays (record { values = values; shut = shut }) es r
+    → count is_push es + length values ≡ count is_pop es + length r.values
 plays_count [] shut values r e = ap (λ (x : Queue). 0 + length x.values) e
 plays_count (Push seat body ∷ es) false values r h =
     let x : Taken = record { from = seat; body = body } in
@@ -195,7 +201,8 @@ none_on_shut (Pop seat value ∷ es) (v ∷ vs) r h = none_on_shut es vs r h.1
 none_on_shut (Pop seat value ∷ es) [] r h = absurd (let e : Refused Closed ≡ Value value = h.0 in cc)
 
 -- nor is it behind a shut
-none_behind : (before es : List Entry) (seat : ℕ) (shut : Bool) (values : List Taken) (r : Queue) → Plays (record { values = values; shut = shut }) (before ++ Shut seat ∷ es) r → (count is_push es ≡ 0) × (count is_shut es ≡ 0)
+none_behind : (before es : List Entry) (seat : ℕ) (shut : Bool) (values : List Taken) (r : Queue)
+    → Plays (record { values = values; shut = shut }) (before ++ Shut seat ∷ es) r → (count is_push es ≡ 0) × (count is_shut es ≡ 0)
 none_behind [] es seat false values r h = none_on_shut es values r h.1
 none_behind [] es seat true values r h = absurd (let e : Refused Closed ≡ Done = h.0 in cc)
 none_behind (Push other body ∷ before) es seat false values r h = none_behind before es seat false _ r h.1
@@ -280,7 +287,9 @@ some_shut false made all e same t = absurd cc
 
 -- a queue is closed by seats with numbers apart, where its rest is whole exactly if they made all pushes and pops, and the
 -- shut, if there is one
-pub closes : (permits : List Permit) (ks : List Known) (rest : Rest) (es : List Entry) → Leads es (was_shut_of rest) (left_of rest) → All (IsPermitted permits) es → All (λ k. IsPrefix k.seen es) ks → All (λ k. own_entries k.number es ≡ k.mine) ks → AreApart ks → taken_of rest ≡ count_by is_pop es
+pub closes : (permits : List Permit) (ks : List Known) (rest : Rest) (es : List Entry) → Leads es (was_shut_of rest) (left_of rest)
+    → All (IsPermitted permits) es → All (λ k. IsPrefix k.seen es) ks → All (λ k. own_entries k.number es ≡ k.mine) ks → AreApart ks
+    → taken_of rest ≡ count_by is_pop es
     → (IsTrue (whole_of rest) ↔ ((pops_of ks ≡ taken_of rest) × (pushes_of ks ≡ taken_of rest + length (left_of rest)) × (IsTrue (was_shut_of rest) → 1 ≤ shuts_of ks))) → Closes permits ks rest
 closes permits ks rest es leads permitted begins own apart counted whole =
     let pushed = pushes-Leads es (was_shut_of rest) (left_of rest) leads in

@@ -39,7 +39,9 @@ copies v values = sum_by (λ w. one_if (nat_eq v.from w.from && nat_eq v.body w.
 
 -- ---- along a run
 
-given_tally : (v : Taken) (actor : ℕ) (op : Op) (shut : Bool) (values : List Taken) → one_if (same_reply (Value v) (response actor op (record { values = values; shut = shut })).reply) + copies v (response actor op (record { values = values; shut = shut })).after.values ≤ one_if (is_push_of v actor op) + copies v values
+given_tally : (v : Taken) (actor : ℕ) (op : Op) (shut : Bool) (values : List Taken)
+    → one_if (same_reply (Value v) (response actor op (record { values = values; shut = shut })).reply) + copies v
+    (response actor op (record { values = values; shut = shut })).after.values ≤ one_if (is_push_of v actor op) + copies v values
 given_tally v actor (Enq body) false values =
     let w : Taken = record { from = actor; body = body } in
     let e = sum_by-append (λ w. one_if (nat_eq v.from w.from && nat_eq v.body w.body)) values (w ∷ []) in
@@ -53,13 +55,17 @@ given_tally v actor Deq shut (front ∷ rest) =
     let e = sum_by-cons (λ w. one_if (nat_eq v.from w.from && nat_eq v.body w.body)) front rest in
     omega (arith, e)
 
-with_reply : (v : Taken) (queue : Queue) (o : Stamped) (reply : Reply) → reply ≡ (response o.actor o.op queue).reply → one_if (same_reply (Value v) reply) + copies v (response o.actor o.op queue).after.values ≤ one_if (is_push_of v o.actor o.op) + copies v queue.values
+with_reply : (v : Taken) (queue : Queue) (o : Stamped) (reply : Reply) → reply ≡ (response o.actor o.op queue).reply
+    → one_if (same_reply (Value v) reply) + copies v (response o.actor o.op queue).after.values ≤ one_if (is_push_of v o.actor o.op) + copies v
+    queue.values
 with_reply v queue o reply h =
     subst (λ r. one_if (same_reply (Value v) r) + copies v (response o.actor o.op queue).after.values ≤ one_if (is_push_of v o.actor o.op) + copies v queue.values)
     (sym h) (given_tally v o.actor o.op queue.shut queue.values)
 
 -- what the queue has of a value and what is taken of it is what it had and what is pushed
-step_tally : (v : Taken) (queue : Queue) (o : Stamped) (reply : Reply) → AgreesWithQueue queue o (Some reply) → one_if (same_reply (Value v) reply) + copies v (answer queue o (Some reply)).after.values ≤ one_if (is_not_refused (Some reply) && is_push_of v o.actor o.op) + copies v queue.values
+step_tally : (v : Taken) (queue : Queue) (o : Stamped) (reply : Reply) → AgreesWithQueue queue o (Some reply)
+    → one_if (same_reply (Value v) reply) + copies v (answer queue o (Some reply)).after.values ≤ one_if
+    (is_not_refused (Some reply) && is_push_of v o.actor o.op) + copies v queue.values
 step_tally v queue o (Refused refusal) h = omega arith
 step_tally v queue o Done h =
     with_reply v queue o _ h
@@ -94,7 +100,8 @@ pushed_tally b (Some told) reply h =
     subst (λ r. one_if (is_not_refused (Some r) && b) ≤ one_if (is_not_refused (Some told) && b)) (sym h) (omega arith)
 
 -- the pairs of an order count as takes at least what its operations do, and as pushes at most
-order_tally : (v : Taken) (order : List Answered) → AllByRecursion GivesRecordedReply order → (sum_by (take_of v) (operations_of order) ≤ sum_by (taken_in v) order) × (sum_by (pushed_in v) order ≤ sum_by (push_of v) (operations_of order))
+order_tally : (v : Taken) (order : List Answered) → AllByRecursion GivesRecordedReply order
+    → (sum_by (take_of v) (operations_of order) ≤ sum_by (taken_in v) order) × (sum_by (pushed_in v) order ≤ sum_by (push_of v) (operations_of order))
 order_tally v [] h = (omega arith, omega arith)
 order_tally v (a ∷ rest) h =
     let more = order_tally v rest h.1 in

@@ -54,7 +54,9 @@ abbrev rest : List Stamped → List Stamped
 rest [] = []
 rest (o ∷ os) = os
 
-in_order : (a b : Stamped) → (IsPending a → ⊥) → (IsPending b → ⊥) → (order : List Answered) (left : List Stamped) → operations_of order ++ left ≡ a ∷ b ∷ [] → AllByRecursion IsPending left → AllByRecursion GivesRecordedReply order → KeepsTime (operations_of order) → IsRun empty order → RunsBefore a b
+in_order : (a b : Stamped) → (IsPending a → ⊥) → (IsPending b → ⊥) → (order : List Answered) (left : List Stamped)
+    → operations_of order ++ left ≡ a ∷ b ∷ [] → AllByRecursion IsPending left → AllByRecursion GivesRecordedReply order
+    → KeepsTime (operations_of order) → IsRun empty order → RunsBefore a b
 in_order a b na nb [] left e p g t r = absurd (na (subst (AllByRecursion IsPending) e p).0)
 in_order a b na nb (x ∷ []) left e p g t r = absurd (nb (subst (AllByRecursion IsPending) (ap rest e) p).0)
 in_order a b na nb (x ∷ y ∷ []) left e p g t r =

@@ -54,7 +54,8 @@ same_given : (f : Stamped → Stamped) → ChangesPlaces f → (queue : Queue) (
 same_given f same queue o =
     ap (λ a. response a o.op queue) (sym (same o).actor) ∙ ap (λ op. response (f o).actor op queue) (sym (same o).op)
 
-still_gets : (f : Stamped → Stamped) → ChangesPlaces f → (queue : Queue) (o : Stamped) (reply : Reply) → AgreesWithQueue queue o (Some reply) → AgreesWithQueue queue (f o) (Some reply) × (answer queue o (Some reply) ≡ answer queue (f o) (Some reply))
+still_gets : (f : Stamped → Stamped) → ChangesPlaces f → (queue : Queue) (o : Stamped) (reply : Reply) → AgreesWithQueue queue o (Some reply)
+    → AgreesWithQueue queue (f o) (Some reply) × (answer queue o (Some reply) ≡ answer queue (f o) (Some reply))
 still_gets f same queue o (Refused refusal) (inl h) = (inl h, refl)
 still_gets f same queue o (Refused refusal) (inr h) = (inr (h.0, h.1 ∙ ap (λ a. a.reply) (same_given f same queue o)), refl)
 still_gets f same queue o Done h =

@@ -1,5 +1,6 @@
 pub mod Limits
 pub mod WornWords
+pub mod TextCauses
 pub mod Queue
 pub mod Entries
 pub mod Seats

@@ -9,6 +9,7 @@ mod queues;
 mod refusals;
 mod replaying;
 mod rests;
+mod text_causes;
 
 pub use checking::check;
 pub use closing::{Close, Unclosed};
@@ -18,4 +19,4 @@ pub use operations::{
 pub use queues::Fifo;
 pub use refusals::{Refusal, WornWord};
 pub use rests::Rest;
-pub use text_lines::TextCause;
+pub use text_causes::TextCause;

@@ -1,6 +1,6 @@
 //! What a call may be refused, in the order of the refusals' numbers.
+use crate::text_causes::TextCause;
 use std::fmt;
-use text_lines::TextCause;
 use thiserror::Error;
 
 /// The counted word whose count is at the limit.

@@ -1,4 +1,4 @@
-mod NoSpaces
+pub mod NoSpaces
 mod LineReaders
 mod Texts
-mod OneReading
+pub mod OneReading

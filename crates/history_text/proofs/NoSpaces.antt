@@ -1,4 +1,4 @@
--- The words of histories have neither spaces nor line feeds.
+-- The words of histories have neither spaces nor line feeds, nor have other words of such bytes.
 use Rattle.std.proofs.Common.{◌≡◌, ◌≢◌, ℕ, ◌<◌, ◌≤◌, List, [], ◌∷◌, ◌++◌, All, Option, Some, None, Bool, true, false, refl, arith, codes}
 use Rattle.std.specs.Prelude.{nat_lt, ◌&&◌}
 use Rattle.std.specs.List.{list_all}
@@ -21,12 +21,12 @@ use Rattle.history.specs.WornWords.{word_text}
 use Rattle.history.specs.History.{may_refuse}
 use Rattle.history_text.specs.HistoryLines.{call_words, step_word, refusal_words, value_words, reply_words, stamp_words, operation_words, IsQueueReply}
 
--- a word of letters, digits and dashes
+-- a word of bytes from the dash on, as letters, digits and points are
 abbrev pub IsInk : List ℕ → Type 0
 IsInk word = All (λ b. 45 ≤ b) word
 
 -- a test of each byte that computes to true
-ink-tested : (word : List ℕ) → list_all (λ b. nat_lt 44 b) word ≡ true → IsInk word
+pub ink-tested : (word : List ℕ) → list_all (λ b. nat_lt 44 b) word ≡ true → IsInk word
 ink-tested [] e = All-nil (λ b. 45 ≤ b)
 ink-tested (b ∷ word) e = by (nat_lt 44 b) refl (ink-tested word) e
   where
@@ -34,14 +34,14 @@ ink-tested (b ∷ word) e = by (nat_lt 44 b) refl (ink-tested word) e
     by true is rest e = let low : 44 < b = ltb-true 44 b is in All-cons (λ b. 45 ≤ b) b word (omega arith) (rest e)
     by false is rest e = absurd cc
 
-ink-numeral : (n : ℕ) → IsInk (numeral n)
+pub ink-numeral : (n : ℕ) → IsInk (numeral n)
 ink-numeral n = All-weaker (λ b. (48 ≤ b) × (b ≤ 57)) (λ b. 45 ≤ b) (λ b h. omega (arith, h.0)) (numeral n) (IsPlain-numeral n).digits
 
 -- one more word
-more : (word : List ℕ) (words : List (List ℕ)) → IsInk word → All IsInk words → All IsInk (word ∷ words)
+pub more : (word : List ℕ) (words : List (List ℕ)) → IsInk word → All IsInk words → All IsInk (word ∷ words)
 more word words = All-cons IsInk word words
 
-one : (word : List ℕ) → IsInk word → All IsInk (word ∷ [])
+pub one : (word : List ℕ) → IsInk word → All IsInk (word ∷ [])
 one word ink = more word [] ink (All-nil IsInk)
 
 ink-word : (word : WornWord) → IsInk (word_text word)
@@ -55,7 +55,7 @@ ink-call (Enq body) = more (codes "enq") (numeral body ∷ []) (ink-tested (code
 ink-call Deq = one (codes "deq") (ink-tested (codes "deq") refl)
 ink-call Shut = one (codes "shut") (ink-tested (codes "shut") refl)
 
-ink-step : (step : Option ℕ) → IsInk (step_word step)
+pub ink-step : (step : Option ℕ) → IsInk (step_word step)
 ink-step None = ink-tested (codes "-") refl
 ink-step (Some step) = ink-numeral step
 
@@ -78,9 +78,9 @@ ink-reply (Some (Refused refusal)) may = more (codes "refused") (refusal_words r
 ink-reply_part : (reply : Option Reply) → IsQueueReply reply → All IsInk (codes "reply" ∷ reply_words reply)
 ink-reply_part reply may = more (codes "reply") (reply_words reply) (ink-tested (codes "reply") refl) (ink-reply reply may)
 
--- a label and the step behind it, before more words
-ink-labelled : (label step : List ℕ) (words : List (List ℕ)) → IsInk label → IsInk step → All IsInk words → All IsInk (label ∷ step ∷ words)
-ink-labelled label step words first second rest = more label (step ∷ words) first (more step words second rest)
+-- a label and the word behind it, before more words
+pub ink-labelled : (label word : List ℕ) (words : List (List ℕ)) → IsInk label → IsInk word → All IsInk words → All IsInk (label ∷ word ∷ words)
+ink-labelled label word words first second rest = more label (word ∷ words) first (more word words second rest)
 
 ink-stamps : (o : Stamped) → IsQueueReply o.reply → All IsInk (stamp_words o)
 ink-stamps o may =

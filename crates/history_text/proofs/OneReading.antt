@@ -2,12 +2,12 @@
 use Rattle.std.proofs.Common.{◌≡◌, ◌≢◌, ℕ, List, [], ◌∷◌, ◌++◌, length, Option, Some, None, true, false, refl, sym, ap, ◌∙◌, arith, subst, codes, inl, get_or, ◌==◌}
 use Rattle.std.proofs.lemmas.Bool.{eq-eqb}
 use Rattle.std.proofs.lemmas.List.Elements.{All-head}
-use Rattle.text_lines.specs.declared.causes.TextCause.{TextCause}
+use Rattle.history.specs.declared.text_causes.TextCause.{TextCause}
 use Rattle.text_lines.specs.Lines.{HasNo, words_of}
 use Rattle.text_lines.specs.Numerals.{numeral}
 use Rattle.text_lines.specs.Listings.{IsSoundListing}
 use Rattle.text_lines.proofs.Numerals.{numeral_injective, HasNo-numeral}
-use Rattle.text_lines.proofs.Listings.{one_listing, listing-no_fault, listing-one_fault, listing-not_neither}
+use Rattle.text_lines.proofs.Listings.{one_listing, listing-no_fault, listing-not_neither}
 use Rattle.history.specs.declared.refusals.WornWord.{WornWord}
 use Rattle.history.specs.declared.refusals.WornWord.TheVariants.{Free, Next, Tail, Head}
 use Rattle.history.specs.declared.refusals.Refusal.{Refusal}
@@ -20,7 +20,8 @@ use Rattle.history.specs.declared.operations.Stamped.{Stamped}
 use Rattle.history.specs.History.{may_refuse}
 use Rattle.history.specs.WornWords.{word_text}
 use Rattle.history_text.specs.HistoryText.{history_text}
-use Rattle.history_text.specs.HistoryLines.{count_words, call_words, step_word, refusal_words, reply_words, stamp_words, operation_words, IsQueueReply, IsHistoryInRange, HasFirstFault, history_listing}
+use Rattle.history_text.specs.HistoryLines.{count_words, call_words, step_word, refusal_words, reply_words, stamp_words, operation_words}
+use Rattle.history_text.specs.HistoryLines.{IsQueueReply, IsHistoryInRange, HasFirstFault, history_listing}
 use Rattle.history_text.proofs.NoSpaces.{ink-operation, ink-count, words_of-ink, HasNo-spaced}
 use Rattle.history_text.proofs.Texts.{IsListing-history, history-spelled, range-listed, listed-spelled}
 
@@ -29,11 +30,11 @@ dash_no_number : (n : ℕ) → codes "-" ≢ numeral n
 dash_no_number n e = All-head (λ b. b ≢ 45) 45 [] (subst (HasNo 45) (sym e) (HasNo-numeral 45 n (inl (omega arith)))) refl
 
 -- the first byte of the first word
-abbrev first_byte : List (List ℕ) → ℕ
+abbrev pub first_byte : List (List ℕ) → ℕ
 first_byte words = get_or (get_or words 0 []) 0 0
 
 -- words that begin with other bytes are others
-apart : (ws vs : List (List ℕ)) → (first_byte ws == first_byte vs) ≡ false → ws ≢ vs
+pub apart : (ws vs : List (List ℕ)) → (first_byte ws == first_byte vs) ≡ false → ws ≢ vs
 apart ws vs other same =
     let one : (first_byte ws == first_byte vs) ≡ true = eq-eqb (first_byte ws) (first_byte vs) (ap first_byte same) in
     let both : true ≡ false = sym one ∙ other in
@@ -62,7 +63,7 @@ one-word Head Tail e = absurd (other_word _ _ refl e)
 one-word Head Head e = refl
 
 -- the words of a step tell it
-one-step : (a b : Option ℕ) → step_word a ≡ step_word b → a ≡ b
+pub one-step : (a b : Option ℕ) → step_word a ≡ step_word b → a ≡ b
 one-step None None e = refl
 one-step None (Some n) e = absurd (dash_no_number n e)
 one-step (Some m) None e = absurd (dash_no_number m (sym e))
@@ -159,7 +160,7 @@ one-count : (m n : ℕ) → count_words m ≡ count_words n → m ≡ n
 one-count m n e = let same : numeral m ≡ numeral n = cc in numeral_injective m n same
 
 -- the lines of histories tell what they say, and have no line feed
-IsSoundListing-history : IsSoundListing history_listing
+pub IsSoundListing-history : IsSoundListing history_listing
 IsSoundListing-history = record {
   header_no_feed = λ count. HasNo-spaced (count_words count) (ink-count count);
   one_header = λ m n e. one-count m n (sym (words_of-ink _ _ (ink-count m)) ∙ ap words_of e ∙ words_of-ink _ _ (ink-count n));
@@ -178,10 +179,6 @@ pub no_fault_of_history : (ops : List Stamped) (number : ℕ) (cause : TextCause
 no_fault_of_history ops number cause range fault =
     listing-no_fault history_listing IsSoundListing-history (length ops) ops number cause (IsListing-history ops range)
     (subst (λ (text : List ℕ). HasFirstFault text number cause) (sym (history-spelled ops range)) fault)
-
--- the first faulty line of a text is one
-pub one_fault_of_history : (text : List ℕ) (m n : ℕ) (c d : TextCause) → HasFirstFault text m c → HasFirstFault text n d → (m ≡ n) × (c ≡ d)
-one_fault_of_history = listing-one_fault history_listing IsSoundListing-history
 
 -- no text is neither a history's nor faulty
 pub not_neither_of_history : (text : List ℕ) → ((ops : List Stamped) → IsHistoryInRange ops → text ≢ history_text ops)

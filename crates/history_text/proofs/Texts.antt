@@ -18,7 +18,9 @@ use Rattle.history.specs.declared.operations.Stamped.{Stamped}
 use Rattle.history.specs.History.{may_refuse}
 use Rattle.history.specs.WornWords.{word_text}
 use Rattle.history_text.specs.HistoryText.{call_text, step_text, refusal_text, reply_text, operation_text, header_text, history_text}
-use Rattle.history_text.specs.HistoryLines.{count_words, call_words, step_word, refusal_words, reply_words, stamp_words, operation_words, IsQueueReply, IsCallInRange, IsStepInRange, IsReplyInRange, IsReadable, IsCount, IsHistoryInRange, history_listing}
+use Rattle.history_text.specs.HistoryLines.{count_words, call_words, step_word, refusal_words, reply_words, stamp_words, operation_words}
+use Rattle.history_text.specs.HistoryLines.{IsQueueReply, IsCallInRange, IsStepInRange, IsReplyInRange, IsReadable, IsCount, IsHistoryInRange}
+use Rattle.history_text.specs.HistoryLines.{history_listing}
 
 -- words, each behind a space
 spaces : List (List ℕ) → List ℕ

@@ -1,6 +1,6 @@
 -- The grammar of histories: what each line may say, in which words, and which of this is in range.
 use Rattle.std.specs.Prelude.{◌≡◌, ◌≤◌, ◌-◌, ◌^◌, ℕ, List, [], ◌∷◌, ◌++◌, Option, Some, None, true, length, codes, All}
-use Rattle.text_lines.specs.declared.causes.TextCause.{TextCause}
+use Rattle.history.specs.declared.text_causes.TextCause.{TextCause}
 use Rattle.text_lines.specs.Lines.{spaced}
 use Rattle.text_lines.specs.Numerals.{numeral, IsWithin}
 use Rattle.history.specs.Limits.{body_bits, actor_bits}

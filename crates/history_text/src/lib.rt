@@ -9,3 +9,4 @@ mod replies;
 
 pub use parsing::parse_history;
 pub use printing::{print_history, push_call, push_reply};
+pub use reading::step_of;

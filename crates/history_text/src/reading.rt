@@ -82,8 +82,8 @@ fn labelled(words: &mut Words, label: &[u8], low: u64, high: u64) -> Result<Opti
     words.number(low, high)
 }
 
-/// The step behind this word, or none for a dash.
-fn step_of(words: &mut Words, label: &[u8]) -> Result<Option<Option<u64>>, TextCause>
+/// The step behind this word, or none for a dash. Takes no memory, and doesn't wait.
+pub fn step_of(words: &mut Words, label: &[u8]) -> Result<Option<Option<u64>>, TextCause>
     ensures { ReadsWords (labelled_step label.now) IsStepInRange words.old words.new result }
 {
     words.expect_word(label)?;

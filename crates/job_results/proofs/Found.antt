@@ -16,7 +16,9 @@ are_found-none first [] = refl
 are_found-none first (job ∷ jobs) = are_found-none (first + 1) jobs
 
 -- with the result of the job at its place they stay results of these jobs
-pub are_found-set : (first : ℕ) (jobs : List Job) (found : List (Option JobResult)) (place : ℕ) (r : JobResult) → are_found first jobs found ≡ true → number_in r ≡ first + place → IsSomeAnd (slice_get jobs place) (λ job. IsTrue (same_job (job_in r) job)) → are_found first jobs (slice_set found place (Some r)) ≡ true
+pub are_found-set : (first : ℕ) (jobs : List Job) (found : List (Option JobResult)) (place : ℕ) (r : JobResult) → are_found first jobs found ≡ true
+    → number_in r ≡ first + place → IsSomeAnd (slice_get jobs place) (λ job. IsTrue (same_job (job_in r) job))
+    → are_found first jobs (slice_set found place (Some r)) ≡ true
 are_found-set first [] found place r all number same = absurd same
 are_found-set first (j ∷ js) [] place r all number same = absurd (cc all)
 are_found-set first (j ∷ js) (o ∷ os) zero r all number same = true_both _ _ (true_both _ _ (eq-eqb (number_in r) first (omega (arith, number))) same) (both _ _ all).1
@@ -35,7 +37,8 @@ pub rows_of-found : (first : ℕ) (jobs : List Job) (results : List JobResult) �
 rows_of-found first [] [] all = refl
 rows_of-found first [] (r ∷ rs) all = absurd (cc all)
 rows_of-found first (j ∷ js) [] all = absurd (cc all)
-rows_of-found first (j ∷ js) (r ∷ rs) all = ap (λ row. row ∷ map row_of rs) (row_of-fits first j r (both _ _ all).0) ∙ ap (λ rows. record { number = first; kind = kind_of j; value = value_of j } ∷ rows) (rows_of-found (first + 1) js rs (both _ _ all).1)
+rows_of-found first (j ∷ js) (r ∷ rs) all = ap (λ row. row ∷ map row_of rs) (row_of-fits first j r (both _ _ all).0) ∙ ap
+    (λ rows. record { number = first; kind = kind_of j; value = value_of j } ∷ rows) (rows_of-found (first + 1) js rs (both _ _ all).1)
 
 -- where all are there, their jobs are those of the list
 pub jobs_of-found : (first : ℕ) (jobs : List Job) (results : List JobResult) → are_found first jobs (map (λ r. Some r) results) ≡ true → pointwise same_job (map job_in results) jobs ≡ true

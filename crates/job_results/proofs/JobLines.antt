@@ -3,7 +3,7 @@ use Rattle.std.proofs.Common.{◌≡◌, ◌≢◌, ℕ, List, [], ◌∷◌, �
 use Rattle.std.specs.Option.{option_zip, ok_or}
 use Rattle.std.proofs.lemmas.Bool.{eq-eqb}
 use Rattle.std.proofs.lemmas.List.Elements.{All-nil, All-cons}
-use Rattle.text_lines.specs.declared.causes.TextCause.TheVariants.{Range}
+use Rattle.history.specs.declared.text_causes.TextCause.TheVariants.{Range}
 use Rattle.text_lines.specs.Lines.{HasNo, spaced, words_of}
 use Rattle.text_lines.specs.Numerals.{numeral}
 use Rattle.text_lines.specs.Printable.{IsPrintable}

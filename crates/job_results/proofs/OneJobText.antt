@@ -1,13 +1,13 @@
 -- Each text is of one list of jobs at most, and its lines tell what they say.
 use Rattle.std.proofs.Common.{◌≡◌, ◌≢◌, ℕ, ◌≤◌, List, [], ◌∷◌, ◌++◌, length, refl, sym, ap, subst, ◌∙◌, arith, codes, inl}
 use Rattle.std.proofs.lemmas.List.Elements.{All-append, All-weaker}
-use Rattle.text_lines.specs.declared.causes.TextCause.{TextCause}
+use Rattle.history.specs.declared.text_causes.TextCause.{TextCause}
 use Rattle.text_lines.specs.Lines.{HasNo, spaced, words_of}
 use Rattle.text_lines.specs.Numerals.{numeral}
 use Rattle.text_lines.specs.Listings.{listing_text, IsListing, IsSoundListing}
 use Rattle.text_lines.proofs.Numerals.{numeral_injective, HasNo-numeral}
 use Rattle.text_lines.proofs.Splits.{HasNo-tested, spaced-words_of}
-use Rattle.text_lines.proofs.Listings.{one_listing, listing-no_fault, listing-one_fault, listing-not_neither}
+use Rattle.text_lines.proofs.Listings.{one_listing, listing-not_neither}
 use Rattle.job_results.specs.JobTexts.{SaidJob, Add, Mul, Div, Len, two_numbers, job_line, count_line, jobs_text, jobs_listing, IsJob, IsCount, AreJobsInRange, HasFirstFault}
 use Rattle.job_results.specs.JobReading.{job_words}
 use Rattle.job_results.proofs.JobLines.{words_of-job, apart}
@@ -64,7 +64,7 @@ one-count : (m n : ℕ) → count_line m ≡ count_line n → m ≡ n
 one-count m n e = let same : numeral m ≡ numeral n = cc in numeral_injective m n same
 
 -- the lines of jobs tell what they say, and have no line feed
-IsSoundListing-jobs : IsSoundListing jobs_listing
+pub IsSoundListing-jobs : IsSoundListing jobs_listing
 IsSoundListing-jobs = record {
   header_no_feed = λ count. All-append (λ b. b ≢ 10) (codes "jobs ") (numeral count) (HasNo-tested 10 (codes "jobs ") refl) (no_feed-numeral count);
   one_header = one-count;
@@ -73,20 +73,12 @@ IsSoundListing-jobs = record {
 }
 
 -- jobs in range are a listing
-IsListing-jobs : (jobs : List SaidJob) → AreJobsInRange jobs → IsListing jobs_listing (length jobs) jobs
+pub IsListing-jobs : (jobs : List SaidJob) → AreJobsInRange jobs → IsListing jobs_listing (length jobs) jobs
 IsListing-jobs jobs range = record { announced = refl; header = range.count; each = range.each }
 
 -- one list of jobs a text
 pub one_list_of_jobs : (a b : List SaidJob) → AreJobsInRange a → AreJobsInRange b → jobs_text a ≡ jobs_text b → a ≡ b
 one_list_of_jobs a b ra rb e = (one_listing jobs_listing IsSoundListing-jobs (length a) (length b) a b (IsListing-jobs a ra) (IsListing-jobs b rb) e).1
-
--- the text of jobs in range has no faulty line
-pub no_fault_of_jobs : (jobs : List SaidJob) (number : ℕ) (cause : TextCause) → AreJobsInRange jobs → ¬ HasFirstFault (jobs_text jobs) number cause
-no_fault_of_jobs jobs number cause range = listing-no_fault jobs_listing IsSoundListing-jobs (length jobs) jobs number cause (IsListing-jobs jobs range)
-
--- the first faulty line of a text is one
-pub one_fault_of_jobs : (text : List ℕ) (m n : ℕ) (c d : TextCause) → HasFirstFault text m c → HasFirstFault text n d → (m ≡ n) × (c ≡ d)
-one_fault_of_jobs = listing-one_fault jobs_listing IsSoundListing-jobs
 
 -- no text is neither one of jobs nor faulty
 pub not_neither_of_jobs : (text : List ℕ) → ((jobs : List SaidJob) → AreJobsInRange jobs → text ≢ jobs_text jobs)

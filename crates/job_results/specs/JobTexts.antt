@@ -1,7 +1,7 @@
 -- The texts of jobs: a line with their number, then a line for each.
 use Rattle.std.specs.Prelude.{◌≤◌, ℕ, List, ◌++◌, length, codes, All, string_bytes}
 use Rattle.std.specs.List.{flat_map}
-use Rattle.text_lines.specs.declared.causes.TextCause.{TextCause}
+use Rattle.history.specs.declared.text_causes.TextCause.{TextCause}
 use Rattle.text_lines.specs.Lines.{line}
 use Rattle.text_lines.specs.Numerals.{numeral, IsWithin}
 use Rattle.text_lines.specs.Printable.{IsPrintable, IsShort}

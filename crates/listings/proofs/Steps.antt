@@ -2,7 +2,7 @@
 use Rattle.std.proofs.Common.{◌≡◌, ◌≢◌, ℕ, ◌+◌, ◌<◌, List, [], ◌∷◌, ◌++◌, length, map, Bool, true, false, ◌==◌, refl, sym, ap, ◌∙◌, arith, subst}
 use Rattle.std.proofs.lemmas.Bool.{eq-eqb, eqb-true}
 use Rattle.std.proofs.lemmas.List.{length-append, length-map, map-append, nil_from_length}
-use Rattle.text_lines.specs.declared.causes.TextCause.TheVariants.{End, Extra}
+use Rattle.history.specs.declared.text_causes.TextCause.TheVariants.{End, Extra}
 use Rattle.text_lines.specs.Lines.{HasNo, line}
 use Rattle.text_lines.specs.Listings.{Listing, listing_text, IsListing, IsFirstFaultIn}
 use Rattle.text_lines.proofs.Listings.{BeginsListing, BeginsListing-first, BeginsListing-next, fault-end, fault-item, fault-extra, listing-whole}
@@ -10,6 +10,10 @@ use Rattle.history.specs.declared.refusals.Refusal.{Refusal}
 use Rattle.history.specs.declared.refusals.Refusal.TheVariants.{Memory, Text}
 use Rattle.listings.specs.Items.{IsAfterFirst, AddsItem, IsItemRefusal}
 use Rattle.listings.specs.Refusals.{IsRefusalIn}
+
+-- a list that the test finds not empty
+pub not_empty : (rest : List ℕ) (test : Bool) → test ≡ (length rest == 0) → test ≡ false → rest ≢ []
+not_empty rest test tests fails empty = let yes : (length rest == 0) ≡ true = eq-eqb (length rest) 0 (ap length empty) in absurd cc
 
 module _ {H I V : Type 0} (l : Listing H I) (said : V → I) (h : H) where
   -- a text begins with this first line and the lines of these items, which are so many of those that are announced
@@ -54,10 +58,7 @@ module _ {H I V : Type 0} (l : Listing H I) (said : V → I) (h : H) where
       → test ≡ (length rest == 0) → test ≡ false → IsFirstFaultIn l text (2 + count) Extra
   refusal-extra items text rest place count test read all tests fails =
       subst (λ n. IsFirstFaultIn l text (2 + n) Extra) (sym read.announced)
-      (fault-extra l h (map said items) text rest read.begins (length-map items said ∙ read.counted ∙ all ∙ read.announced) some)
-    where
-      some : rest ≢ []
-      some empty = let yes : (length rest == 0) ≡ true = eq-eqb (length rest) 0 (ap length empty) in absurd cc
+      (fault-extra l h (map said items) text rest read.begins (length-map items said ∙ read.counted ∙ all ∙ read.announced) (not_empty rest test tests fails))
 
   -- no item is due, and the test finds that nothing follows
   pub whole-listing : (items : List V) (text rest : List ℕ) (place count : ℕ) (test : Bool) → AreRead items text rest place count → place ≡ count

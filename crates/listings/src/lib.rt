@@ -5,4 +5,4 @@ mod formats;
 mod readers;
 
 pub use formats::{ItemError, ListingFormat};
-pub use readers::parse_listing;
+pub use readers::{due_line, parse_listing};

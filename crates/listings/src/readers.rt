@@ -57,8 +57,9 @@ fn first_line<F: ListingFormat>(text: &[u8]) -> Result<(F::Header, &[u8]), Refus
     }
 }
 
-/// The line of this number, which is due, and what follows it.
-fn due_line(number: u64, text: &[u8]) -> Result<(&[u8], &[u8]), Refusal>
+/// The line of this number, which is due, and what follows it; refused with `Text`, its number and `End` where there is no
+/// further line feed. Takes no memory, and doesn't wait.
+pub fn due_line(number: u64, text: &[u8]) -> Result<(&[u8], &[u8]), Refusal>
     ensures ok { IfOk result (λ found. HasNo 10 found.0.now
         × (text.now ≡ line found.0.now ++ found.1.now)) }
     ensures err { IfErr result (λ refusal. (refusal ≡ Refusal.Text number TextCause.End)

@@ -2,15 +2,15 @@
 use Rattle.std.proofs.Common.{◌≡◌, ◌≢◌, ℕ, ◌≤◌, List, [], ◌∷◌, ◌++◌, length, Option, Some, None, refl, sym, ap, subst, ◌∙◌, arith, codes, append_assoc, inl}
 use Rattle.std.specs.Option.{ok_or}
 use Rattle.std.proofs.lemmas.List.Elements.{All-nil, All-cons, All-append, All-weaker}
-use Rattle.text_lines.specs.declared.causes.TextCause.{TextCause}
-use Rattle.text_lines.specs.declared.causes.TextCause.TheVariants.{Range}
+use Rattle.history.specs.declared.text_causes.TextCause.{TextCause}
+use Rattle.history.specs.declared.text_causes.TextCause.TheVariants.{Range}
 use Rattle.text_lines.specs.Lines.{HasNo, spaced, words_of}
 use Rattle.text_lines.specs.Numerals.{numeral}
 use Rattle.text_lines.specs.Printable.{IsPrintable}
 use Rattle.text_lines.specs.Listings.{listing_text, IsListing, IsSoundListing}
 use Rattle.text_lines.proofs.Numerals.{HasNo-numeral, numeral_injective}
 use Rattle.text_lines.proofs.Splits.{HasNo-tested, words_of_more, words_of_some, spaced-words_of, words_of-spaced}
-use Rattle.text_lines.proofs.Listings.{one_listing, listing-no_fault, listing-one_fault, listing-not_neither}
+use Rattle.text_lines.proofs.Listings.{one_listing, listing-not_neither}
 use Rattle.mail_text.specs.declared.reading.ReadLetter.{ReadLetter}
 use Rattle.mail_text.specs.declared.reading.Counts.{Counts}
 use Rattle.mail_text.specs.MailTexts.{MailHeader, SaidLetter, mail_line, letter_line, header_of, mail_text, mail_listing, IsHeaderInRange, IsLetter, IsLetterInRange, IsMailInRange, HasFirstFault}
@@ -128,7 +128,7 @@ one-letter a b e =
     λ i. record { from = numeral_injective a.from b.from first i; text = text i }
 
 -- the lines of mail tell what they say, and have no line feed
-IsSoundListing-mail : IsSoundListing mail_listing
+pub IsSoundListing-mail : IsSoundListing mail_listing
 IsSoundListing-mail = record {
   header_no_feed = no_feed-mail;
   one_header = one-header;
@@ -137,7 +137,7 @@ IsSoundListing-mail = record {
 }
 
 -- mail in range is a listing
-IsListing-mail : (senders : ℕ) (letters : List SaidLetter) → IsMailInRange senders letters → IsListing mail_listing (header_of senders letters) letters
+pub IsListing-mail : (senders : ℕ) (letters : List SaidLetter) → IsMailInRange senders letters → IsListing mail_listing (header_of senders letters) letters
 IsListing-mail senders letters range = record { announced = refl; header = range.header; each = range.each }
 
 -- one mail a text
@@ -145,16 +145,6 @@ pub one_mail : (s t : ℕ) (a b : List SaidLetter) → IsMailInRange s a → IsM
 one_mail s t a b ra rb e =
     let same = one_listing mail_listing IsSoundListing-mail (header_of s a) (header_of t b) a b (IsListing-mail s a ra) (IsListing-mail t b rb) e in
     (ap (λ (h : MailHeader). h.senders) same.0, same.1)
-
--- the text of mail in range has no faulty line
-pub no_fault_of_mail : (senders : ℕ) (letters : List SaidLetter) (number : ℕ) (cause : TextCause) → IsMailInRange senders letters
-    → ¬ HasFirstFault (mail_text senders letters) number cause
-no_fault_of_mail senders letters number cause range =
-    listing-no_fault mail_listing IsSoundListing-mail (header_of senders letters) letters number cause (IsListing-mail senders letters range)
-
--- the first faulty line of a text is one
-pub one_fault_of_mail : (text : List ℕ) (m n : ℕ) (c d : TextCause) → HasFirstFault text m c → HasFirstFault text n d → (m ≡ n) × (c ≡ d)
-one_fault_of_mail = listing-one_fault mail_listing IsSoundListing-mail
 
 -- a listing of letters is that of its senders and as many letters as there are
 pub header-announced : (h : MailHeader) (letters : List SaidLetter) → h.letters ≡ length letters → h ≡ header_of h.senders letters

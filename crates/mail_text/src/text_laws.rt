@@ -1,9 +1,10 @@
 //! Laws of texts of mail, each the contract of a function that does nothing.
 ghost use Rattle.std.specs.Prelude.{◌≡◌, ◌≢◌, ℕ, List};
-ghost use Rattle.text_lines.specs.declared.causes.TextCause.{TextCause};
+ghost use Rattle.history.specs.declared.text_causes.TextCause.{TextCause};
 ghost use Rattle.mail_text.specs.MailTexts.{SaidLetter, mail_text, IsMailInRange, HasFirstFault};
 
 /// A text is that of one number of senders and one list of letters at most.
+#[tactic(auto, using(crate::proofs::MailLines::one_mail))]
 pub fn a_text_is_of_one_mail()
     //= texts/one_reading
     ensures { (s t : ℕ) (a b : List SaidLetter) → IsMailInRange s a → IsMailInRange t b
@@ -20,6 +21,7 @@ pub fn a_text_has_one_first_fault()
 {}
 
 /// Every text is that of mail in range or has a first faulty line: it can't be that it is neither.
+#[tactic(auto, using(crate::proofs::MailLines::not_neither_of_mail))]
 pub fn a_text_is_of_mail_or_faulty()
     //= texts/one_reading
     ensures { (text : List ℕ)

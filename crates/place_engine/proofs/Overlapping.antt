@@ -1,12 +1,13 @@
 -- Operations that clash are said by lines that overlap, and where none clash no lines overlap.
-use Rattle.std.proofs.Common.{◌≡◌, ℕ, ◌+◌, ◌-◌, ◌<◌, ◌≤◌, min, max, Bool, true, false, not, nat_lt, List, [], ◌∷◌, ◌++◌, length, map, get_or, Bor, Option, None, Some, All, IsPermutation, refl, sym, ◌∙◌, ap, subst, arith}
+use Rattle.std.proofs.Common.{◌≡◌, ℕ, ◌+◌, ◌-◌, ◌<◌, ◌≤◌, min, max, Bool, true, false, not, nat_lt, List, [], ◌∷◌, ◌++◌, length, map, get_or, Bor}
+use Rattle.std.proofs.Common.{Option, None, Some, All, IsPermutation, refl, sym, ◌∙◌, ap, subst, arith}
 use Rattle.std.specs.Prelude.{if◌then◌else◌, is_some, is_none, option_map, unwrap_or, slice_get, Contains}
 use Rattle.std.proofs.lemmas.Bool.{ltb-true, ltb-false}
 use Rattle.std.proofs.lemmas.List.Elements.{All-contains, Contains-append_left, Contains-push}
 use Rattle.std.proofs.lemmas.List.Sorted.{All-permutation, Contains-permutation}
 use Rattle.std.proofs.lemmas.Option.{slice_get_within, slice_get-get_or, slice_get-map}
-use Rattle.text_lines.specs.declared.causes.TextCause.{TextCause}
-use Rattle.text_lines.specs.declared.causes.TextCause.TheVariants.{End, Form, Range, Extra}
+use Rattle.history.specs.declared.text_causes.TextCause.{TextCause}
+use Rattle.history.specs.declared.text_causes.TextCause.TheVariants.{End, Form, Range, Extra}
 use Rattle.text_lines.specs.Readings.{IsWrong}
 use Rattle.recording_text.specs.Recordings.{Recorded}
 use Rattle.recording_text.specs.RecordingLines.{Operation, Operations, IsInTime, IsOperationInRange}
@@ -44,7 +45,8 @@ pub has_none : (lines : List (List ℕ)) → HasSpells lines 0 []
 has_none lines n r le says = let positive : 0 < n = says.positive in absurd (omega (arith, positive, le))
 
 -- where a further line says an operation, which is added
-pub has_more : (lines : List (List ℕ)) (count : ℕ) (spells : List Spell) (x : Spell) (says : List ℕ) → SaysSpell says (count + 1) x → HasSpells lines count spells → HasSpells lines (count + 1) (spells ++ x ∷ [])
+pub has_more : (lines : List (List ℕ)) (count : ℕ) (spells : List Spell) (x : Spell) (says : List ℕ) → SaysSpell says (count + 1) x
+    → HasSpells lines count spells → HasSpells lines (count + 1) (spells ++ x ∷ [])
 has_more lines count spells x says is has n r le at = by (nat_lt count n) refl
   where
     by : (t : Bool) → nat_lt count n ≡ t → HasSpell (spells ++ x ∷ []) n
@@ -56,7 +58,8 @@ has_more lines count spells x says is has n r le at = by (nat_lt count n) refl
     by false e = let found = has n r (ltb-false count n e) at in (found.0, Contains-append_left spells (x ∷ []) found.0 found.1, found.2)
 
 -- where a further line says none
-pub has_same : (lines : List (List ℕ)) (count : ℕ) (spells : List Spell) (says : List ℕ) → SaysNone says → slice_get lines count ≡ Some says → HasSpells lines count spells → HasSpells lines (count + 1) spells
+pub has_same : (lines : List (List ℕ)) (count : ℕ) (spells : List Spell) (says : List ℕ) → SaysNone says → slice_get lines count ≡ Some says
+    → HasSpells lines count spells → HasSpells lines (count + 1) spells
 has_same lines count spells says none there has n r le said = by (nat_lt count n) refl
   where
     by : (t : Bool) → nat_lt count n ≡ t → HasSpell spells n
@@ -214,7 +217,8 @@ pair_told text lines spells sorted one other is each moved there there' clash =
     (overlapping lines one other (All-contains (IsSpellIn lines) sorted one all there) (All-contains (IsSpellIn lines) sorted other all there') clash)
 
 -- and of one of which none do, as sorted
-pub none_told : (text : List ℕ) (lines : List (List ℕ)) (count : ℕ) (spells sorted : List Spell) → lines ≡ lines_in text → count ≡ length lines → All (IsSpellIn lines) spells → HasSpells lines count spells
+pub none_told : (text : List ℕ) (lines : List (List ℕ)) (count : ℕ) (spells sorted : List Spell) → lines ≡ lines_in text → count ≡ length lines
+    → All (IsSpellIn lines) spells → HasSpells lines count spells
     → IsPermutation spells sorted → IsInOrder sorted → NoNeighboursClash sorted → (one other : ℕ) → ¬ AreOverlapping text one other
 none_told text lines count spells sorted is many each all moved order apart one other h =
     let each' : All (IsSpellIn lines) sorted = All-permutation (IsSpellIn lines) spells sorted moved each in

@@ -9,7 +9,8 @@ use Rattle.text_lines.specs.Numerals.{numeral}
 use Rattle.text_lines.specs.Grammars.{lines_of}
 use Rattle.history.specs.declared.operations.Stamped.{Stamped}
 use Rattle.recording_text.specs.Recordings.{Recorded}
-use Rattle.recording_text.specs.RecordingLines.{Version, Count, Operation, VersionDue, CountDue, Operations, IsReadable, IsRecordingInRange, operation_words, recording_grammar, recording_text, version_line}
+use Rattle.recording_text.specs.RecordingLines.{Version, Count, Operation, VersionDue, CountDue, Operations, IsReadable, IsRecordingInRange}
+use Rattle.recording_text.specs.RecordingLines.{operation_words, recording_grammar, recording_text, version_line}
 use Rattle.recording_text.proofs.Known.{by_recursion}
 use Rattle.recording_text.proofs.Spelling.{IsSoundGrammar-recording}
 use Rattle.placing.specs.declared.answers.Held.{Held}

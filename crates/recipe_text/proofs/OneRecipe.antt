@@ -1,7 +1,7 @@
 -- One recipe a text, no fault in it, and one first fault of any other text.
 use Rattle.std.proofs.Common.{◌≡◌, ◌≢◌, ℕ, List, [], map, false, get_or, refl, sym, ap, ap₂, ◌∙◌, arith}
 use Rattle.line_table.proofs.Names.{name_of-differs}
-use Rattle.text_lines.specs.declared.causes.TextCause.{TextCause}
+use Rattle.history.specs.declared.text_causes.TextCause.{TextCause}
 use Rattle.text_lines.specs.Grammars.{IsFirstFault, IsSoundGrammar}
 use Rattle.text_lines.proofs.Numerals.{numeral_injective}
 use Rattle.text_lines.proofs.Single.{no_fault, one_fault, one_list}
@@ -202,7 +202,8 @@ pub no_fault_of_recipe : (text : List ℕ) (sizes : Sizes) (saids : List Said) (
 no_fault_of_recipe text sizes saids at cause is = no_fault recipe_lines sound VersionDue is.lines text at cause is.read
 
 -- no text is neither a recipe nor faulty
-pub not_neither_of_recipe : (text : List ℕ) → ((sizes : Sizes) (saids : List Said) → ¬ IsRecipe text sizes saids) → ((at : ℕ) (cause : TextCause) → ¬ IsFirstFault recipe_lines VersionDue text at cause) → ⊥
+pub not_neither_of_recipe : (text : List ℕ) → ((sizes : Sizes) (saids : List Said) → ¬ IsRecipe text sizes saids)
+    → ((at : ℕ) (cause : TextCause) → ¬ IsFirstFault recipe_lines VersionDue text at cause) → ⊥
 not_neither_of_recipe text none =
     not_neither recipe_lines VersionDue text
     (λ lines is. none (sizes_from no_sizes (map said_of lines)) (map said_of lines) (record { lines = lines; read = is; said = refl; sized = refl }))

@@ -4,8 +4,8 @@ use Rattle.std.proofs.lemmas.List.{map-append, length-map}
 use Rattle.history.specs.declared.refusals.Refusal.{Refusal}
 use Rattle.history.specs.declared.refusals.Refusal.TheVariants.{Memory, Text}
 use Rattle.text_io.specs.Prefixes.{IsRefusedBy}
-use Rattle.text_lines.specs.declared.causes.TextCause.{TextCause}
-use Rattle.text_lines.specs.declared.causes.TextCause.TheVariants.{End as EndCause, Form, Range, Extra}
+use Rattle.history.specs.declared.text_causes.TextCause.{TextCause}
+use Rattle.history.specs.declared.text_causes.TextCause.TheVariants.{End as EndCause, Form, Range, Extra}
 use Rattle.text_lines.specs.Grammars.{Begins, Says, state_after, IsFault, IsFirstFault}
 use Rattle.text_lines.specs.Lines.{HasNo, line as line_saying}
 use Rattle.text_lines.specs.Readings.{IsWrong}
@@ -15,7 +15,8 @@ use Rattle.recipe_text.specs.declared.recipes.Due.{Due}
 use Rattle.recipe_text.specs.declared.recipes.Due.TheVariants.{Version as VersionDue}
 use Rattle.recipe_text.specs.declared.recipes.Said.{Said}
 use Rattle.recipe_text.specs.declared.recipes.Sizes.{Sizes}
-use Rattle.recipe_text.specs.Recipes.{IsDueInRange, IsRecipe, IsRefusedLine, IsSaidInRange, MayStand, ReadsOn, RecipeLine, SaysWhere, SoFar, due_after, is_due, no_sizes, recipe_lines, sizes_after, sizes_from, spoken}
+use Rattle.recipe_text.specs.Recipes.{IsDueInRange, IsRecipe, IsRefusedLine, IsSaidInRange, MayStand, ReadsOn, RecipeLine, SaysWhere, SoFar}
+use Rattle.recipe_text.specs.Recipes.{due_after, is_due, no_sizes, recipe_lines, sizes_after, sizes_from, spoken}
 use Rattle.recipe_text.proofs.Spoken.{wrong_as}
 
 -- what a line says
@@ -97,7 +98,8 @@ extra_behind text so rest number h done some counted =
 -- what is wrong with what a line says is wrong with the line
 pub fault_at : (due : Due) (text says rest : List ℕ) (cause : TextCause) → is_due due ≡ true → text ≡ line_saying says ++ rest → HasNo 10 says
     → IsWrong (SaysWhere due (spoken says)) (IsSaidInRange due) cause → IsFault recipe_lines due text cause
-fault_at due text says rest cause more split whole wrong = by cause (wrong_as (SaysWhere due (spoken says)) (IsSaidInRange due) (Says recipe_lines due says) (recipe_lines.in_range due) standing there back (λ said r. r) cause wrong)
+fault_at due text says rest cause more split whole wrong = by cause (wrong_as (SaysWhere due (spoken says)) (IsSaidInRange due)
+    (Says recipe_lines due says) (recipe_lines.in_range due) standing there back (λ said r. r) cause wrong)
   where
     standing : Said → RecipeLine
     standing said = record { bytes = says; says = said }

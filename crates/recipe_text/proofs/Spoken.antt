@@ -5,8 +5,8 @@ use Rattle.std.proofs.lemmas.List.Elements.{All-nil, All-cons}
 use Rattle.line_table.specs.Names.{name_of}
 use Rattle.line_table.specs.declared.lines.Kind.{Kind}
 use Rattle.text_lines.specs.Numerals.{numeral}
-use Rattle.text_lines.specs.declared.causes.TextCause.{TextCause}
-use Rattle.text_lines.specs.declared.causes.TextCause.TheVariants.{End as EndCause, Form, Range, Extra}
+use Rattle.history.specs.declared.text_causes.TextCause.{TextCause}
+use Rattle.history.specs.declared.text_causes.TextCause.TheVariants.{End as EndCause, Form, Range, Extra}
 use Rattle.text_lines.specs.Lines.{HasNo, spaced, words_of}
 use Rattle.text_lines.specs.Readings.{IsWrong, Reads, ReadsLine}
 use Rattle.text_lines.proofs.Splits.{HasNo-tested, spaced-words_of, words_of-spaced}
@@ -164,7 +164,8 @@ pub room_outside : (acts : ℕ) (line : List ℕ) (said : Said) (result : Result
 room_outside acts line said (Ok kept) act same range told = rw told.0 ((may_outside acts said act, text_of_words line said same), (range, told.1))
 room_outside acts line said (Err cause) act same range told = rw told.0 (said, (may_outside acts said act, text_of_words line said same), λ r. told.1 r.1)
 
-pub room_inside : (acts times : ℕ) (line : List ℕ) (said : Said) (result : Result Said TextCause) → IsActSaid said → ((again : ℕ) → said ≢ Repeat again) → words_of line ≡ said_words said → IsActInRange said
+pub room_inside : (acts times : ℕ) (line : List ℕ) (said : Said) (result : Result Said TextCause) → IsActSaid said
+    → ((again : ℕ) → said ≢ Repeat again) → words_of line ≡ said_words said → IsActInRange said
     → MatchResult result (λ kept. (kept ≡ said) × HasRoom acts times said) (λ cause. (cause ≡ Range) × ¬ HasRoom acts times said)
     → ReadsLine (SaysWhere (Repeated acts times) line) (IsSaidInRange (Repeated acts times)) result
 room_inside acts times line said (Ok kept) act other same range told = rw told.0 ((may_inside acts times said act other, text_of_words line said same), (range, told.1))

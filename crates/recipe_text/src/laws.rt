@@ -1,7 +1,7 @@
 //! Laws of the texts of recipes: functions that do nothing, whose contracts are the laws.
 ghost use Rattle.std.specs.Prelude.{◌≡◌, ℕ, List};
 ghost use Rattle.text_lines.specs.Grammars.{IsFirstFault};
-ghost use Rattle.text_lines.specs.declared.causes.TextCause.{TextCause};
+ghost use Rattle.history.specs.declared.text_causes.TextCause.{TextCause};
 ghost use Rattle.recipe_text.specs.Recipes.{IsRecipe, recipe_lines};
 ghost use Rattle.recipe_text.specs.declared.recipes.Due.TheVariants.{Version};
 ghost use Rattle.recipe_text.specs.declared.recipes.Said.{Said};

@@ -1,8 +1,8 @@
 -- The first faulty line of a text in one of two grammars.
 use Rattle.std.proofs.Common.{◌≡◌, ℕ, suc, ◌+◌, List, [], ◌∷◌, ◌++◌, map, length, true, false, refl, sym, ap, ◌∙◌, subst}
 use Rattle.std.proofs.lemmas.List.{length-map}
-use Rattle.text_lines.specs.declared.causes.TextCause.{TextCause}
-use Rattle.text_lines.specs.declared.causes.TextCause.TheVariants.{End, Form, Range, Extra}
+use Rattle.history.specs.declared.text_causes.TextCause.{TextCause}
+use Rattle.history.specs.declared.text_causes.TextCause.TheVariants.{End, Form, Range, Extra}
 use Rattle.text_lines.specs.Lines.{line}
 use Rattle.text_lines.specs.Grammars.{Grammar, Says, AreDue, state_after, lines_of, IsFault, IsFirstFault}
 use Rattle.recorded_source.specs.EitherGrammars.{EitherDue, Start, InOne, InOther, EitherLine, OfOne, OfOther, either_grammar}

@@ -1,5 +1,6 @@
 -- Texts that become known, and their numbers.
-use Rattle.std.proofs.Common.{◌≡◌, ◌↔◌, ℕ, ◌+◌, ◌≤◌, List, [], ◌∷◌, ◌++◌, length, map, All, Contains, Bool, true, false, not, cond, ◌||◌, if◌then◌else◌, Option, Some, None, option_map, refl, sym, ap, ◌∙◌, arith, subst, bytes_eq, append-nil, length-append}
+use Rattle.std.proofs.Common.{◌≡◌, ◌↔◌, ℕ, ◌+◌, ◌≤◌, List, [], ◌∷◌, ◌++◌, length, map, All, Contains, Bool, true, false, not, cond, ◌||◌}
+use Rattle.std.proofs.Common.{if◌then◌else◌, Option, Some, None, option_map, refl, sym, ap, ◌∙◌, arith, subst, bytes_eq, append-nil, length-append}
 use Rattle.std.specs.List.{list_any, position_or_len, AllByRecursion}
 use Rattle.std.proofs.lemmas.List.Elements.{All-nil, All-cons, All-head, All-tail, All-contains}
 use Rattle.std.proofs.lemmas.Grind.{flat_map-append}
@@ -247,5 +248,5 @@ known-text : (rs : List Recorded) (text : List ℕ) → Contains (texts_of rs) t
 known-text rs text is = All-contains (IsKnown (known_in rs)) (texts_of rs) text (from_recursion (IsKnown (known_in rs)) (texts_of rs) (all-learnt [] (texts_of rs))) is
 
 -- two texts of a recording have one number exactly where they are the same
-pub number-tells_text : (rs : List Recorded) (s t : List ℕ) → Contains (texts_of rs) s → Contains (texts_of rs) t → (number_in (known_in rs) s ≡ number_in (known_in rs) t) ↔ (s ≡ t)
-number-tells_text rs s t is is' = (number-tells (known_in rs) s t (known-text rs s is) (known-text rs t is'), ap (number_in (known_in rs)))
+pub number_tells_text : (rs : List Recorded) (s t : List ℕ) → Contains (texts_of rs) s → Contains (texts_of rs) t → (number_in (known_in rs) s ≡ number_in (known_in rs) t) ↔ (s ≡ t)
+number_tells_text rs s t is is' = (number-tells (known_in rs) s t (known-text rs s is) (known-text rs t is'), ap (number_in (known_in rs)))

@@ -1,5 +1,6 @@
 -- A recording and the history that it stands for are linearizable alike.
-use Rattle.std.proofs.Common.{◌≡◌, ℕ, ◌<◌, List, [], ◌∷◌, ◌++◌, map, length, get_or, set, swap, Bool, true, false, Option, None, Some, option_map, IfSome, IsPermutation, refl, sym, ap, ◌∙◌, arith, subst, inl, inr, ⊎_elim}
+use Rattle.std.proofs.Common.{◌≡◌, ℕ, ◌<◌, List, [], ◌∷◌, ◌++◌, map, length, get_or, set, swap, Bool, true, false, Option, None, Some, option_map}
+use Rattle.std.proofs.Common.{IfSome, IsPermutation, refl, sym, ap, ◌∙◌, arith, subst, inl, inr, ⊎_elim}
 use Rattle.std.specs.List.{AllByRecursion}
 use Rattle.std.proofs.lemmas.List.{map-append, map-set, get_or-map, length-map}
 use Rattle.std.proofs.lemmas.List.Edits.{swap_is}
@@ -15,7 +16,8 @@ use Rattle.history.specs.Linearizability as linear
 use Rattle.history.specs.Linearizability.{Answered, IsLinearizable}
 use Rattle.recording_text.specs.Recordings.{Call, Push, Pop, Shut, Told, Done, Value, Empty, Refused, Closed, Recorded, text_of_call, text_of_told, texts_in}
 use Rattle.recording_text.specs.Numbering.{known_in, number_in, value_by, op_by, reply_by, stamped_by, history_of}
-use Rattle.recording_text.specs.TextQueues.{TextQueue, no_texts, text_response, queue_after, Tells, AnsweredOperation, operations_of, IsPending, TellsRecordedReply, MayComeBefore, KeepsTime, IsRun, IsLinearizableRecording}
+use Rattle.recording_text.specs.TextQueues.{TextQueue, no_texts, text_response, queue_after, Tells, AnsweredOperation, operations_of, IsPending}
+use Rattle.recording_text.specs.TextQueues.{TellsRecordedReply, MayComeBefore, KeepsTime, IsRun, IsLinearizableRecording}
 use Rattle.recording_text.proofs.EachOf.{parts, together}
 use Rattle.recording_text.proofs.Known.{IsKnown, AreKnown, AllAreKnown, by_recursion, from_recursion, number-tells, all-known_in, known-left, known-right}
 

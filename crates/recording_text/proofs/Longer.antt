@@ -1,10 +1,13 @@
 -- A recording is linearizable from a queue that holds texts exactly where the longer one is that pushes them first.
-use Rattle.std.proofs.Common.{◌≡◌, ◌↔◌, ◌⊎◌, ⊎_elim, inl, inr, ℕ, zero, suc, ◌+◌, ◌-◌, ◌<◌, ◌≤◌, Bool, true, false, not, cond, nat_lt, List, [], ◌∷◌, ◌++◌, map, filter, length, get_or, set, swap, Option, None, Some, option_map, IfSome, IsPermutation, refl, sym, ap, ◌∙◌, subst, arith, append_assoc, append-nil}
+use Rattle.std.proofs.Common.{◌≡◌, ◌↔◌, ◌⊎◌, ⊎_elim, inl, inr, ℕ, zero, suc, ◌+◌, ◌-◌, ◌<◌, ◌≤◌, Bool, true, false, not, cond, nat_lt, List, [], ◌∷◌}
+use Rattle.std.proofs.Common.{◌++◌, map, filter, length, get_or, set, swap, Option, None, Some, option_map, IfSome, IsPermutation, refl, sym, ap, ◌∙◌}
+use Rattle.std.proofs.Common.{subst, arith, append_assoc, append-nil}
 use Rattle.std.specs.List.{AllByRecursion}
 use Rattle.std.proofs.lemmas.Bool.{lt-ltb, le-ltb}
 use Rattle.std.proofs.lemmas.List.{map-append}
 use Rattle.std.proofs.lemmas.List.Elements.{filter-append}
-use Rattle.std.proofs.lemmas.List.Sorted.{IsPermutation-refl, IsPermutation-cons, IsPermutation-trans, IsPermutation-map, IsPermutation-middle, IsPermutation-keeps, All-permutation, length_permutation}
+use Rattle.std.proofs.lemmas.List.Sorted.{IsPermutation-refl, IsPermutation-cons, IsPermutation-trans, IsPermutation-map, IsPermutation-middle}
+use Rattle.std.proofs.lemmas.List.Sorted.{IsPermutation-keeps, All-permutation, length_permutation}
 use Rattle.recording_text.specs.Recordings.{Push, Done, Recorded}
 use Rattle.recording_text.specs.RecordingLines.{IsInTime, IsReadable, IsRecordingInRange}
 use Rattle.recording_text.specs.TextQueues.{TextQueue, queue_after, AnsweredOperation, operations_of, IsPending, TellsRecordedReply, MayComeBefore, KeepsTime, IsRun, IsLinearizableRecording}

@@ -1,12 +1,13 @@
 -- Each text is of one recording at most.
 use Rattle.std.proofs.Common.{◌≡◌, ◌≢◌, ℕ, zero, suc, ◌-◌, ◌≤◌, List, [], ◌∷◌, length, All, true, false, refl, sym, ap, ◌∙◌, arith, subst, append-nil}
 use Rattle.std.proofs.lemmas.List.Elements.{All-head, All-tail}
-use Rattle.text_lines.specs.declared.causes.TextCause.{TextCause}
+use Rattle.history.specs.declared.text_causes.TextCause.{TextCause}
 use Rattle.text_lines.specs.Grammars.{AreDue, state_after, lines_of, IsText}
-use Rattle.text_lines.proofs.Single.{one_list, no_fault, one_fault}
+use Rattle.text_lines.proofs.Single.{one_list}
 use Rattle.text_lines.proofs.Total.{not_neither}
 use Rattle.recording_text.specs.Recordings.{Recorded}
-use Rattle.recording_text.specs.RecordingLines.{RecordingLine, Version, Count, Operation, VersionDue, Operations, is_line_due, IsReadable, IsRecordingInRange, HasFirstFault, recording_grammar, recording_lines, recording_text}
+use Rattle.recording_text.specs.RecordingLines.{RecordingLine, Version, Count, Operation, VersionDue, Operations, is_line_due, IsReadable}
+use Rattle.recording_text.specs.RecordingLines.{IsRecordingInRange, HasFirstFault, recording_grammar, recording_lines, recording_text}
 use Rattle.recording_text.proofs.Spelling.{IsSoundGrammar-recording}
 use Rattle.recording_text.proofs.Steps.{said, state-said, due-some, due-none, readable-due}
 
@@ -18,7 +19,7 @@ due-readable (r ∷ rs) left enough all =
     (due-some left (omega arith), readable.0, readable.1, due-readable rs (left - 1) (omega arith) (All-tail IsReadable r rs all))
 
 -- the text of a recording in range is in the grammar
-IsText-recording : (rs : List Recorded) → IsRecordingInRange rs → IsText recording_grammar VersionDue (recording_lines rs) (recording_text rs)
+pub IsText-recording : (rs : List Recorded) → IsRecordingInRange rs → IsText recording_grammar VersionDue (recording_lines rs) (recording_text rs)
 unfolding recording_text
 IsText-recording rs range = record {
   lines = record {
@@ -29,8 +30,8 @@ IsText-recording rs range = record {
 }
 
 -- one recording a text
-pub one-recording : (rs qs : List Recorded) → IsRecordingInRange rs → IsRecordingInRange qs → recording_text rs ≡ recording_text qs → rs ≡ qs
-one-recording rs qs range range' e =
+pub one_recording : (rs qs : List Recorded) → IsRecordingInRange rs → IsRecordingInRange qs → recording_text rs ≡ recording_text qs → rs ≡ qs
+one_recording rs qs range range' e =
     let lines : recording_lines rs ≡ recording_lines qs =
     one_list recording_grammar IsSoundGrammar-recording VersionDue (recording_lines rs) (recording_lines qs) (recording_text qs)
     (subst (IsText recording_grammar VersionDue (recording_lines rs)) e (IsText-recording rs range)) (IsText-recording qs range') in
@@ -45,14 +46,6 @@ one-recording rs qs range range' e =
         let head : r ≡ q = cc in
         let tail : said rs ≡ said qs = cc in
         λ i. head i ∷ said_injective rs qs tail i
-
--- the text of a recording in range has no faulty line
-pub no_fault-recording : (rs : List Recorded) (number : ℕ) (cause : TextCause) → IsRecordingInRange rs → HasFirstFault (recording_text rs) number cause → ⊥
-no_fault-recording rs number cause range = no_fault recording_grammar IsSoundGrammar-recording VersionDue (recording_lines rs) (recording_text rs) number cause (IsText-recording rs range)
-
--- the first faulty line of a text is one
-pub one_fault-recording : (text : List ℕ) (m n : ℕ) (c d : TextCause) → HasFirstFault text m c → HasFirstFault text n d → (m ≡ n) × (c ≡ d)
-one_fault-recording = one_fault recording_grammar IsSoundGrammar-recording VersionDue
 
 -- lines that are due after the second one are operations, as many as are due
 record AreOperations (left : ℕ) (lines : List RecordingLine) : Type 0 where
@@ -92,5 +85,5 @@ recording-of (Version ∷ Count count ∷ lines) text is =
     )
 
 -- no text is neither a recording's nor faulty
-pub not_neither-recording : (text : List ℕ) → ((rs : List Recorded) → IsRecordingInRange rs → text ≢ recording_text rs) → ((number : ℕ) (cause : TextCause) → ¬ HasFirstFault text number cause) → ⊥
-not_neither-recording text none = not_neither recording_grammar VersionDue text (λ lines is. let found = recording-of lines text is in none found.0 found.1 found.2)
+pub not_neither_of_recording : (text : List ℕ) → ((rs : List Recorded) → IsRecordingInRange rs → text ≢ recording_text rs) → ((number : ℕ) (cause : TextCause) → ¬ HasFirstFault text number cause) → ⊥
+not_neither_of_recording text none = not_neither recording_grammar VersionDue text (λ lines is. let found = recording-of lines text is in none found.0 found.1 found.2)

@@ -83,8 +83,8 @@ module _ (known : List (List ℕ)) where
       ∙ sym (map-append (number_in known) (texts_in r) (texts_of rs))
 
 -- recordings with one history have one shape, and their texts have the same numbers
-pub shapes-one : (rs qs : List Recorded) → history_of rs ≡ history_of qs → map shape_of rs ≡ map shape_of qs
-shapes-one rs qs e = sym (shapes-read (known_in rs) rs) ∙ ap (λ (ops : List Stamped). map stamped_shape ops) e ∙ shapes-read (known_in qs) qs
+pub shapes_one : (rs qs : List Recorded) → history_of rs ≡ history_of qs → map shape_of rs ≡ map shape_of qs
+shapes_one rs qs e = sym (shapes-read (known_in rs) rs) ∙ ap (λ (ops : List Stamped). map stamped_shape ops) e ∙ shapes-read (known_in qs) qs
 
-pub numbers-one : (rs qs : List Recorded) → history_of rs ≡ history_of qs → numbers_of rs ≡ numbers_of qs
-numbers-one rs qs e = sym (numbers-read (known_in rs) rs) ∙ ap (λ (ops : List Stamped). flat_map stamped_numbers ops) e ∙ numbers-read (known_in qs) qs
+pub numbers_one : (rs qs : List Recorded) → history_of rs ≡ history_of qs → numbers_of rs ≡ numbers_of qs
+numbers_one rs qs e = sym (numbers-read (known_in rs) rs) ∙ ap (λ (ops : List Stamped). flat_map stamped_numbers ops) e ∙ numbers-read (known_in qs) qs

@@ -1,61 +1,37 @@
 -- The lines of recordings and their words.
-use Rattle.std.proofs.Common.{◌≡◌, ◌≢◌, ℕ, ◌<◌, ◌≤◌, List, [], ◌∷◌, ◌++◌, All, Option, Some, None, Bool, true, false, refl, sym, ap, ◌∙◌, arith, subst, codes, inl, ⊎_elim, get_or, ◌==◌}
-use Rattle.std.specs.Prelude.{nat_lt, ◌&&◌}
-use Rattle.std.specs.List.{list_all}
+use Rattle.std.proofs.Common.{◌≡◌, ◌≢◌, ℕ, ◌≤◌, List, [], ◌∷◌, ◌++◌, All, Option, Some, None, false, refl, sym, ap, ◌∙◌, subst, codes, ⊎_elim}
 use Rattle.std.specs.Option.{ok_or}
-use Rattle.std.proofs.lemmas.Bool.{ltb-true, eq-eqb, cases_lt, agree_below_at}
-use Rattle.std.proofs.lemmas.List.Elements.{All-nil, All-cons, All-append, All-weaker, All-head, All-tail}
-use Rattle.text_lines.specs.declared.causes.TextCause.{TextCause}
-use Rattle.text_lines.specs.declared.causes.TextCause.TheVariants.{End, Form, Range, Extra}
-use Rattle.text_lines.specs.Lines.{HasNo, spaced, words_of}
+use Rattle.std.proofs.lemmas.Bool.{cases_lt, agree_below_at}
+use Rattle.std.proofs.lemmas.List.Elements.{All-nil, All-append, All-weaker}
+use Rattle.history.specs.declared.text_causes.TextCause.{TextCause}
+use Rattle.history.specs.declared.text_causes.TextCause.TheVariants.{End, Form, Range, Extra}
+use Rattle.text_lines.specs.Lines.{spaced, words_of}
 use Rattle.text_lines.specs.Numerals.{numeral}
 use Rattle.text_lines.specs.Readings.{IsWrong}
 use Rattle.text_lines.specs.Grammars.{Says, IsSoundGrammar}
-use Rattle.text_lines.proofs.Numerals.{IsPlain-numeral, HasNo-numeral, numeral_injective}
-use Rattle.text_lines.proofs.Splits.{words_of-spaced, spaced-words_of}
+use Rattle.text_lines.proofs.Numerals.{numeral_injective}
+use Rattle.text_lines.proofs.Splits.{spaced-words_of}
 use Rattle.history_text.specs.HistoryLines.{step_word}
+use Rattle.history_text.proofs.NoSpaces.{IsInk, ink-tested, ink-numeral, more, one, ink-step, ink-labelled, words_of-ink, HasNo-spaced}
+use Rattle.history_text.proofs.OneReading.{apart, one-step}
 use Rattle.recording_text.specs.declared.reading.ReadOperation.{ReadOperation}
 use Rattle.recording_text.specs.Recordings.{Call, Push, Pop, Shut, Told, Done, Value, Empty, Refused, Closed, Recorded}
-use Rattle.recording_text.specs.RecordingLines.{is_text_byte, IsTextByte, IsText, IsTextCall, IsTextTold, IsSayable, IsOperationInRange, RecordingLine, Version, Count, Operation, RecordingDue, VersionDue, CountDue, Operations, MaySay, call_words, told_words, span_words, operation_words, line_words, recording_grammar}
+use Rattle.recording_text.specs.RecordingLines.{is_text_byte, IsTextByte, IsText, IsTextCall, IsTextTold, IsSayable, IsOperationInRange}
+use Rattle.recording_text.specs.RecordingLines.{RecordingLine, Version, Count, Operation, RecordingDue, VersionDue, CountDue, Operations, MaySay}
+use Rattle.recording_text.specs.RecordingLines.{call_words, told_words, span_words, operation_words, line_words, recording_grammar}
 use Rattle.recording_text.specs.RecordingReading.{said_of, KeepsAs, AreOfOperation, SaysOperation, ReadsOperation, AreOfCount, SaysCount, IsCount}
 
--- a word of letters, digits, dashes, points and underscores
-abbrev IsInk : List ℕ → Type 0
-IsInk word = All (λ b. 45 ≤ b) word
-
--- a test of each byte that computes to true
-ink-tested : (word : List ℕ) → list_all (λ b. nat_lt 44 b) word ≡ true → IsInk word
-ink-tested [] e = All-nil (λ b. 45 ≤ b)
-ink-tested (b ∷ word) e = by (nat_lt 44 b) refl (ink-tested word) e
-  where
-    by : (t : Bool) → nat_lt 44 b ≡ t → (list_all (λ b. nat_lt 44 b) word ≡ true → IsInk word) → (t && list_all (λ b. nat_lt 44 b) word) ≡ true → IsInk (b ∷ word)
-    by true is rest e = let low : 44 < b = ltb-true 44 b is in All-cons (λ b. 45 ≤ b) b word (omega arith) (rest e)
-    by false is rest e = absurd cc
-
-ink-numeral : (n : ℕ) → IsInk (numeral n)
-ink-numeral n = All-weaker (λ b. (48 ≤ b) × (b ≤ 57)) (λ b. 45 ≤ b) (λ b h. omega (arith, h.0)) (numeral n) (IsPlain-numeral n).digits
-
+-- the bytes of a text are such ones
 ink-byte : (b : ℕ) → IsTextByte b → 45 ≤ b
 ink-byte b is = ⊎_elim (λ low. let not : is_text_byte b ≡ false = agree_below_at is_text_byte (λ b. false) 45 b refl low in absurd cc) (λ high. high) (cases_lt b 45)
 
 ink-text : (word : List ℕ) → IsText word → IsInk word
 ink-text word is = All-weaker IsTextByte (λ b. 45 ≤ b) ink-byte word is.1
 
--- one more word
-more : (word : List ℕ) (words : List (List ℕ)) → IsInk word → All IsInk words → All IsInk (word ∷ words)
-more word words = All-cons IsInk word words
-
-one : (word : List ℕ) → IsInk word → All IsInk (word ∷ [])
-one word ink = more word [] ink (All-nil IsInk)
-
 ink-call : (call : Call) → IsTextCall call → All IsInk (call_words call)
 ink-call (Push text) is = more (codes "enq") (text ∷ []) (ink-tested (codes "enq") refl) (one text (ink-text text is))
 ink-call Pop is = one (codes "deq") (ink-tested (codes "deq") refl)
 ink-call Shut is = one (codes "shut") (ink-tested (codes "shut") refl)
-
-ink-step : (step : Option ℕ) → IsInk (step_word step)
-ink-step None = ink-tested (codes "-") refl
-ink-step (Some step) = ink-numeral step
 
 ink-told : (told : Option Told) → IsTextTold told → All IsInk (told_words told)
 ink-told None is = one (codes "-") (ink-tested (codes "-") refl)
@@ -64,10 +40,6 @@ ink-told (Some (Value text)) is = more (codes "value") (text ∷ []) (ink-tested
 ink-told (Some Empty) is = one (codes "empty") (ink-tested (codes "empty") refl)
 ink-told (Some Refused) is = one (codes "refused") (ink-tested (codes "refused") refl)
 ink-told (Some Closed) is = one (codes "closed") (ink-tested (codes "closed") refl)
-
--- a label and the word behind it, before more words
-ink-labelled : (label word : List ℕ) (words : List (List ℕ)) → IsInk label → IsInk word → All IsInk words → All IsInk (label ∷ word ∷ words)
-ink-labelled label word words first second rest = more label (word ∷ words) first (more word words second rest)
 
 ink-span : (r : Recorded) → IsTextTold r.told → All IsInk (span_words r)
 ink-span r is =
@@ -85,22 +57,6 @@ ink-count count = ink-labelled (codes "operations") (numeral count) [] (ink-test
 
 ink-version : All IsInk (line_words Version)
 ink-version = ink-labelled (codes "msq") (codes "record") (codes "1" ∷ []) (ink-tested (codes "msq") refl) (ink-tested (codes "record") refl) (one (codes "1") (ink-tested (codes "1") refl))
-
--- a lower byte isn't in such a word
-HasNo-ink : (byte : ℕ) → byte < 45 → (word : List ℕ) → IsInk word → HasNo byte word
-HasNo-ink byte low = All-weaker (λ b. 45 ≤ b) (λ b. b ≢ byte) (λ b h e. omega (arith, low, h, e))
-
--- such words are those of their line
-words_of-ink : (word : List ℕ) (words : List (List ℕ)) → All IsInk (word ∷ words) → words_of (spaced (word ∷ words)) ≡ word ∷ words
-words_of-ink word words ink = words_of-spaced word words (All-weaker IsInk (HasNo 32) (λ word. HasNo-ink 32 (omega arith) word) (word ∷ words) ink)
-
--- a line of such words has no line feed
-HasNo-spaced : (words : List (List ℕ)) → All IsInk words → HasNo 10 (spaced words)
-HasNo-spaced [] ink = All-nil (λ b. b ≢ 10)
-HasNo-spaced (word ∷ []) ink = HasNo-ink 10 (omega arith) word (All-head IsInk word [] ink)
-HasNo-spaced (word ∷ next ∷ words) ink =
-    All-append (λ b. b ≢ 10) word (32 ∷ spaced (next ∷ words)) (HasNo-ink 10 (omega arith) word (All-head IsInk word (next ∷ words) ink))
-    (All-cons (λ b. b ≢ 10) 32 (spaced (next ∷ words)) (λ e. omega (arith, e)) (HasNo-spaced (next ∷ words) (All-tail IsInk word (next ∷ words) ink)))
 
 -- a line of the words of an operation says it, and the other way round
 pub SaysOperation-from_words : (says : List ℕ) (r : Recorded) → AreOfOperation (words_of says) r → SaysOperation says r
@@ -157,28 +113,6 @@ wrong-version says other = by
     by (Count count) s = absurd s.may
     by (Operation o) s = absurd s.may
 
--- a number is no dash
-dash_no_number : (n : ℕ) → codes "-" ≢ numeral n
-dash_no_number n e = All-head (λ b. b ≢ 45) 45 [] (subst (HasNo 45) (sym e) (HasNo-numeral 45 n (inl (omega arith)))) refl
-
--- the first byte of the first word
-abbrev first_byte : List (List ℕ) → ℕ
-first_byte words = get_or (get_or words 0 []) 0 0
-
--- words that begin with other bytes are others
-apart : (ws vs : List (List ℕ)) → (first_byte ws == first_byte vs) ≡ false → ws ≢ vs
-apart ws vs other same =
-    let one : (first_byte ws == first_byte vs) ≡ true = eq-eqb (first_byte ws) (first_byte vs) (ap first_byte same) in
-    let both : true ≡ false = sym one ∙ other in
-    absurd cc
-
--- the words of a step tell it
-one-step : (a b : Option ℕ) → step_word a ≡ step_word b → a ≡ b
-one-step None None e = refl
-one-step None (Some n) e = absurd (dash_no_number n e)
-one-step (Some m) None e = absurd (dash_no_number m (sym e))
-one-step (Some m) (Some n) e = ap (λ (n : ℕ). Some n) (numeral_injective m n e)
-
 -- the words of a call, before others, tell it and them
 one-call : (a b : Call) (xs ys : List (List ℕ)) → call_words a ++ xs ≡ call_words b ++ ys → (a ≡ b) × (xs ≡ ys)
 one-call (Push s) (Push t) xs ys e = let text : s ≡ t = cc in (ap (λ (t : List ℕ). Push t) text, cc)
@@ -231,9 +165,9 @@ one-told (Some Closed) (Some Refused) e = absurd (apart _ _ refl e)
 one-told (Some Closed) (Some Closed) e = refl
 
 -- words behind those of a call that have no step are those of no operation
-pub no_last : (words named called from timed last : List (List ℕ)) (name : List ℕ) (call : Call) (n : ℕ) → words ≡ name ∷ named → named ≡ call_words call ++ called → called ≡ codes "from" ∷ from
-    → from ≡ numeral n ∷ timed → timed ≡ codes "to" ∷ last → ((step : Option ℕ) (rest : List (List ℕ)) → last ≢ step_word step ∷ rest) → (r : Recorded) → ¬ AreOfOperation words r
-no_last words named called from timed last name call n first second third fourth fifth none r there =
+pub no_last : (words named called from timed : List (List ℕ)) (name : List ℕ) (call : Call) (n : ℕ) → words ≡ name ∷ named → named ≡ call_words call ++ called → called ≡ codes "from" ∷ from
+    → from ≡ numeral n ∷ timed → ((step : Option ℕ) (rest : List (List ℕ)) → timed ≢ codes "to" ∷ step_word step ∷ rest) → (r : Recorded) → ¬ AreOfOperation words r
+no_last words named called from timed name call n first second third fourth none r there =
     let behind : named ≡ call_words r.call ++ span_words r = cc in
     let calls = one-call call r.call called (span_words r) (sym second ∙ behind) in
     let span : called ≡ span_words r = calls.1 in

@@ -1,11 +1,10 @@
 -- A recording's text that is read a line at a time.
-use Rattle.std.proofs.Common.{◌≡◌, ◌≢◌, ℕ, zero, suc, ◌+◌, ◌-◌, ◌<◌, ◌≤◌, List, [], ◌∷◌, ◌++◌, length, map, All, Bool, true, false, ◌==◌, refl, sym, ap, ◌∙◌, arith, subst, append_assoc, append-nil, codes, length-append}
-use Rattle.std.specs.List.{AllByRecursion}
-use Rattle.std.proofs.lemmas.Bool.{eq-eqb}
+use Rattle.std.proofs.Common.{◌≡◌, ◌≢◌, ℕ, zero, suc, ◌+◌, ◌-◌, ◌<◌, ◌≤◌, List, [], ◌∷◌, ◌++◌, length, map, All, true, false, refl, sym, ap, ◌∙◌}
+use Rattle.std.proofs.Common.{arith, subst, append_assoc, append-nil, codes, length-append}
 use Rattle.std.proofs.lemmas.List.{map-append, length-map}
 use Rattle.std.proofs.lemmas.List.Elements.{All-nil, All-cons}
-use Rattle.text_lines.specs.declared.causes.TextCause.{TextCause}
-use Rattle.text_lines.specs.declared.causes.TextCause.TheVariants.{End, Form, Extra}
+use Rattle.history.specs.declared.text_causes.TextCause.{TextCause}
+use Rattle.history.specs.declared.text_causes.TextCause.TheVariants.{End, Form, Extra}
 use Rattle.text_lines.specs.Lines.{HasNo, line, spaced}
 use Rattle.text_lines.specs.Numerals.{numeral}
 use Rattle.text_lines.specs.Readings.{IsWrong}
@@ -16,8 +15,10 @@ use Rattle.history.specs.declared.refusals.Refusal.TheVariants.{Memory, Text}
 use Rattle.history.specs.declared.operations.Stamped.{Stamped}
 use Rattle.recording_text.specs.Recordings.{Recorded, texts_in, texts_of}
 use Rattle.recording_text.specs.Numbering.{with_texts, stamped_by}
-use Rattle.recording_text.specs.RecordingLines.{RecordingLine, Version, Count, Operation, VersionDue, CountDue, Operations, is_line_due, version_line, IsReadable, IsFirstFaultOfRecording, HasFirstFault, recording_grammar, recording_text}
+use Rattle.recording_text.specs.RecordingLines.{RecordingLine, Version, Count, Operation, VersionDue, CountDue, Operations, is_line_due, version_line}
+use Rattle.recording_text.specs.RecordingLines.{IsReadable, IsFirstFaultOfRecording, HasFirstFault, recording_grammar, recording_text}
 use Rattle.recording_text.specs.RecordingReading.{AddsOperation, IsWrongOperation, IsAfterCount, SaysCount, IsCount, StandsFor, StandsBehind}
+use Rattle.recording_text.proofs.EachOf.{together}
 use Rattle.recording_text.proofs.Known.{AreKnown, AllAreKnown, every-stays, all-learnt, history-stays, length-with_texts, two-texts, with_texts-append, texts_of-push}
 use Rattle.recording_text.proofs.Spelling.{wrong-operation, wrong-count, wrong-version}
 
@@ -100,11 +101,6 @@ begins-next count rs r text rest says later known new_known ops new begins more 
     let lines : said (rs ++ o ∷ []) ≡ said rs ++ Operation o ∷ [] = map-append (λ r. Operation r) rs (o ∷ []) in
     subst (λ (lines : List RecordingLine). Begins recording_grammar VersionDue (Version ∷ Count count ∷ lines) text later) (sym lines) longer
 
--- each of a list and one more
-each-push : {X : Type 0} (P : X → Type 0) (xs : List X) (x : X) → AllByRecursion P xs → P x → AllByRecursion P (xs ++ x ∷ [])
-each-push P [] x all is = (is, tt)
-each-push P (y ∷ xs) x all is = (all.0, each-push P xs x all.1 is)
-
 -- one more operation is learnt
 pub HasLearnt-more : (start : List (List ℕ)) (rs : List Recorded) (o : Recorded) (known new_known : List (List ℕ)) (ops : List Stamped) → HasLearnt start rs known ops
     → new_known ≡ with_texts known (texts_in o) → HasLearnt start (rs ++ o ∷ []) new_known (ops ++ stamped_by new_known o ∷ [])
@@ -117,11 +113,12 @@ HasLearnt-more start rs o known new_known ops read learnt =
           ∙ ap (with_texts start) (sym (texts_of-push rs o));
       each =
           subst (λ (known : List (List ℕ)). AllAreKnown known (rs ++ o ∷ [])) (sym learnt)
-          (each-push (λ r. AreKnown (with_texts known texts) (texts_in r)) rs o (every-stays known rs texts read.each) (all-learnt known texts));
+          (together (λ r. AreKnown (with_texts known texts) (texts_in r)) rs (o ∷ []) (every-stays known rs texts read.each) (all-learnt known texts, tt));
       numbered = ap (λ (ops : List Stamped). ops ++ stamped_by new_known o ∷ []) old ∙ sym (map-append (stamped_by new_known) rs (o ∷ []));
     }
 
-pub HasRead-more : (start : List (List ℕ)) (count : ℕ) (text rest says later : List ℕ) (place : ℕ) (known new_known : List (List ℕ)) (ops new : List Stamped) → HasRead start count text rest place known ops
+pub HasRead-more : (start : List (List ℕ)) (count : ℕ) (text rest says later : List ℕ) (place : ℕ) (known new_known : List (List ℕ))
+    (ops new : List Stamped) → HasRead start count text rest place known ops
     → place < count → rest ≡ line says ++ later → AddsOperation known new_known ops new says → HasRead start count text later (place + 1) new_known new
 HasRead-more start count text rest says later place known new_known ops new read more split adds =
     let rs = read.recorded in
@@ -153,7 +150,8 @@ fault-end start count text rest place known ops read more none =
     (omega (arith, read.counted, length-map rs (λ r. Operation r))) (due-some (count - length rs) (omega (arith, read.counted, more))) none
 
 -- an operation is due, and its line is wrong, or there was no room
-pub fault-operation : (start : List (List ℕ)) (count : ℕ) (text rest says later : List ℕ) (place : ℕ) (known : List (List ℕ)) (ops : List Stamped) (refusal : Refusal) → HasRead start count text rest place known ops
+pub fault-operation : (start : List (List ℕ)) (count : ℕ) (text rest says later : List ℕ) (place : ℕ) (known : List (List ℕ)) (ops : List Stamped)
+    (refusal : Refusal) → HasRead start count text rest place known ops
     → place < count → rest ≡ line says ++ later → HasNo 10 says → IsWrongOperation (3 + place) says refusal → IsFirstFaultOfRecording text refusal
 fault-operation start count text rest says later place known ops (Text at cause) read more split whole wrong =
     let rs = read.recorded in
@@ -233,9 +231,3 @@ after-count text version later says rest count first is split said range = (
   range,
   first ∙ (λ i. line (is i) ++ (split ∙ ap (λ (says : List ℕ). line says ++ rest) said) i),
 )
-
--- a list that the test finds not empty
-pub not_empty : (rest : List ℕ) (test : Bool) → test ≡ (length rest == 0) → test ≡ false → rest ≢ []
-not_empty rest test tests fails empty =
-    let yes : (length rest == 0) ≡ true = eq-eqb (length rest) 0 (ap length empty) in
-    absurd cc

@@ -1,7 +1,7 @@
 -- The grammar of recordings: what each line may say, in which words, and which of this is in range.
 use Rattle.std.specs.Prelude.{◌<◌, ◌≤◌, ◌-◌, ℕ, zero, suc, List, [], ◌∷◌, ◌++◌, Option, Some, None, IfSome, Bool, true, false, IsTrue, ◌||◌, nat_eq, length, codes, map, All}
 use Rattle.std.specs.Char.{is_ascii_alphanumeric}
-use Rattle.text_lines.specs.declared.causes.TextCause.{TextCause}
+use Rattle.history.specs.declared.text_causes.TextCause.{TextCause}
 use Rattle.text_lines.specs.Lines.{spaced}
 use Rattle.text_lines.specs.Numerals.{numeral}
 use Rattle.text_lines.specs.Printable.{IsShort}

@@ -2,22 +2,22 @@
 use Rattle.std.specs.Prelude.{◌≡◌, ◌≢◌, ◌≤◌, ℕ, List, [], ◌∷◌, ◌++◌, Option, Some, Result, MatchOption, MatchResult, map, option_map, codes}
 use Rattle.std.specs.Borrow.{Bor}
 use Rattle.std.specs.HashSet.{HashSet}
-use Rattle.text_lines.specs.declared.causes.TextCause.{TextCause}
-use Rattle.text_lines.specs.declared.causes.TextCause.TheVariants.{Form}
+use Rattle.history.specs.declared.text_causes.TextCause.{TextCause}
+use Rattle.history.specs.declared.text_causes.TextCause.TheVariants.{Form}
 use Rattle.text_lines.specs.Lines.{line, spaced}
 use Rattle.text_lines.specs.Numerals.{numeral}
 use Rattle.text_lines.specs.Readings.{IsWrong}
 use Rattle.history.specs.declared.refusals.Refusal.{Refusal}
 use Rattle.history.specs.declared.refusals.Refusal.TheVariants.{Text, Memory}
 use Rattle.history.specs.declared.operations.Stamped.{Stamped}
-use Rattle.history_text.specs.HistoryLines.{step_word}
 use Rattle.recording_text.specs.declared.reading.ReadCall.{ReadCall}
 use Rattle.recording_text.specs.declared.reading.ReadCall.TheVariants.{Push as ReadPush, Pop as ReadPop, Shut as ReadShut}
 use Rattle.recording_text.specs.declared.replies.ReadReply.{ReadReply}
 use Rattle.recording_text.specs.declared.replies.ReadReply.TheVariants.{Done as ReadDone, Value as ReadValue, Empty as ReadEmpty, Refused as ReadRefused, Closed as ReadClosed}
 use Rattle.recording_text.specs.declared.reading.ReadOperation.{ReadOperation}
 use Rattle.recording_text.specs.Recordings.{Call, Push, Pop, Shut, Told, Done, Value, Empty, Refused, Closed, Recorded, texts_in, texts_of}
-use Rattle.recording_text.specs.RecordingLines.{version_line, call_words, told_words, operation_words, IsText, IsTextCall, IsTextTold, IsSayable, IsShortText, IsCallInRange, IsToldInRange, IsOperationInRange, IsRecordingInRange, recording_text}
+use Rattle.recording_text.specs.RecordingLines.{version_line, call_words, told_words, operation_words, IsText, IsTextCall, IsTextTold, IsSayable}
+use Rattle.recording_text.specs.RecordingLines.{IsShortText, IsCallInRange, IsToldInRange, IsOperationInRange, IsRecordingInRange, recording_text}
 use Rattle.recording_text.specs.Numbering.{stamped_by, with_texts, history_of}
 
 -- the call that was read
@@ -69,10 +69,6 @@ KeepsPush text kept = (bytes : List ℕ) → KeepsAs bytes_of IsShortText bytes 
 -- the value of a text that was kept
 abbrev pub KeepsValue : Option (Bor (List ℕ)) → Option (Option ReadReply) → Type 0
 KeepsValue text kept = (bytes : List ℕ) → KeepsAs bytes_of IsShortText bytes text → KeepsAs said_told IsToldInRange (Some (Value bytes)) kept
-
--- a step, or a dash, is one word
-abbrev pub step_words : Option ℕ → List (List ℕ)
-step_words step = step_word step ∷ []
 
 -- the same of a call
 abbrev pub ReadsCall : List (List ℕ) → List (List ℕ) → Result (Option ReadCall) TextCause → Type 0

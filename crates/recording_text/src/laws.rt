@@ -1,6 +1,6 @@
 //! Laws of recordings, each the contract of a function that does nothing.
 ghost use Rattle.std.specs.Prelude.{◌≡◌, ◌≢◌, ◌↔◌, ℕ, List, Contains, map};
-ghost use Rattle.text_lines.specs.declared.causes.TextCause.{TextCause};
+ghost use Rattle.history.specs.declared.text_causes.TextCause.{TextCause};
 ghost use Rattle.history.specs.Linearizability.{IsLinearizable};
 ghost use Rattle.recording_text.specs.Recordings.{Recorded, texts_of};
 ghost use Rattle.recording_text.specs.Numbering.{known_in, number_in, history_of};
@@ -10,6 +10,7 @@ ghost use Rattle.recording_text.specs.Holding.{holding, longer, IsLinearizableFr
 ghost use Rattle.recording_text.specs.TextQueues.{IsLinearizableRecording};
 
 /// A text is that of one recording in range at most.
+#[tactic(auto, using(crate::proofs::OneReading::one_recording))]
 pub fn a_text_is_of_one_recording()
     //= texts/one_reading
     ensures { (rs qs : List Recorded) → IsRecordingInRange rs → IsRecordingInRange qs
@@ -26,6 +27,7 @@ pub fn a_text_has_one_first_fault()
 {}
 
 /// Every text is that of a recording in range or has a first faulty line: it can't be that it is neither.
+#[tactic(auto, using(crate::proofs::OneReading::not_neither_of_recording))]
 pub fn a_text_is_a_recording_or_faulty()
     //= texts/one_reading
     ensures { (text : List ℕ)
@@ -34,6 +36,7 @@ pub fn a_text_is_a_recording_or_faulty()
 {}
 
 /// In the history that a recording stands for, two of its texts have one number exactly where they are the same.
+#[tactic(auto, using(crate::proofs::Known::number_tells_text))]
 pub fn a_number_is_of_one_text()
     //= texts/numbers_of_texts: In a recording's history two texts have one number exactly where they are the same.
     //=   Recordings with one history differ in names and texts alone, and their texts have the same numbers. A
@@ -43,6 +46,7 @@ pub fn a_number_is_of_one_text()
 {}
 
 /// Two recordings that stand for one history are the same but for names and texts, and their texts have the same numbers.
+#[tactic(auto, using(crate::proofs::Shapes::shapes_one, crate::proofs::Shapes::numbers_one))]
 pub fn a_history_tells_all_but_names()
     //= texts/numbers_of_texts (shapes, numbers)
     ensures shapes { (rs qs : List Recorded) → history_of rs ≡ history_of qs

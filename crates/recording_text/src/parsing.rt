@@ -1,6 +1,5 @@
 //! The history that a recording stands for, from its text.
 ghost use Rattle.std.specs.Prelude.{◌≡◌, ◌++◌, ◌∷◌, ◌≤◌, [], IfOk, IfErr, MatchResult, OnOk, length};
-ghost use Rattle.text_lines.specs.Lines.{HasNo, line};
 ghost use Rattle.recording_text.specs.RecordingLines.{IsFirstFaultOfRecording};
 ghost use Rattle.recording_text.specs.RecordingReading.{StandsFor, StandsBehind, IsAfterCount, AddsOperation};
 ghost use Rattle.recording_text.specs.RecordingReading.{IsWrongOperation, known_by};
@@ -9,8 +8,9 @@ use crate::numbering::numbered;
 use crate::reading::{count_of, expect_version, operation_of};
 use history::{Op, Refusal, Reply, Stamped};
 use indexmap::IndexSet;
+use listings::due_line;
 use std::alloc::Global;
-use text_lines::{TextCause, line_at};
+use text_lines::TextCause;
 
 /// The history that the recording of a text stands for, in the order of its lines: each operation is the actor 1's, and
 /// each text of a value is a number, by the order in which the texts first occur.
@@ -67,16 +67,6 @@ fn first_lines(text: &[u8]) -> Result<(u64, &[u8]), Refusal>
         Ok(count) => Ok((count, rest)),
         Err(cause) => Err(Refusal::Text(2, cause)),
     }
-}
-
-/// The line of this number, which is due, and what follows it.
-fn due_line(number: u64, text: &[u8]) -> Result<(&[u8], &[u8]), Refusal>
-    ensures ok { IfOk result (λ found. HasNo 10 found.0.now
-        × (text.now ≡ line found.0.now ++ found.1.now)) }
-    ensures err { IfErr result (λ refusal. (refusal ≡ Refusal.Text number TextCause.End)
-        × HasNo 10 text.now) }
-{
-    line_at(text).ok_or(Refusal::Text(number, TextCause::End))
 }
 
 /// Adds the operation of a line, which has this number.

@@ -1,18 +1,19 @@
 //! Reading the lines of a recording.
-ghost use Rattle.std.specs.Prelude.{◌≡◌, ◌≢◌, ℕ, ◌∷◌, All, IfErr, MatchBool, OnOk, Some};
+ghost use Rattle.std.specs.Prelude.{◌≡◌, ◌≢◌, ◌∷◌, All, IfErr, MatchBool, OnOk};
 ghost use Rattle.text_lines.specs.Numerals.{IsWithin};
-ghost use Rattle.text_lines.specs.Readings.{ReadsBack, Reads, ReadsWords, ReadsLine};
-ghost use Rattle.history_text.specs.HistoryLines.{step_word, IsStep, IsStepInRange};
+ghost use Rattle.text_lines.specs.Readings.{ReadsBack, Reads, ReadsLine};
+ghost use Rattle.history_text.specs.HistoryLines.{IsStep, IsStepInRange};
 ghost use Rattle.recording_text.specs.Recordings.{Recorded};
 ghost use Rattle.recording_text.specs.RecordingLines as lines;
 ghost use Rattle.recording_text.specs.RecordingLines.{IsTextByte, IsShortText, IsCallInRange};
 ghost use Rattle.recording_text.specs.RecordingLines.{IsToldInRange, IsOperationInRange, IsInTime};
 ghost use Rattle.recording_text.specs.RecordingReading.{said_of, said_call, said_told, bytes_of, KeepsAs};
 ghost use Rattle.recording_text.specs.RecordingReading.{ReadsText, ReadsCall, ReadsWordsOfOperation, ReadsOperation};
-ghost use Rattle.recording_text.specs.RecordingReading.{AreOfCount, SaysCount, IsCount, KeepsPush, step_words};
+ghost use Rattle.recording_text.specs.RecordingReading.{AreOfCount, SaysCount, IsCount, KeepsPush};
 
 use crate::replies::{ReadReply, reply_of};
-use text_lines::{TextCause, Words, number_in};
+use history_text::step_of;
+use text_lines::{TextCause, Words};
 
 const MOST_OPERATIONS: u64 = 1_000_000;
 
@@ -80,8 +81,7 @@ fn parts_of(mut words: Words) -> Result<Option<ReadOperation>, TextCause>
     let call = call_of(&mut words)?;
     words.expect_word(b"from")?;
     let first = words.number(1, u64::MAX)?;
-    words.expect_word(b"to")?;
-    let last = step_of(&mut words)?;
+    let last = step_of(&mut words, b"to")?;
     words.expect_word(b"reply")?;
     let reply = reply_of(words)?;
     Ok(operation(name, call, first, last, reply))
@@ -181,23 +181,4 @@ fn push_of(text: Option<&[u8]>) -> Option<ReadCall>
     ensures { KeepsPush text.entry result }
 {
     Some(ReadCall::Push(text?))
-}
-
-/// The step that the next word is, or none for a dash.
-fn step_of(words: &mut Words) -> Result<Option<Option<u64>>, TextCause>
-    ensures { ReadsWords step_words IsStepInRange words.old words.new result }
-{
-    let Some(word) = words.next_word() else {
-        return Err(TextCause::Form);
-    };
-    if word == b"-".as_slice() {
-        return Ok(Some(None));
-    }
-    Ok(ended(number_in(word, 1, u64::MAX)?))
-}
-
-fn ended(step: Option<u64>) -> Option<Option<u64>>
-    ensures { (n : ℕ) → ReadsBack IsStep n step → ReadsBack IsStepInRange (Some n) result }
-{
-    Some(Some(step?))
 }

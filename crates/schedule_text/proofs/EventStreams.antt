@@ -83,7 +83,8 @@ module _ (s t : EventStream) (events : List Event) (old mid new : SourceState) (
         lines = subst (λ (rs : List Said). GaveLines version_due rs old new) same lines;
         range = so_far.range;
         counted = omega (arith, so_far.counted, gave.fewer, length-append events (event ∷ []));
-        each = All-append (IsEventOf s.header.version) events (event ∷ []) so_far.each (All-cons (IsEventOf s.header.version) event [] (gave.line.may, gave.line.range) (All-nil (IsEventOf s.header.version)));
+        each = All-append (IsEventOf s.header.version) events (event ∷ []) so_far.each
+            (All-cons (IsEventOf s.header.version) event [] (gave.line.may, gave.line.range) (All-nil (IsEventOf s.header.version)));
         going = gave.going;
       })
 

@@ -6,8 +6,8 @@ use Rattle.std.proofs.lemmas.List.Elements.{All-nil, All-cons, All-append}
 use Rattle.std.proofs.lemmas.List.Concat.{flat_map-append}
 use Rattle.history.specs.declared.refusals.Refusal.{Refusal}
 use Rattle.history.specs.declared.refusals.Refusal.TheVariants.{Memory, Text}
-use Rattle.text_lines.specs.declared.causes.TextCause.{TextCause}
-use Rattle.text_lines.specs.declared.causes.TextCause.TheVariants.{Extra}
+use Rattle.history.specs.declared.text_causes.TextCause.{TextCause}
+use Rattle.history.specs.declared.text_causes.TextCause.TheVariants.{Extra}
 use Rattle.text_lines.proofs.Faults.{Begins-more, first_fault-extra}
 use Rattle.text_lines.specs.Grammars.{Grammar, AreDue, state_after, lines_of, Begins, IsFirstFault}
 use Rattle.text_lines.specs.Lines.{line}
@@ -17,7 +17,8 @@ use Rattle.schedule_text.specs.declared.schedules.Version.TheVariants.{One, Two}
 use Rattle.schedule_text.specs.declared.fields.Field.TheVariants.{Nodes}
 use Rattle.line_table.specs.declared.lines.Kind.{Kind}
 use Rattle.schedule_text.specs.Schedules.{IsBitsOf, header_lines}
-use Rattle.schedule_text.specs.Texts.{Said, version, queue, happens, Due, version_due, queue_due, number_due, events_left, is_due, due_after, due_after_queue, bits_said, sizes_said, schedule_lines, schedule_text, IsEventOf}
+use Rattle.schedule_text.specs.Texts.{Said, version, queue, happens, Due, version_due, queue_due, number_due, events_left, is_due, due_after}
+use Rattle.schedule_text.specs.Texts.{due_after_queue, bits_said, sizes_said, schedule_lines, schedule_text, IsEventOf}
 use Rattle.schedule_text.specs.Reading.{AddsEvent, IsFront, IsRefusedAfter, IsRefusedText, said_in}
 use Rattle.schedule_text.specs.declared.parsing.Header.{Header}
 
@@ -97,7 +98,9 @@ state_after-bits One bits first = ap (λ n. number_due One n Nodes) (sym (first 
 state_after-bits Two bits first = refl
 
 -- what is due after the header
-pub state_after-header : (v : Version) (kind : Kind) (bits nodes limit actors events : ℕ) → state_after schedule_lines version_due (version v ∷ queue kind ∷ bits_said v bits ++ sizes_said nodes limit actors events) ≡ events_left v events
+pub state_after-header : (v : Version) (kind : Kind) (bits nodes limit actors events : ℕ)
+    → state_after schedule_lines version_due (version v ∷ queue kind ∷ bits_said v bits ++ sizes_said nodes limit actors events) ≡ events_left v
+    events
 state_after-header One kind bits nodes limit actors events = refl
 state_after-header Two kind bits nodes limit actors events = refl
 

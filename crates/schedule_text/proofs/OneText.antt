@@ -6,7 +6,7 @@ use Rattle.std.proofs.lemmas.List.{append-nil}
 use Rattle.std.proofs.lemmas.List.Elements.{All-nil, All-cons, All-append, All-head, All-tail}
 use Rattle.history.specs.declared.refusals.Refusal.{Refusal}
 use Rattle.history.specs.declared.refusals.Refusal.TheVariants.{Memory, Text}
-use Rattle.text_lines.specs.declared.causes.TextCause.{TextCause}
+use Rattle.history.specs.declared.text_causes.TextCause.{TextCause}
 use Rattle.text_lines.specs.Grammars.{Grammar, AreDue, state_after, lines_of, IsText, IsFirstFault, IsSoundGrammar}
 use Rattle.text_lines.specs.Lines.{HasNo, spaced}
 use Rattle.text_lines.proofs.Single.{one_list, no_fault, one_fault}
@@ -17,7 +17,8 @@ use Rattle.line_table.specs.declared.lines.Kind.{Kind}
 use Rattle.schedule_text.specs.declared.fields.Field.TheVariants.{Nodes}
 use Rattle.schedule_text.specs.Schedules.{Schedule, IsBitsOf}
 use Rattle.counted_ref.specs.Ref.{IsSplit}
-use Rattle.schedule_text.specs.Texts.{Said, version, queue, happens, Due, version_due, number_due, events_left, is_due, due_after, said_words, bits_said, sizes_said, header_by, said_by, schedule_lines, schedule_text, IsEventOf, IsInRange}
+use Rattle.schedule_text.specs.Texts.{Said, version, queue, happens, Due, version_due, number_due, events_left, is_due, due_after, said_words}
+use Rattle.schedule_text.specs.Texts.{bits_said, sizes_said, header_by, said_by, schedule_lines, schedule_text, IsEventOf, IsInRange}
 use Rattle.schedule_text.specs.Reading.{IsRefusedText}
 use Rattle.schedule_text.proofs.Spelling.{AreWords, AreWords-said, words_of-said}
 use Rattle.schedule_text.proofs.Joining.{state_after-append, state_after-happens, state_after-header}
@@ -58,7 +59,8 @@ unranged_events : (v : Version) (count : ℕ) (events : List Event) → length e
 unranged_events v count [] counted = tt
 unranged_events v count (event ∷ events) counted = (lt-ltb 0 count (omega arith), tt, tt, unranged_events v (count - 1) events (omega arith))
 
-unranged_sizes : (v : Version) (bits nodes limit actors : ℕ) (events : List Event) → AreDue unranged_lines (number_due v bits Nodes) (sizes_said nodes limit actors (length events) ++ map happens events)
+unranged_sizes : (v : Version) (bits nodes limit actors : ℕ) (events : List Event)
+    → AreDue unranged_lines (number_due v bits Nodes) (sizes_said nodes limit actors (length events) ++ map happens events)
 unranged_sizes v bits nodes limit actors events =
     (refl, tt, tt, (refl, tt, tt, (refl, tt, tt, (refl, tt, tt, unranged_events v (length events) events refl))))
 

@@ -4,7 +4,7 @@ use Rattle.std.proofs.lemmas.Bool.{lt-ltb}
 use Rattle.std.proofs.lemmas.List.{append-nil}
 use Rattle.std.proofs.lemmas.List.Elements.{All-nil, All-cons}
 use Rattle.line_table.specs.declared.lines.Kind.{Kind}
-use Rattle.text_lines.specs.declared.causes.TextCause.{TextCause}
+use Rattle.history.specs.declared.text_causes.TextCause.{TextCause}
 use Rattle.text_lines.specs.Grammars.{AreDue, state_after, lines_of, IsText, IsFirstFault}
 use Rattle.text_lines.specs.Numerals.{IsWithin}
 use Rattle.text_lines.proofs.Total.{not_neither}
@@ -15,7 +15,9 @@ use Rattle.schedule_text.specs.declared.schedules.Version.TheVariants.{One, Two}
 use Rattle.schedule_text.specs.declared.schedules.Event.{Event}
 use Rattle.schedule_text.specs.Schedules.{Schedule, IsBitsOf}
 use Rattle.counted_ref.specs.Ref.{IsSplit}
-use Rattle.schedule_text.specs.Texts.{Said, version, queue, number, happens, Due, version_due, queue_due, number_due, events_left, bits_of, is_due, due_after, due_after_queue, due_after_number, version_in, bits_said, sizes_said, least, greatest, said_by, schedule_lines, schedule_text, IsEventOf, IsSaidInRange, IsInRange, MaySay}
+use Rattle.schedule_text.specs.Texts.{Said, version, queue, number, happens, Due, version_due, queue_due, number_due, events_left, bits_of, is_due}
+use Rattle.schedule_text.specs.Texts.{due_after, due_after_queue, due_after_number, version_in, bits_said, sizes_said, least, greatest, said_by}
+use Rattle.schedule_text.specs.Texts.{schedule_lines, schedule_text, IsEventOf, IsSaidInRange, IsInRange, MaySay}
 use Rattle.schedule_text.proofs.StreamedLines.{split_24}
 
 -- the next line of lines of which one is due

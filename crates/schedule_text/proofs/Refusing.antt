@@ -4,15 +4,16 @@ use Rattle.std.proofs.lemmas.Bool.{lt-ltb}
 use Rattle.history.specs.declared.refusals.Refusal.{Refusal}
 use Rattle.history.specs.declared.refusals.Refusal.TheVariants.{Text}
 use Rattle.line_table.specs.declared.lines.Kind.{Kind}
-use Rattle.text_lines.specs.declared.causes.TextCause.{TextCause}
-use Rattle.text_lines.specs.declared.causes.TextCause.TheVariants.{End, Form, Range, Extra}
+use Rattle.history.specs.declared.text_causes.TextCause.{TextCause}
+use Rattle.history.specs.declared.text_causes.TextCause.TheVariants.{End, Form, Range, Extra}
 use Rattle.text_lines.specs.Grammars.{Says}
 use Rattle.text_lines.specs.Lines.{HasNo, line, spaced, words_of}
 use Rattle.text_lines.specs.Readings.{IsWrong}
 use Rattle.text_lines.proofs.Faults.{Begins-nothing, first_fault-end, first_fault-line}
 use Rattle.schedule_text.specs.declared.fields.Field.{Field}
 use Rattle.schedule_text.specs.declared.schedules.Version.{Version}
-use Rattle.schedule_text.specs.Texts.{Said, version, queue, number, happens, Due, version_due, queue_due, number_due, events_left, bits_of, said_words, is_due, Tells, MaySay, IsEventInRange, IsSaidInRange, schedule_lines}
+use Rattle.schedule_text.specs.Texts.{Said, version, queue, number, happens, Due, version_due, queue_due, number_due, events_left, bits_of}
+use Rattle.schedule_text.specs.Texts.{said_words, is_due, Tells, MaySay, IsEventInRange, IsSaidInRange, schedule_lines}
 use Rattle.schedule_text.specs.Reading.{IsFront, IsRefusedAfter}
 use Rattle.schedule_text.proofs.Spelling.{words_of-said, spaced-said}
 

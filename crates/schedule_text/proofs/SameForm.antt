@@ -17,7 +17,8 @@ use Rattle.schedule_text.specs.declared.fields.Field.{Field}
 use Rattle.schedule_text.specs.declared.fields.Field.TheVariants.{Bits, Nodes, Limit, Actors, Events}
 use Rattle.schedule_text.specs.declared.schedules.Version.{Version}
 use Rattle.schedule_text.specs.declared.schedules.Version.TheVariants.{One, Two}
-use Rattle.schedule_text.specs.Texts.{Said, version, queue, number, happens, Due, version_due, queue_due, number_due, events_left, said_words, call_words, event_words, kind_name, version_name, field_name, IsBegun, IsTold, MaySay}
+use Rattle.schedule_text.specs.Texts.{Said, version, queue, number, happens, Due, version_due, queue_due, number_due, events_left, said_words}
+use Rattle.schedule_text.specs.Texts.{call_words, event_words, kind_name, version_name, field_name, IsBegun, IsTold, MaySay}
 
 -- the name of a line has at most three bytes
 name_below : (l : Line) → nat_lt (length (name_of l)) 4 ≡ true

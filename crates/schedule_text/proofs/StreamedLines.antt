@@ -3,8 +3,8 @@ use Rattle.std.proofs.Common.{◌≡◌, ◌≢◌, ℕ, ◌+◌, ◌-◌, ◌<�
 use Rattle.std.proofs.lemmas.Bool.{lt-ltb}
 use Rattle.std.proofs.lemmas.List.{append-nil}
 use Rattle.std.specs.Io.KnownBytes.{Consumes, IsAtEnd}
-use Rattle.text_lines.specs.declared.causes.TextCause.{TextCause}
-use Rattle.text_lines.specs.declared.causes.TextCause.TheVariants.{End, Form, Range, Extra}
+use Rattle.history.specs.declared.text_causes.TextCause.{TextCause}
+use Rattle.history.specs.declared.text_causes.TextCause.TheVariants.{End, Form, Range, Extra}
 use Rattle.text_lines.specs.Grammars.{Says, state_after, lines_of}
 use Rattle.text_lines.specs.Lines.{HasNo, line, spaced, words_of}
 use Rattle.text_lines.specs.Readings.{IsWrong}
@@ -15,7 +15,8 @@ use Rattle.line_table.specs.declared.lines.Kind.{Kind}
 use Rattle.schedule_text.specs.declared.fields.Field.{Field}
 use Rattle.schedule_text.specs.declared.fields.Field.TheVariants.{Nodes}
 use Rattle.schedule_text.specs.Schedules.{IsBitsOf, header_lines}
-use Rattle.schedule_text.specs.Texts.{Said, version, queue, number, Due, version_due, queue_due, number_due, events_left, bits_of, said_words, is_due, due_after, due_after_queue, bits_said, Tells, MaySay, IsEventInRange, IsSaidInRange, schedule_lines}
+use Rattle.schedule_text.specs.Texts.{Said, version, queue, number, Due, version_due, queue_due, number_due, events_left, bits_of, said_words, is_due}
+use Rattle.schedule_text.specs.Texts.{due_after, due_after_queue, bits_said, Tells, MaySay, IsEventInRange, IsSaidInRange, schedule_lines}
 use Rattle.schedule_text.specs.declared.schedules.Version.{Version}
 use Rattle.counted_ref.specs.Ref.{IsSplit}
 use Rattle.schedule_text.specs.Shortening.{Held, IsHeldBy, Shortens}

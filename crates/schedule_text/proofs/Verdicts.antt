@@ -6,8 +6,8 @@ use Rattle.std.proofs.lemmas.Fmt.{length-decimal-le}
 use Rattle.history.specs.declared.operations.Op.{Op}
 use Rattle.history.specs.declared.operations.Op.TheVariants.{Enq, Deq, Shut}
 use Rattle.line_table.specs.Names.{name_of}
-use Rattle.text_lines.specs.declared.causes.TextCause.{TextCause}
-use Rattle.text_lines.specs.declared.causes.TextCause.TheVariants.{End, Form, Range, Extra}
+use Rattle.history.specs.declared.text_causes.TextCause.{TextCause}
+use Rattle.history.specs.declared.text_causes.TextCause.TheVariants.{End, Form, Range, Extra}
 use Rattle.text_lines.specs.Grammars.{Says}
 use Rattle.text_lines.specs.Lines.{spaced, words_of}
 use Rattle.text_lines.specs.Numerals.{numeral}
@@ -18,7 +18,8 @@ use Rattle.schedule_text.specs.declared.schedules.Event.{Event}
 use Rattle.schedule_text.specs.declared.schedules.Event.TheVariants.{Begin, Step, Steps, Give}
 use Rattle.schedule_text.specs.declared.fields.Field.{Field}
 use Rattle.schedule_text.specs.declared.fields.Field.TheVariants.{Bits, Nodes, Limit, Actors, Events}
-use Rattle.schedule_text.specs.Texts.{Said, version, queue, number, happens, Due, said_words, call_words, event_words, field_name, greatest, IsCallInRange, IsEventInRange, IsSaidInRange, schedule_lines}
+use Rattle.schedule_text.specs.Texts.{Said, version, queue, number, happens, Due, said_words, call_words, event_words, field_name, greatest}
+use Rattle.schedule_text.specs.Texts.{IsCallInRange, IsEventInRange, IsSaidInRange, schedule_lines}
 use Rattle.counted_ref.specs.Ref.{IsSplit}
 use Rattle.schedule_text.specs.Shortening.{Shortens}
 use Rattle.counted_ref.proofs.Words.{span_most, count_span_most}

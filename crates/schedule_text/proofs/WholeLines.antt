@@ -1,8 +1,8 @@
 -- A line that was read ahead whole.
 use Rattle.std.proofs.Common.{◌≡◌, ℕ, ◌+◌, ◌<◌, List, [], ◌∷◌, ◌++◌, Option, None, Some, length, drop, refl, sym, ap, subst, ◌∙◌, append_assoc, drop_at, length-append}
 use Rattle.std.specs.Io.KnownBytes.{Consumes, prepend_known}
-use Rattle.text_lines.specs.declared.causes.TextCause.{TextCause}
-use Rattle.text_lines.specs.declared.causes.TextCause.TheVariants.{End}
+use Rattle.history.specs.declared.text_causes.TextCause.{TextCause}
+use Rattle.history.specs.declared.text_causes.TextCause.TheVariants.{End}
 use Rattle.text_lines.specs.Lines.{HasNo, line, words_of}
 use Rattle.text_lines.specs.Readings.{IsWrong}
 use Rattle.history.specs.declared.refusals.Refusal.TheVariants.{Text}
@@ -26,7 +26,8 @@ behind_line says rest old new front gone =
     gone ∙ ap (λ (l : List ℕ). drop (length says + 1) l) front ∙ drop_at (line says) rest (length says + 1) (length-append says (10 ∷ []))
 
 -- the first line of the bytes read ahead says an event: they are gone over to its end, and the source isn't called
-pub said_ahead : (v : Version) (left : ℕ) (event : Event) (says rest old new : List ℕ) (source : SourceState) → old ≡ line says ++ rest → new ≡ drop (length says + 1) old → Tells v (words_of says) event → IsEventInRange event
+pub said_ahead : (v : Version) (left : ℕ) (event : Event) (says rest old new : List ℕ) (source : SourceState) → old ≡ line says ++ rest
+    → new ≡ drop (length says + 1) old → Tells v (words_of says) event → IsEventInRange event
     → GaveSaid (events_left v left) (happens event) (stream old source) (stream new source)
 said_ahead v left event says rest old new source front gone tells range =
     let known = source.left in

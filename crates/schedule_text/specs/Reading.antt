@@ -12,7 +12,8 @@ use Rattle.schedule_text.specs.declared.schedules.Event.{Event}
 use Rattle.schedule_text.specs.declared.schedules.Version.{Version}
 use Rattle.schedule_text.specs.Schedules.{IsBitsOf}
 use Rattle.counted_ref.specs.Ref.{IsSplit}
-use Rattle.schedule_text.specs.Texts.{Said, version, queue, happens, Due, version_due, events_left, bits_of, said_words, bits_said, sizes_said, least, greatest, IsActor, IsSaidInRange, MaySay, schedule_lines}
+use Rattle.schedule_text.specs.Texts.{Said, version, queue, happens, Due, version_due, events_left, bits_of, said_words, bits_said, sizes_said, least}
+use Rattle.schedule_text.specs.Texts.{greatest, IsActor, IsSaidInRange, MaySay, schedule_lines}
 
 -- the line at the front of a text is due, and says this in range
 pub record IsFront (due : Due) (said : Said) (text rest : List ℕ) : Type 0 where

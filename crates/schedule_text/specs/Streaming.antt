@@ -3,8 +3,8 @@ use Rattle.std.specs.Prelude.{◌≡◌, ℕ, ◌+◌, List, Option, None, Some,
 use Rattle.std.specs.Io.KnownBytes.{Consumes}
 use Rattle.history.specs.declared.refusals.Refusal.{Refusal}
 use Rattle.history.specs.declared.refusals.Refusal.TheVariants.{Text, Read}
-use Rattle.text_lines.specs.declared.causes.TextCause.{TextCause}
-use Rattle.text_lines.specs.declared.causes.TextCause.TheVariants.{End}
+use Rattle.history.specs.declared.text_causes.TextCause.{TextCause}
+use Rattle.history.specs.declared.text_causes.TextCause.TheVariants.{End}
 use Rattle.text_lines.specs.Grammars.{AreDue, lines_of, IsFault, IsFirstFault}
 use Rattle.text_lines.specs.Lines.{line, spaced}
 use Rattle.schedule_text.specs.Texts.{Said, Due, bits_of, said_words, IsSaidInRange, MaySay, schedule_lines}

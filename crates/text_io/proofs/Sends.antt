@@ -114,7 +114,8 @@ Puts-written a b text held result none writes = record {
   cause = writes.cause;
 }
 
-module _ {A B : Type 0} (a b c : SinkState) (quiet : b.failures ≡ a.failures) (text held whole : List ℕ) (refusal : Refusal) (puts : Puts {A = A} b c text held (Err refusal)) (prefix : TakesPrefix a.contents c.contents whole) where
+module _ {A B : Type 0} (a b c : SinkState) (quiet : b.failures ≡ a.failures) (text held whole : List ℕ) (refusal : Refusal)
+    (puts : Puts {A = A} b c text held (Err refusal)) (prefix : TakesPrefix a.contents c.contents whole) where
   -- where a putting is refused, so is the writing of the whole
   pub Writes-refused : Writes {A = B} a c whole (Err refusal)
   Writes-refused = record { ok = tt; quiet = tt; only_write = puts.only_write; prefix = prefix; cause = GivesUp-behind a b c quiet puts.cause }

@@ -1,6 +1,6 @@
 -- What a text is refused by, of which a prefix or all is read.
 use Rattle.std.specs.Prelude.{ℕ, List, ◌++◌, Option, Some, None, ⊤}
-use Rattle.text_lines.specs.declared.causes.TextCause.{TextCause}
+use Rattle.history.specs.declared.text_causes.TextCause.{TextCause}
 use Rattle.text_lines.specs.Grammars.{Grammar, IsFirstFault}
 use Rattle.history.specs.declared.refusals.Refusal.{Refusal}
 use Rattle.history.specs.declared.refusals.Refusal.TheVariants.{Memory, Text, Read}

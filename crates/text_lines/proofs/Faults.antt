@@ -1,8 +1,8 @@
 -- Texts that are read a line at a time.
 use Rattle.std.proofs.Common.{◌≡◌, ◌≢◌, ℕ, ◌+◌, List, [], ◌∷◌, ◌++◌, length, true, false, refl, sym, ap, ◌∙◌, append_assoc, subst}
 use Rattle.std.proofs.lemmas.List.{append-nil}
-use Rattle.text_lines.specs.declared.causes.TextCause.{TextCause}
-use Rattle.text_lines.specs.declared.causes.TextCause.TheVariants.{End, Form, Range, Extra}
+use Rattle.history.specs.declared.text_causes.TextCause.{TextCause}
+use Rattle.history.specs.declared.text_causes.TextCause.TheVariants.{End, Form, Range, Extra}
 use Rattle.text_lines.specs.Lines.{HasNo, line}
 use Rattle.text_lines.specs.Readings.{IsWrong}
 use Rattle.text_lines.specs.Grammars.{Grammar, Says, AreDue, state_after, lines_of, Begins, IsText, IsWrongLine, IsFirstFault}

@@ -3,12 +3,13 @@ use Rattle.std.proofs.Common.{◌≡◌, ◌≢◌, ℕ, zero, suc, ◌+◌, ◌
 use Rattle.std.specs.List.{flat_map}
 use Rattle.std.proofs.lemmas.List.{append-nil, map-append, length-map}
 use Rattle.std.proofs.lemmas.List.Elements.{All-nil, All-cons, All-head, All-tail}
-use Rattle.text_lines.specs.declared.causes.TextCause.{TextCause}
-use Rattle.text_lines.specs.declared.causes.TextCause.TheVariants.{End, Form, Range, Extra}
+use Rattle.history.specs.declared.text_causes.TextCause.{TextCause}
+use Rattle.history.specs.declared.text_causes.TextCause.TheVariants.{End, Form, Range, Extra}
 use Rattle.text_lines.specs.Lines.{HasNo, line}
 use Rattle.text_lines.specs.Readings.{IsWrong}
 use Rattle.text_lines.specs.Grammars.{Says, AreDue, state_after, lines_of, Begins, IsText, IsSoundGrammar}
-use Rattle.text_lines.specs.Listings.{Listing, ListingLine, Header, Item, ListingDue, First, After, is_due_in, MaySayIn, listing_grammar, listing_lines, listing_text, IsListing, SaysItem, SaysHeader, IsFirstFaultIn, IsSoundListing}
+use Rattle.text_lines.specs.Listings.{Listing, ListingLine, Header, Item, ListingDue, First, After, is_due_in, MaySayIn, listing_grammar}
+use Rattle.text_lines.specs.Listings.{listing_lines, listing_text, IsListing, SaysItem, SaysHeader, IsFirstFaultIn, IsSoundListing}
 use Rattle.text_lines.proofs.Faults.{Begins-nothing, Begins-more, first_fault-end, first_fault-line, first_fault-extra}
 use Rattle.text_lines.proofs.Single.{one_list, no_fault, one_fault}
 use Rattle.text_lines.proofs.Total.{not_neither}

@@ -78,7 +78,8 @@ IsPlain-push [] d h plain first = absurd (omega (arith, plain.some))
 IsPlain-push (x ∷ xs) d h plain first =
     record {
       some = omega arith;
-      digits = All-append (λ byte. (48 ≤ byte) × (byte ≤ 57)) (x ∷ xs) ((48 + d) ∷ []) plain.digits (All-cons (λ byte. (48 ≤ byte) × (byte ≤ 57)) (48 + d) [] (omega arith, omega arith) (All-nil (λ byte. (48 ≤ byte) × (byte ≤ 57))));
+      digits = All-append (λ byte. (48 ≤ byte) × (byte ≤ 57)) (x ∷ xs) ((48 + d) ∷ []) plain.digits
+          (All-cons (λ byte. (48 ≤ byte) × (byte ≤ 57)) (48 + d) [] (omega arith, omega arith) (All-nil (λ byte. (48 ≤ byte) × (byte ≤ 57))));
       first = λ e. absurd (first e);
     }
 

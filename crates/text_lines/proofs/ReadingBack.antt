@@ -1,7 +1,7 @@
 -- A whole line by what was kept of it.
 use Rattle.std.proofs.Common.{Option, Some, None, subst, sym}
 use Rattle.std.specs.Option.{ok_or}
-use Rattle.text_lines.specs.declared.causes.TextCause.TheVariants.{Range}
+use Rattle.history.specs.declared.text_causes.TextCause.TheVariants.{Range}
 use Rattle.text_lines.specs.Readings.{ReadsBack, ReadsLine}
 
 -- what was read is on the line, and is kept where it is in range: so the line is read, or it is `Range`

@@ -1,8 +1,8 @@
 -- A text has one reading: it is the lines of one list, or has one first faulty line with one cause.
 use Rattle.std.proofs.Common.{◌≡◌, ◌≢◌, ℕ, ◌+◌, List, [], ◌∷◌, ◌++◌, length, Bool, true, false, Option, Some, None, refl, sym, ap, ◌∙◌, append_assoc, subst}
 use Rattle.std.proofs.lemmas.List.Elements.{All-head, All-tail}
-use Rattle.text_lines.specs.declared.causes.TextCause.{TextCause}
-use Rattle.text_lines.specs.declared.causes.TextCause.TheVariants.{End, Form, Range, Extra}
+use Rattle.history.specs.declared.text_causes.TextCause.{TextCause}
+use Rattle.history.specs.declared.text_causes.TextCause.TheVariants.{End, Form, Range, Extra}
 use Rattle.text_lines.specs.Lines.{HasNo, line}
 use Rattle.text_lines.specs.Grammars.{Grammar, AreDue, state_after, lines_of, IsText, IsWrongLine, IsFault, IsFirstFault, IsSoundGrammar}
 

@@ -4,8 +4,8 @@ use mathlib.Core.Logic.{⊎_elim}
 use Rattle.std.proofs.lemmas.Bool.{cases_order}
 use Rattle.std.proofs.lemmas.List.{length-append}
 use Rattle.std.proofs.lemmas.List.Elements.{All-nil, All-cons}
-use Rattle.text_lines.specs.declared.causes.TextCause.{TextCause}
-use Rattle.text_lines.specs.declared.causes.TextCause.TheVariants.{End, Form, Range, Extra}
+use Rattle.history.specs.declared.text_causes.TextCause.{TextCause}
+use Rattle.history.specs.declared.text_causes.TextCause.TheVariants.{End, Form, Range, Extra}
 use Rattle.text_lines.specs.Lines.{HasNo, line}
 use Rattle.text_lines.specs.Grammars.{Grammar, state_after, Begins, IsText, IsFirstFault}
 use Rattle.text_lines.proofs.Faults.{Begins-nothing, Begins-more, IsText-whole, first_fault-end, first_fault-line, first_fault-extra}

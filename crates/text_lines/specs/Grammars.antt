@@ -1,8 +1,8 @@
 -- Texts in which one line after another is due, and the first faulty line of any text.
 use Rattle.std.specs.Prelude.{◌≡◌, ◌≢◌, ℕ, ◌+◌, List, [], ◌∷◌, ◌++◌, length, Bool, true, false}
 use Rattle.std.specs.List.{flat_map}
-use Rattle.text_lines.specs.declared.causes.TextCause.{TextCause}
-use Rattle.text_lines.specs.declared.causes.TextCause.TheVariants.{End, Form, Range, Extra}
+use Rattle.history.specs.declared.text_causes.TextCause.{TextCause}
+use Rattle.history.specs.declared.text_causes.TextCause.TheVariants.{End, Form, Range, Extra}
 use Rattle.text_lines.specs.Lines.{HasNo, line}
 use Rattle.text_lines.specs.Readings.{IsWrong}
 

@@ -1,4 +1,3 @@
-pub mod Causes
 pub mod Lines
 pub mod Numerals
 pub mod Readings

@@ -1,7 +1,7 @@
 -- Texts of a first line that says how many lines follow it, and those lines.
 use Rattle.std.specs.Prelude.{◌≡◌, ◌-◌, ℕ, zero, suc, List, ◌∷◌, ◌++◌, length, map, All, Bool, true, false}
 use Rattle.std.specs.List.{flat_map}
-use Rattle.text_lines.specs.declared.causes.TextCause.{TextCause}
+use Rattle.history.specs.declared.text_causes.TextCause.{TextCause}
 use Rattle.text_lines.specs.Lines.{HasNo, line}
 use Rattle.text_lines.specs.Grammars.{Grammar, IsFirstFault}
 

@@ -1,7 +1,7 @@
 -- What the reader of a part of a line may answer.
 use Rattle.std.specs.Prelude.{◌≡◌, ◌≢◌, ℕ, List, ◌++◌, Option, Result, MatchOption, MatchResult}
-use Rattle.text_lines.specs.declared.causes.TextCause.{TextCause}
-use Rattle.text_lines.specs.declared.causes.TextCause.TheVariants.{End, Form, Range, Extra}
+use Rattle.history.specs.declared.text_causes.TextCause.{TextCause}
+use Rattle.history.specs.declared.text_causes.TextCause.TheVariants.{End, Form, Range, Extra}
 
 -- these bytes are what a value is written as
 abbrev pub IsSpelled : {V : Type 0} → (V → List ℕ) → List ℕ → V → Type 0

@@ -3,7 +3,7 @@ ghost use Rattle.std.specs.Prelude.{◌≡◌, ◌↔◌, ℕ, List, ◌∷◌, 
 ghost use Rattle.text_lines.specs.Grammars.{Grammar, IsFirstFault, IsSoundGrammar, IsText};
 ghost use Rattle.text_lines.specs.Lines.{HasNo, spaced, words_of};
 ghost use Rattle.text_lines.specs.Numerals.{numeral, IsPlain};
-ghost use Rattle.text_lines.specs.declared.causes.TextCause.{TextCause};
+ghost use Rattle.history.specs.declared.text_causes.TextCause.{TextCause};
 
 /// A word is a number exactly where it is one digit or more, the first of several not being 0, and it is then one
 /// number.

@@ -1,14 +1,13 @@
 //! Texts of lines: the lines that are due, their words and numbers, and the first faulty line.
 #![tactic(auto)]
 
-mod causes;
 pub mod laws;
 mod numbers;
 mod printable;
 mod splitting;
 mod wording;
 
-pub use causes::TextCause;
+pub use history::TextCause;
 pub use numbers::number_in;
 pub use printable::printable_in;
 pub use splitting::line_at;

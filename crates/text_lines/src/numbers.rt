@@ -3,7 +3,7 @@ ghost use Rattle.std.specs.Prelude.{◌≡◌, ◌≢◌, ℕ, ◌+◌, ◌*◌,
 ghost use Rattle.text_lines.specs.Numerals.{numeral, Shows, IsWithin};
 ghost use Rattle.text_lines.specs.Readings.{ReadsBack, IsSpelled, Reads};
 
-use crate::causes::TextCause;
+use history::TextCause;
 
 /// A number with one more digit; none where it is too large for 64 bits.
 fn grown(number: Option<u64>, digit: u8) -> Option<u64>

@@ -2,7 +2,7 @@
 ghost use Rattle.std.specs.Prelude.{◌≡◌, MatchBool, MatchOption, MatchResult};
 ghost use Rattle.text_lines.specs.Printable.{IsPrintable, IsShort};
 
-use crate::causes::TextCause;
+use history::TextCause;
 use std::str;
 
 /// Whether each byte is printable.

@@ -5,9 +5,9 @@ ghost use Rattle.text_lines.specs.Numerals.{IsWithin};
 ghost use Rattle.text_lines.specs.Readings.{ReadsWords};
 ghost use Rattle.text_lines.specs.Wording.{number_words};
 
-use crate::causes::TextCause;
 use crate::numbers::number_in;
 use crate::splitting::split_once;
+use history::TextCause;
 use std::marker::Model;
 
 const SPACE: u8 = 32;

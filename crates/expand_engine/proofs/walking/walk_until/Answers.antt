@@ -25,7 +25,8 @@ loop-count-preserved g c =
 pub returns-then-is_same-2-clause-ok : goal.returns-then-is_same-2-clause-ok
 returns-then-is_same-2-clause-ok g c =
     subst (λ count. ComesTo c.args.world.now c.args.actor c.args.line count c.loop-count.world) (omega (arith, c.loop-count-test.false, c.loop-count.auto.count-end))
-    (ComesTo-now c.args.world.now c.loop-count.world c.args.actor c.args.line c.loop-count.at c.loop-count.count c.loop-count.invariant (c.is_same-2.ensures.yes c.if-is_same-2.true) c.loop-count.auto.count-end)
+    (ComesTo-now c.args.world.now c.loop-count.world c.args.actor c.args.line c.loop-count.at c.loop-count.count c.loop-count.invariant
+    (c.is_same-2.ensures.yes c.if-is_same-2.true) c.loop-count.auto.count-end)
 
 pub returns-clause-refused : goal.returns-clause-refused
 returns-clause-refused g c =

@@ -1,6 +1,8 @@
--- Each lemma is a clause of the law.
-use Rattle.history_text.proofs.OneReading.{one_fault_of_history, no_fault_of_history}
+-- The first clause is a law of listings, at that of histories, and the lemma is the second one.
+use Rattle.text_lines.proofs.Listings.{listing-one_fault}
+use Rattle.history_text.specs.HistoryLines.{history_listing}
+use Rattle.history_text.proofs.OneReading.{IsSoundListing-history, no_fault_of_history}
 use Rattle.history_text.proofs.laws.a_text_has_one_first_fault.Goals as goal
 
 pub returns : goal.returns
-returns c = record { one = one_fault_of_history; none = no_fault_of_history }
+returns c = record { one = listing-one_fault history_listing IsSoundListing-history; none = no_fault_of_history }

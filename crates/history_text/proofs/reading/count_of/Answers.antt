@@ -16,4 +16,5 @@ pub returns : goal.returns
 returns c =
     let found = c.in_ok-count_in.ensures in
     rw c.ok_or.ensures.value
-    (ReadsLine-kept (AreOfCount (words_of c.args.line.now)) (SaysCount c.args.line.now) IsCount (SaysCount-from_words c.args.line.now) found.0 (rw c.of.ensures at found.1) c.in_ok-count_in.field-0 found.2)
+    (ReadsLine-kept (AreOfCount (words_of c.args.line.now)) (SaysCount c.args.line.now) IsCount (SaysCount-from_words c.args.line.now) found.0
+    (rw c.of.ensures at found.1) c.in_ok-count_in.field-0 found.2)

@@ -16,4 +16,5 @@ pub returns : goal.returns
 returns c =
     let found = c.in_ok-parts_of.ensures in
     rw c.ok_or.ensures.value
-    (ReadsLine-kept (AreOfOperation (words_of c.args.line.now)) (SaysOperation c.args.line.now) IsOperationInRange (SaysOperation-from_words c.args.line.now) found.0 (rw c.of.ensures at found.1) c.in_ok-parts_of.field-0 found.2)
+    (ReadsLine-kept (AreOfOperation (words_of c.args.line.now)) (SaysOperation c.args.line.now) IsOperationInRange
+    (SaysOperation-from_words c.args.line.now) found.0 (rw c.of.ensures at found.1) c.in_ok-parts_of.field-0 found.2)

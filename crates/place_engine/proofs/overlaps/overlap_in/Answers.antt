@@ -14,7 +14,8 @@ returns-in-Some c =
     let pair = c.in-Some.pair in
     let found : Contains sorted pair.0 × Contains sorted pair.1 × Clash pair.0 pair.1 = rw c.deref-2.ensures.value at c.in-Some.ensures.found in
     rw (c.in_order.ensures.least, c.in_order.ensures.most)
-    (pair_told c.args.text.now lines c.in_ok-spells.spells.items sorted pair.0 pair.1 c.in_ok-lines.ensures (rw c.deref.ensures.value at c.in_ok-spells.ensures.each) c.sort_unstable.ensures.permutation found.0
+    (pair_told c.args.text.now lines c.in_ok-spells.spells.items sorted pair.0 pair.1 c.in_ok-lines.ensures
+    (rw c.deref.ensures.value at c.in_ok-spells.ensures.each) c.sort_unstable.ensures.permutation found.0
     found.1 found.2)
 
 pub returns : goal.returns

@@ -2,8 +2,9 @@ use Rattle.std.proofs.Common.{◌≡◌, arith, sym, ◌∙◌, subst}
 use Rattle.std.proofs.lemmas.Bool.{eqb-true}
 use Rattle.std.proofs.lemmas.List.{nil_from_length}
 use Rattle.std.proofs.lemmas.Result.{err_from_is_err_and}
+use Rattle.listings.proofs.Steps.{not_empty}
 use Rattle.recording_text.specs.RecordingReading.{known_by}
-use Rattle.recording_text.proofs.Steps.{HasRead, HasRead-more, HasRead-room, fault-end, fault-operation, fault-extra, whole-recording, not_empty}
+use Rattle.recording_text.proofs.Steps.{HasRead, HasRead-more, HasRead-room, fault-end, fault-operation, fault-extra, whole-recording}
 use Rattle.recording_text.proofs.parsing.parse_behind.Goals as goal
 
 pub returns-in_err-line-clause-err : goal.returns-in_err-line-clause-err
@@ -36,12 +37,14 @@ pub returns-then-is_empty-clause-ok : goal.returns-then-is_empty-clause-ok
 returns-then-is_empty-clause-ok c =
     let all : c.loop-place.place ≡ c.in_ok-count.count = omega (arith, c.loop-place-test.false, c.loop-place.auto.place-end) in
     whole-recording (known_by c.args.known.now) c.in_ok-count.count c.args.text.now c.loop-place.rest.now (known_by c.loop-place.known) c.loop-place.operations.items
-    (subst (λ place. HasRead (known_by c.args.known.now) c.in_ok-count.count c.args.text.now c.loop-place.rest.now place (known_by c.loop-place.known) c.loop-place.operations.items) all c.loop-place.invariant)
+    (subst (λ place. HasRead (known_by c.args.known.now) c.in_ok-count.count c.args.text.now c.loop-place.rest.now place (known_by c.loop-place.known)
+    c.loop-place.operations.items) all c.loop-place.invariant)
     (nil_from_length _ (eqb-true _ _ (sym c.is_empty.ensures ∙ c.if-is_empty.true)))
 
 pub returns-else-is_empty-clause-err : goal.returns-else-is_empty-clause-err
 returns-else-is_empty-clause-err c =
     let all : c.loop-place.place ≡ c.in_ok-count.count = omega (arith, c.loop-place-test.false, c.loop-place.auto.place-end) in
     fault-extra (known_by c.args.known.now) c.in_ok-count.count c.args.text.now c.loop-place.rest.now (known_by c.loop-place.known) c.loop-place.operations.items
-    (subst (λ place. HasRead (known_by c.args.known.now) c.in_ok-count.count c.args.text.now c.loop-place.rest.now place (known_by c.loop-place.known) c.loop-place.operations.items) all c.loop-place.invariant)
+    (subst (λ place. HasRead (known_by c.args.known.now) c.in_ok-count.count c.args.text.now c.loop-place.rest.now place (known_by c.loop-place.known)
+    c.loop-place.operations.items) all c.loop-place.invariant)
     (not_empty c.loop-place.rest.now c.is_empty.result c.is_empty.ensures c.if-is_empty.false)

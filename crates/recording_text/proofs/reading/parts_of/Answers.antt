@@ -23,6 +23,6 @@ returns-in_err-last c =
     let p = err_from_is_err_and c.from_residual-in_err-last.result c.from_residual-in_err-last.ensures.1 in
     rw (p.1, p.2) (
       none.0,
-      no_last c.args.words c.text_of.new.words c.call_of.new.words c.expect_word.new.self c.number.new.self c.expect_word-2.new.self
-          name.0 call.0 first.0 name.2 call.2 c.in_ok-expect_word.ensures.ok first.1 c.in_ok-expect_word-2.ensures.ok none.1,
+      no_last c.args.words c.text_of.new.words c.call_of.new.words c.expect_word.new.self c.number.new.self
+          name.0 call.0 first.0 name.2 call.2 c.in_ok-expect_word.ensures.ok first.1 none.1,
     )

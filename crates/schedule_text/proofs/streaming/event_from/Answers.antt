@@ -12,5 +12,6 @@ returns-in-Ok-clause-ok g c = λ left.
 
 pub returns-in-Err-clause-err : goal.returns-in-Err-clause-err
 returns-in-Err-clause-err g c = λ left some.
-    stopped_ahead c.args.before c.args.version left c.in-Some.line.now _ c.args.ahead.now c.skip.new.self (g.R.Source.state c.args.reader.now) c.in-Err.cause c.in-Some.ensures.line.0 c.in-Some.ensures.line.1 some
+    stopped_ahead c.args.before c.args.version left c.in-Some.line.now _ c.args.ahead.now c.skip.new.self (g.R.Source.state c.args.reader.now)
+    c.in-Err.cause c.in-Some.ensures.line.0 c.in-Some.ensures.line.1 some
     c.in-Err.ensures

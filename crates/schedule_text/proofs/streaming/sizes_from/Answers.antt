@@ -19,7 +19,8 @@ returns-in_err-limit-clause-err g c =
     let before = c.header_lines-before.result - 4 in
     let last = stream c.number_from-2.new.ahead (g.R.Source.state c.number_from-2.new.reader) in
     rw (p.1, p.2)
-    (stopped_next (header_lines v - 4) (before + 1) (number_due v c.args.bits Nodes) (number Nodes c.in_ok-nodes.nodes) _ _ last _ (omega (arith, c.header_lines-before.ensures.count)) refl (c.in_ok-nodes.ensures.ok v)
+    (stopped_next (header_lines v - 4) (before + 1) (number_due v c.args.bits Nodes) (number Nodes c.in_ok-nodes.nodes) _ _ last _
+    (omega (arith, c.header_lines-before.ensures.count)) refl (c.in_ok-nodes.ensures.ok v)
     (c.in_err-limit.ensures.err v))
 
 pub returns-in_err-actors-clause-err : goal.returns-in_err-actors-clause-err
@@ -30,7 +31,8 @@ returns-in_err-actors-clause-err g c =
     let before = c.header_lines-before.result - 4 in
     let last = stream c.number_from-3.new.ahead (g.R.Source.state c.number_from-3.new.reader) in
     rw (p.1, p.2)
-    (stopped_next (header_lines v - 4) (before + 1) (number_due v b Nodes) (number Nodes c.in_ok-nodes.nodes) _ _ last _ (omega (arith, c.header_lines-before.ensures.count)) refl (c.in_ok-nodes.ensures.ok v)
+    (stopped_next (header_lines v - 4) (before + 1) (number_due v b Nodes) (number Nodes c.in_ok-nodes.nodes) _ _ last _ (omega (arith, c.header_lines-before.ensures.count)) refl
+    (c.in_ok-nodes.ensures.ok v)
     (stopped_next (before + 1) (before + 2) (number_due v b Limit) (number Limit c.in_ok-limit.limit) _ _ last _ (omega arith) refl (c.in_ok-limit.ensures.ok v)
     (c.in_err-actors.ensures.err v)))
 
@@ -42,7 +44,8 @@ returns-in_err-events-clause-err g c =
     let before = c.header_lines-before.result - 4 in
     let last = stream c.number_from-4.new.ahead (g.R.Source.state c.number_from-4.new.reader) in
     rw (p.1, p.2)
-    (stopped_next (header_lines v - 4) (before + 1) (number_due v b Nodes) (number Nodes c.in_ok-nodes.nodes) _ _ last _ (omega (arith, c.header_lines-before.ensures.count)) refl (c.in_ok-nodes.ensures.ok v)
+    (stopped_next (header_lines v - 4) (before + 1) (number_due v b Nodes) (number Nodes c.in_ok-nodes.nodes) _ _ last _ (omega (arith, c.header_lines-before.ensures.count)) refl
+    (c.in_ok-nodes.ensures.ok v)
     (stopped_next (before + 1) (before + 2) (number_due v b Limit) (number Limit c.in_ok-limit.limit) _ _ last _ (omega arith) refl (c.in_ok-limit.ensures.ok v)
     (stopped_next (before + 2) (before + 3) (number_due v b Actors) (number Actors c.in_ok-actors.actors) _ _ last _ (omega arith) refl (c.in_ok-actors.ensures.ok v)
     (c.in_err-events.ensures.err v))))

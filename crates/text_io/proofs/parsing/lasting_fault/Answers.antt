@@ -1,5 +1,5 @@
 use Rattle.std.proofs.Common.{◌≡◌, ◌≢◌, true, false}
-use Rattle.text_lines.specs.declared.causes.TextCause.TheVariants.{End}
+use Rattle.history.specs.declared.text_causes.TextCause.TheVariants.{End}
 use Rattle.text_io.proofs.Prefixes.{lasting-refusal}
 use Rattle.text_io.proofs.parsing.lasting_fault.Goals as goal
 

@@ -16,7 +16,7 @@ pub enum TextCause {
 
 impl fmt::Display for TextCause {
     ghost use Rattle.std.specs.Prelude.{Some};
-    ghost use Rattle.text_lines.specs.Causes.{cause_text};
+    ghost use Rattle.history.specs.TextCauses.{cause_text};
 
     ghost output = { λ cause. Some (cause_text cause) };
 

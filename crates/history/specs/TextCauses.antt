@@ -1,7 +1,7 @@
 -- The words for what is wrong with a line.
 use Rattle.std.specs.Prelude.{ℕ, List, codes}
-use Rattle.text_lines.specs.declared.causes.TextCause.{TextCause}
-use Rattle.text_lines.specs.declared.causes.TextCause.TheVariants.{End, Form, Range, Extra}
+use Rattle.history.specs.declared.text_causes.TextCause.{TextCause}
+use Rattle.history.specs.declared.text_causes.TextCause.TheVariants.{End, Form, Range, Extra}
 
 -- the name of a cause
 abbrev pub cause_text : TextCause → List ℕ
