@@ -35,17 +35,20 @@ abbrev pub IsAnySeat : {bits : ℕ} {ms : Ghosts NonBlockingAlgorithm bits} {two
 IsAnySeat q s = IsReady (any_arena_of q) s
 
 -- why a push is refused: for a cause of its kind
-abbrev pub AnyPushRefused : {bits : ℕ} {ms : Ghosts NonBlockingAlgorithm bits} {two : Ghosts TwoLockAlgorithm bits} → AnyQueueOf bits ms two → Seat (Unit {0}) → Seat (Unit {0}) → (turns : ℕ) → Refusal → Type 0
+abbrev pub AnyPushRefused : {bits : ℕ} {ms : Ghosts NonBlockingAlgorithm bits} {two : Ghosts TwoLockAlgorithm bits} → AnyQueueOf bits ms two
+    → Seat (Unit {0}) → Seat (Unit {0}) → (turns : ℕ) → Refusal → Type 0
 AnyPushRefused {ms = ms} (NonBlocking q) s t turns refusal = PushRefused ms.push_worn (arena_of q) s t turns refusal
 AnyPushRefused {two = two} (TwoLock q) s t turns refusal = PushRefused two.push_worn (arena_of q) s t turns refusal
 
 -- why a pop is refused: for a cause of its kind
-abbrev pub AnyPopRefused : {bits : ℕ} {ms : Ghosts NonBlockingAlgorithm bits} {two : Ghosts TwoLockAlgorithm bits} → AnyQueueOf bits ms two → Seat (Unit {0}) → Seat (Unit {0}) → (turns : ℕ) → Refusal → Type 0
+abbrev pub AnyPopRefused : {bits : ℕ} {ms : Ghosts NonBlockingAlgorithm bits} {two : Ghosts TwoLockAlgorithm bits} → AnyQueueOf bits ms two
+    → Seat (Unit {0}) → Seat (Unit {0}) → (turns : ℕ) → Refusal → Type 0
 AnyPopRefused {ms = ms} (NonBlocking q) s t turns refusal = PopRefused ms.pop_worn (arena_of q) s t turns refusal
 AnyPopRefused {two = two} (TwoLock q) s t turns refusal = PopRefused two.pop_worn (arena_of q) s t turns refusal
 
 -- why a shut is refused: for a cause of its kind
-abbrev pub AnyShutRefused : {bits : ℕ} {ms : Ghosts NonBlockingAlgorithm bits} {two : Ghosts TwoLockAlgorithm bits} → AnyQueueOf bits ms two → Seat (Unit {0}) → Seat (Unit {0}) → (turns : ℕ) → Refusal → Type 0
+abbrev pub AnyShutRefused : {bits : ℕ} {ms : Ghosts NonBlockingAlgorithm bits} {two : Ghosts TwoLockAlgorithm bits} → AnyQueueOf bits ms two
+    → Seat (Unit {0}) → Seat (Unit {0}) → (turns : ℕ) → Refusal → Type 0
 AnyShutRefused {ms = ms} (NonBlocking q) s t turns refusal = ShutRefused ms.shut_worn (arena_of q) s t turns refusal
 AnyShutRefused {two = two} (TwoLock q) s t turns refusal = ShutRefused two.shut_worn (arena_of q) s t turns refusal
 

@@ -51,12 +51,15 @@ module _ (z : Layout) (word n : ℕ) (v v' : SeatView) (a : LooksAt z word n v v
   head_within e limit x same is = omega (arith, same, is, ap (λ (r : Ref). r.count) (head_there z word n v v' a e), range.shared.head.count, limit_there)
 
   -- what is left of a count at the moment of a look
-  leaves : (of : Shared → Ref) (first last : SeatView) → SeesMore (known_by first) (known_by v) → SeesMore (known_by v') (known_by last) → ref_of z.setup.bits n ≡ of m → (limit x : ℕ) → limit ≡ z.setup.limit → x ≡ (ref_of z.setup.bits n).count → x ≤ limit → LeavesRaises z of (known_by first) (known_by last) (limit - x)
+  leaves : (of : Shared → Ref) (first last : SeatView) → SeesMore (known_by first) (known_by v) → SeesMore (known_by v') (known_by last)
+      → ref_of z.setup.bits n ≡ of m → (limit x : ℕ) → limit ≡ z.setup.limit → x ≡ (ref_of z.setup.bits n).count → x ≤ limit
+      → LeavesRaises z of (known_by first) (known_by last) (limit - x)
   leaves of first last f g found limit x same is most =
       record { was = a.was; reached = a.reached; setup = a.setup; meanwhile = was_meanwhile z word n v v' a first last f g; count = omega (arith, same, is, most, ap (λ (r : Ref). r.count) found) }
 
 -- a look at Free, at Tail and at Head
-module _ (z : Layout) (n1 n2 n3 : ℕ) (v0 v1 v2 v3 : SeatView) (a : LooksAt z 1 n1 v0 v1) (b : LooksAt z 3 n2 v1 v2) (c : LooksAt z 2 n3 v2 v3) (limit x y w : ℕ) (same : limit ≡ z.setup.limit) (free : x ≡ (ref_of z.setup.bits n1).count)
+module _ (z : Layout) (n1 n2 n3 : ℕ) (v0 v1 v2 v3 : SeatView) (a : LooksAt z 1 n1 v0 v1) (b : LooksAt z 3 n2 v1 v2) (c : LooksAt z 2 n3 v2 v3)
+    (limit x y w : ℕ) (same : limit ≡ z.setup.limit) (free : x ≡ (ref_of z.setup.bits n1).count)
     (tail : y ≡ (ref_of z.setup.bits n2).count) (head : w ≡ (ref_of z.setup.bits n3).count) where
   ab : StaysLooked b.was (looked_in a.was)
   ab = since_there z 1 n1 3 n2 v0 v1 v2 a b
@@ -84,10 +87,19 @@ module _ (z : Layout) (n1 n2 n3 : ℕ) (v0 v1 v2 v3 : SeatView) (a : LooksAt z 1
       record {
         of_free = omega (arith, free_is, same, limit_there z 1 n1 v0 v1 a, free_within z 1 n1 v0 v1 a refl limit x same free);
         of_tail = omega (arith, tail_rose a.was.world.setup.kind refl, same, limit_there z 1 n1 v0 v1 a, tail_within z 3 n2 v1 v2 b refl limit y same tail);
-        of_head = omega (arith, head_is, not_less b.was.world.shared.head a.was.world.shared.head ab.head, not_less c.was.world.shared.head b.was.world.shared.head bc.head, same, limit_there z 1 n1 v0 v1 a, head_within z 2 n3 v2 v3 c refl limit w same head);
+        of_head = omega (
+          arith,
+          head_is,
+          not_less b.was.world.shared.head a.was.world.shared.head ab.head,
+          not_less c.was.world.shared.head b.was.world.shared.head bc.head,
+          same,
+          limit_there z 1 n1 v0 v1 a,
+          head_within z 2 n3 v2 v3 c refl limit w same head,
+        );
       }
 
-  pub has_left : (nodes pushes : ℕ) → nodes ≡ z.setup.size → pushes ≡ pushes_left nodes (limit - x) (limit - y) (limit - w) → HasLeft z (known_by v0) (record { pushes = pushes; free = limit - x; tail = limit - y; head = limit - w }) (known_by v3)
+  pub has_left : (nodes pushes : ℕ) → nodes ≡ z.setup.size → pushes ≡ pushes_left nodes (limit - x) (limit - y) (limit - w)
+      → HasLeft z (known_by v0) (record { pushes = pushes; free = limit - x; tail = limit - y; head = limit - w }) (known_by v3)
   unfolding leaves
   has_left nodes pushes size is =
       let to_one : SeesMore (known_by v0) (known_by v1) = sees_there z 1 n1 v0 v1 a in
@@ -96,9 +108,12 @@ module _ (z : Layout) (n1 n2 n3 : ℕ) (v0 v1 v2 v3 : SeatView) (a : LooksAt z 1
       let count : pushes ≡ pushes_left z.setup.size (limit - x) (limit - y) (limit - w) = is ∙ ap (λ k. pushes_left k (limit - x) (limit - y) (limit - w)) size in
       let there : pushes_left a.was.world.setup.size (limit - x) (limit - y) (limit - w) ≡ pushes = ap (λ (s : Setup). pushes_left s.size (limit - x) (limit - y) (limit - w)) a.setup ∙ sym count in
       record {
-        free = leaves z 1 n1 v0 v1 a (λ m. m.free) v0 v3 (sees_itself (known_by v0)) (sees_then (known_by v1) (known_by v2) (known_by v3) to_two to_three) (free_there z 1 n1 v0 v1 a refl) limit x same free (free_within z 1 n1 v0 v1 a refl limit x same free);
+        free = leaves z 1 n1 v0 v1 a (λ m. m.free) v0 v3 (sees_itself (known_by v0))
+            (sees_then (known_by v1) (known_by v2) (known_by v3) to_two to_three) (free_there z 1 n1 v0 v1 a refl) limit x same free
+            (free_within z 1 n1 v0 v1 a refl limit x same free);
         tail = leaves z 3 n2 v1 v2 b (λ m. m.tail) v0 v3 to_one to_three (tail_there z 3 n2 v1 v2 b refl) limit y same tail (tail_within z 3 n2 v1 v2 b refl limit y same tail);
-        head = leaves z 2 n3 v2 v3 c (λ m. m.head) v0 v3 (sees_then (known_by v0) (known_by v1) (known_by v2) to_one to_two) (sees_itself (known_by v3)) (head_there z 2 n3 v2 v3 c refl) limit w same head (head_within z 2 n3 v2 v3 c refl limit w same head);
+        head = leaves z 2 n3 v2 v3 c (λ m. m.head) v0 v3 (sees_then (known_by v0) (known_by v1) (known_by v2) to_one to_two)
+            (sees_itself (known_by v3)) (head_there z 2 n3 v2 v3 c refl) limit w same head (head_within z 2 n3 v2 v3 c refl limit w same head);
         pushes = count;
         lasts = subst (Lasts a.was) there (each_lasts a.was (limit - x) (limit - y) (limit - w) a.reached leaves_there);
       }

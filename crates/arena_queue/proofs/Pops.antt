@@ -1,5 +1,6 @@
 -- The ends of a pop, a pop behind other lines of its call, and a whole pop: with an empty pocket, or after a give back.
-use Rattle.std.proofs.Common.{◌≡◌, ℕ, ◌+◌, ◌-◌, ◌<◌, ◌≤◌, true, false, List, ◌++◌, Option, Some, None, Result, Ok, Err, IfOk, IfErr, OnOk, sym, refl, ap, subst, ◌∙◌, arith, append_assoc, ⊎_elim, inl, inr}
+use Rattle.std.proofs.Common.{◌≡◌, ℕ, ◌+◌, ◌-◌, ◌<◌, ◌≤◌, true, false, List, ◌++◌, Option, Some, None, Result, Ok, Err, IfOk, IfErr, OnOk, sym, refl}
+use Rattle.std.proofs.Common.{ap, subst, ◌∙◌, arith, append_assoc, ⊎_elim, inl, inr}
 use Rattle.std.proofs.lemmas.Bool.{false≢true}
 use Rattle.history.specs.declared.operations.Entry.TheVariants.{Pop}
 use Rattle.history.specs.declared.operations.Reply.TheVariants as reply
@@ -84,12 +85,16 @@ module _ (worn : WornWord → Type 0) where
         freed_of (Ok v) e d off = ⊎_elim (λ none. inl none) (λ all. inr (let c = ap failed_turns e in omega (arith, failed-append es (added u x), c, all, more))) (d.freed off)
         freed_of (Err refusal) e d off = tt
 
-        refused_by : (o : Result (Option Taken) Refusal) → added s x ≡ es ++ added u x → Draws worn r u x before turns o → IfErr o (λ refusal. StopsAPop s x refusal × DrawRefused worn r s x spent turns refusal)
+        refused_by : (o : Result (Option Taken) Refusal) → added s x ≡ es ++ added u x → Draws worn r u x before turns o
+            → IfErr o (λ refusal. StopsAPop s x refusal × DrawRefused worn r s x spent turns refusal)
         refused_by (Ok v) e d = tt
         refused_by (Err refusal) e d = (late_stop e refusal d.refused.0, late_cause e refusal d.refused.1)
 
   -- a word was found worn out, and the call is over
-  pub draws_worn : {T : Type 0} (r : Arena) (s t : Seat T) (refusal : Refusal) (word : WornWord) (failed turns : ℕ) (es : List Event) → IsSeat r t → (view t).actor.line ≡ None → (view t).actor.pocket ≡ None → KeepsStored s t → KeepsSlots s t → ExtendsPath (view s) (view t) es → refusal ≡ WornOut word → EndedAt r s es (IsRefusedAt r.plan.setup (view s).number (WornOut word)) → worn word → Draws worn r s (keeping t None failed) failed turns (Err refusal)
+  pub draws_worn : {T : Type 0} (r : Arena) (s t : Seat T) (refusal : Refusal) (word : WornWord) (failed turns : ℕ) (es : List Event) → IsSeat r t
+      → (view t).actor.line ≡ None → (view t).actor.pocket ≡ None → KeepsStored s t → KeepsSlots s t → ExtendsPath (view s) (view t) es
+      → refusal ≡ WornOut word → EndedAt r s es (IsRefusedAt r.plan.setup (view s).number (WornOut word)) → worn word
+      → Draws worn r s (keeping t None failed) failed turns (Err refusal)
   draws_worn r s t refusal word failed turns es seat over empty stored slots w is cause so =
       let e : added s t ≡ es = added_is s t es w in
       let rest : at_rest (view t).actor ≡ (view t).actor = ap (out_of (view t).actor) over in
@@ -109,7 +114,9 @@ module _ (worn : WornWord → Type 0) where
       }
 
   -- the queue was found shut and empty, and the call is over
-  pub draws_shut : {T : Type 0} (r : Arena) (s t : Seat T) (failed turns : ℕ) (es : List Event) → IsSeat r t → (view t).actor.line ≡ None → (view t).actor.pocket ≡ None → KeepsStored s t → KeepsSlots s t → FindsShutEmpty (view s) (view t) es → EndedAt r s es (IsRefusedAt r.plan.setup (view s).number Closed) → Draws worn r s (keeping t None failed) failed turns (Err Closed)
+  pub draws_shut : {T : Type 0} (r : Arena) (s t : Seat T) (failed turns : ℕ) (es : List Event) → IsSeat r t → (view t).actor.line ≡ None
+      → (view t).actor.pocket ≡ None → KeepsStored s t → KeepsSlots s t → FindsShutEmpty (view s) (view t) es
+      → EndedAt r s es (IsRefusedAt r.plan.setup (view s).number Closed) → Draws worn r s (keeping t None failed) failed turns (Err Closed)
   draws_shut r s t failed turns es seat over empty stored slots finds cause =
       let e : added s t ≡ es = added_path s t es finds.path in
       let rest : at_rest (view t).actor ≡ (view t).actor = ap (out_of (view t).actor) over in
@@ -126,16 +133,26 @@ module _ (worn : WornWord → Type 0) where
       }
 
   -- a value was taken by a seat that keeps no nodes, and the node that comes free is given back, or stays in the pocket
-  pub draws_taken : {T : Type 0} (r : Arena) (s t x : Seat T) (word : ℕ) (h : Held) (failed turns : ℕ) (out : Result (Unit {0}) Refusal) (es : List Event) → keeps_of s ≡ false → failed < turns → IsSeat r t → KeepsStored s t → TakesSlot r (value_of word) s t → Acts (view s) (view t) (Pop (view s).number (value_of word)) es → failed_turns es ≡ 0 → GiveAnswers r (keeping t (Some h) failed) x (turns - failed) out → Draws worn r s x failed turns (Ok (Some (value_of word)))
+  pub draws_taken : {T : Type 0} (r : Arena) (s t x : Seat T) (word : ℕ) (h : Held) (failed turns : ℕ) (out : Result (Unit {0}) Refusal)
+      (es : List Event) → keeps_of s ≡ false → failed < turns → IsSeat r t → KeepsStored s t → TakesSlot r (value_of word) s t
+      → Acts (view s) (view t) (Pop (view s).number (value_of word)) es → failed_turns es ≡ 0
+      → GiveAnswers r (keeping t (Some h) failed) x (turns - failed) out → Draws worn r s x failed turns (Ok (Some (value_of word)))
   draws_taken r s t x word h failed turns out es keeps less seat stored takes took never g =
-      let acts : Acts (view s) (view x) (Pop (view s).number (value_of word)) (es ++ added t x) = act_then (view s) (view t) (view x) (Pop (view s).number (value_of word)) es (added t x) took (record { walks = g.lines; same = g.seen }) in
+      let acts : Acts (view s) (view x) (Pop (view s).number (value_of word)) (es ++ added t x) =
+      act_then (view s) (view t) (view x) (Pop (view s).number (value_of word)) es (added t x) took (record { walks = g.lines; same = g.seen }) in
       let e : added s x ≡ es ++ added t x = added_path s x (es ++ added t x) acts.path in
       let all : failed_turns (added s x) ≡ failed_turns (added t x) = (let c = ap failed_turns e in omega (arith, failed-append es (added t x), never, c)) in
       let most : failed_turns (added t x) ≤ turns - failed = spends out g in
       record {
         ready = g.ready;
         same = record { number = g.same.number ∙ stored.number; role = g.same.role ∙ stored.role; keeps = g.same.keeps ∙ stored.keeps };
-        slots = takes_then r (value_of word) s t x takes seat g.ready.seat (record { same = g.slots.same; hand = g.slots.hand; number = g.slots.number; more = record { between = g.slots.more.between; deeds = g.slots.more.deeds } }) g.seen;
+        slots = takes_then r (value_of word) s t x takes seat g.ready.seat (record {
+          same = g.slots.same;
+          hand = g.slots.hand;
+          number =
+              g.slots.number;
+          more = record { between = g.slots.more.between; deeds = g.slots.more.deeds };
+        }) g.seen;
         path = acts.path ∙ ap (λ p. (view s).path ++ p) (sym e);
         answer = acts.adds;
         few = omega (arith, all, most, less);
@@ -153,12 +170,21 @@ module _ (worn : WornWord → Type 0) where
       spends (Err refusal) g = let n : failed_turns (added t x) ≡ turns - failed = g.refused.1 in omega arith
 
   -- a value was taken by a seat that keeps its nodes, and the node that comes free stays in the pocket
-  pub draws_kept : {T : Type 0} (r : Arena) (s t : Seat T) (word : ℕ) (h : Held) (failed turns : ℕ) (es : List Event) → keeps_of s ≡ true → failed < turns → IsSeat r t → KeepsStored s t → TakesSlot r (value_of word) s t → IsFreeing (view t).actor word h → Acts (view s) (view t) (Pop (view s).number (value_of word)) es → failed_turns es ≡ 0 → Draws worn r s (keeping t (Some h) failed) failed turns (Ok (Some (value_of word)))
+  pub draws_kept : {T : Type 0} (r : Arena) (s t : Seat T) (word : ℕ) (h : Held) (failed turns : ℕ) (es : List Event) → keeps_of s ≡ true
+      → failed < turns → IsSeat r t → KeepsStored s t → TakesSlot r (value_of word) s t → IsFreeing (view t).actor word h
+      → Acts (view s) (view t) (Pop (view s).number (value_of word)) es → failed_turns es ≡ 0
+      → Draws worn r s (keeping t (Some h) failed) failed turns (Ok (Some (value_of word)))
   draws_kept r s t word h failed turns es keeps less seat stored takes frees took never =
       let e : added s t ≡ es = added_path s t es took.path in
-      let rest : at_rest (view t).actor ≡ record (to_pocket (view t).actor) { line = None } = ap (out_of (view t).actor) frees.over ∙ ap (λ d. gave_up (view t).actor (busy_or 0 d (to_pocket (view t).actor))) frees.due in
+      let rest : at_rest (view t).actor ≡ record (to_pocket (view t).actor) { line = None } =
+      ap (out_of (view t).actor) frees.over ∙ ap (λ d. gave_up (view t).actor (busy_or 0 d (to_pocket (view t).actor))) frees.due in
       record {
-        ready = record { seat = kept_seat r t (Some h) failed seat; free = ap (λ b. b.line) rest; pocket = sym (ap (λ b. b.pocket) rest ∙ (λ i. Some (record { node = frees.node i; mark = frees.mark i }))) };
+        ready = record {
+          seat = kept_seat r t (Some h) failed seat;
+          free = ap (λ b. b.line) rest;
+          pocket =
+              sym (ap (λ b. b.pocket) rest ∙ (λ i. Some (record { node = frees.node i; mark = frees.mark i })));
+        };
         same = record { number = stored.number; role = stored.role; keeps = stored.keeps };
         slots = kept_takes r (value_of word) s t (Some h) failed takes;
         path = took.path ∙ ap (λ p. (view s).path ++ p) (sym e);
@@ -170,7 +196,9 @@ module _ (worn : WornWord → Type 0) where
       }
 
   -- the queue was found empty
-  pub draws_empty : {T : Type 0} (r : Arena) (s t : Seat T) (failed turns : ℕ) (es : List Event) → failed < turns → IsSeat r t → (view t).actor.line ≡ None → (view t).actor.pocket ≡ None → KeepsStored s t → KeepsSlots s t → (view t).path ≡ (view s).path ++ es → failed_turns es ≡ 0 → FoundEmpty (known_by (view s)) (known_by (view t)) → Draws worn r s (keeping t None failed) failed turns (Ok None)
+  pub draws_empty : {T : Type 0} (r : Arena) (s t : Seat T) (failed turns : ℕ) (es : List Event) → failed < turns → IsSeat r t
+      → (view t).actor.line ≡ None → (view t).actor.pocket ≡ None → KeepsStored s t → KeepsSlots s t → (view t).path ≡ (view s).path ++ es
+      → failed_turns es ≡ 0 → FoundEmpty (known_by (view s)) (known_by (view t)) → Draws worn r s (keeping t None failed) failed turns (Ok None)
   draws_empty r s t failed turns es less seat over empty stored slots path never found =
       let e : added s t ≡ es = added_path s t es path in
       let rest : at_rest (view t).actor ≡ (view t).actor = ap (out_of (view t).actor) over in
@@ -226,11 +254,14 @@ module _ (worn : WornWord → Type 0) where
       learns _ h = sees_on (view s) (view x) (added s x) h
 
   -- the pop of a seat whose pocket was empty
-  pub drawn_at_once : {T : Type 0} (r : Arena) (s v x : Seat T) (n turns : ℕ) (out : Result (Option Taken) Refusal) → IsReady r s → v ≡ s → n ≡ 0 → Draws worn r v x n turns out → AnswersPop worn r s x turns out
+  pub drawn_at_once : {T : Type 0} (r : Arena) (s v x : Seat T) (n turns : ℕ) (out : Result (Option Taken) Refusal) → IsReady r s → v ≡ s → n ≡ 0
+      → Draws worn r v x n turns out → AnswersPop worn r s x turns out
   drawn_at_once r s v x n turns out h e f d = whole r s x turns out h (subst (λ u. Draws worn r u x 0 turns out) e (subst (λ m. Draws worn r v x m turns out) f d))
 
   -- the pop of a seat that first gave its node back
-  pub drawn_after_give : {T : Type 0} (r : Arena) (s u v x : Seat T) (spent n turns : ℕ) (out : Result (Option Taken) Refusal) → IsReady r s → v ≡ u → n ≡ spent → KeepsName s u → KeepsSlots s u → HadNoEffect s u → spent ≡ failed_turns (added s u) → Draws worn r v x n turns out → AnswersPop worn r s x turns out
+  pub drawn_after_give : {T : Type 0} (r : Arena) (s u v x : Seat T) (spent n turns : ℕ) (out : Result (Option Taken) Refusal) → IsReady r s → v ≡ u
+      → n ≡ spent → KeepsName s u → KeepsSlots s u → HadNoEffect s u → spent ≡ failed_turns (added s u) → Draws worn r v x n turns out
+      → AnswersPop worn r s x turns out
   drawn_after_give r s u v x spent n turns out h e f name slots w g d =
       let k : Draws worn r u x spent turns out = subst (λ y. Draws worn r y x spent turns out) e (subst (λ m. Draws worn r v x m turns out) f d) in
       whole r s x turns out h (draws_late r s u x (added s u) w 0 spent turns (omega (arith, g)) out name slots k)

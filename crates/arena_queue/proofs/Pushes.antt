@@ -40,10 +40,13 @@ learns_of_take r s t turns _ w h = sees_on (view s) (view t) (added s t) w
 
 module _ (worn : WornWord → Option Held → Type 0) where
   -- a push behind other lines of its call
-  pub put_behind : {T : Type 0} (Before After : Type 0) → (Before → After) → (r : Arena) (s t u : Seat T) (es : List Event) → ExtendsPath (view s) (view t) es → KeepsName s t → (node body spent all turns : ℕ) (out : Result (Unit {0}) Refusal) → spent + failed_turns es ≡ all → PutsAnd Before worn r t u node body all turns out → PutsAnd After worn r s u node body spent turns out
+  pub put_behind : {T : Type 0} (Before After : Type 0) → (Before → After) → (r : Arena) (s t u : Seat T) (es : List Event)
+      → ExtendsPath (view s) (view t) es → KeepsName s t → (node body spent all turns : ℕ) (out : Result (Unit {0}) Refusal)
+      → spent + failed_turns es ≡ all → PutsAnd Before worn r t u node body all turns out → PutsAnd After worn r s u node body spent turns out
   put_behind Before After moves r s t u es w name node body spent all turns (Ok x) f k =
       let both : List Event = es ++ added t u in
-      let acts : Acts (view s) (view u) (Push (view s).number body) both = then_act (view s) (view t) (view u) (Push (view t).number body) (Push (view s).number body) es (added t u) (λ i. Push (w.number i) body) w k.pushed.0 in
+      let acts : Acts (view s) (view u) (Push (view s).number body) both = then_act (view s) (view t) (view u) (Push (view t).number body)
+      (Push (view s).number body) es (added t u) (λ i. Push (w.number i) body) w k.pushed.0 in
       let e : added s u ≡ both = added_path s u both acts.path in
       record {
         ready = k.ready;
@@ -78,7 +81,8 @@ module _ (worn : WornWord → Option Held → Type 0) where
       by_cause e _ x = absurd x
 
   -- the push of a node that was in the pocket
-  pub at_once : {T : Type 0} (Slots : Type 0) (r : Arena) (s t : Seat T) (node body turns : ℕ) (out : Result (Unit {0}) Refusal) → IsReady r s → PutsAnd Slots worn r s t node body 0 turns out → AnswersPush worn r s t body turns out
+  pub at_once : {T : Type 0} (Slots : Type 0) (r : Arena) (s t : Seat T) (node body turns : ℕ) (out : Result (Unit {0}) Refusal) → IsReady r s
+      → PutsAnd Slots worn r s t node body 0 turns out → AnswersPush worn r s t body turns out
   at_once Slots r s t node body turns (Ok u) h k =
       record {
         ready = k.ready;
@@ -120,11 +124,15 @@ module _ (worn : WornWord → Option Held → Type 0) where
       by_cause _ x = absurd x
 
   -- the push of a seat whose pocket was full
-  pub put_at_once : {T : Type 0} (r : Arena) (s v x : Seat T) (node body n turns : ℕ) (out : Result (Unit {0}) Refusal) → IsReady r s → v ≡ s → n ≡ 0 → Puts worn r v x node body n turns out → AnswersPush worn r s x body turns out
-  put_at_once r s v x node body n turns out h e f p = at_once (PutMoves r body s x out) r s x node body turns out h (subst (λ u. Puts worn r u x node body 0 turns out) e (subst (λ m. Puts worn r v x node body m turns out) f p))
+  pub put_at_once : {T : Type 0} (r : Arena) (s v x : Seat T) (node body n turns : ℕ) (out : Result (Unit {0}) Refusal) → IsReady r s → v ≡ s → n ≡ 0
+      → Puts worn r v x node body n turns out → AnswersPush worn r s x body turns out
+  put_at_once r s v x node body n turns out h e f p = at_once (PutMoves r body s x out) r s x node body turns out h
+      (subst (λ u. Puts worn r u x node body 0 turns out) e (subst (λ m. Puts worn r v x node body m turns out) f p))
 
   -- the push of a seat that first took a node
-  pub put_after_take : {T : Type 0} (r : Arena) (s u v x : Seat T) (node body spent n turns : ℕ) (out : Result (Unit {0}) Refusal) → IsReady r s → v ≡ u → n ≡ spent → KeepsName s u → HadNoEffect s u → spent ≡ failed_turns (added s u) → Puts worn r v x node body n turns out → AnswersPush worn r s x body turns out
+  pub put_after_take : {T : Type 0} (r : Arena) (s u v x : Seat T) (node body spent n turns : ℕ) (out : Result (Unit {0}) Refusal) → IsReady r s
+      → v ≡ u → n ≡ spent → KeepsName s u → HadNoEffect s u → spent ≡ failed_turns (added s u) → Puts worn r v x node body n turns out
+      → AnswersPush worn r s x body turns out
   put_after_take r s u v x node body spent n turns out h e f name w g p =
       let k : Puts worn r u x node body spent turns out = subst (λ y. Puts worn r y x node body spent turns out) e (subst (λ m. Puts worn r v x node body m turns out) f p) in
       at_once (Unit {0}) r s x node body turns out h (put_behind (PutMoves r body u x out) (Unit {0}) (λ _. tt) r s u x (added s u) w name node body 0 spent turns out (omega arith) k)

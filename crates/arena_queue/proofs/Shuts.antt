@@ -9,6 +9,7 @@ use Rattle.arena_queue.specs.Answers.{AnswersShut}
 use Rattle.arena_queue.proofs.Pushes.{learns}
 
 -- what its seat knows after a shut that was refused
-pub shut_learns : {T : Type 0} (worn : Type 0) (r : Arena) (s t : Seat T) (turns : ℕ) (out : Result (Unit {0}) Refusal) → AnswersShut worn r s t turns out → IfErr out (λ refusal. RefusedPush (known_of s) refusal (known_of t))
+pub shut_learns : {T : Type 0} (worn : Type 0) (r : Arena) (s t : Seat T) (turns : ℕ) (out : Result (Unit {0}) Refusal)
+    → AnswersShut worn r s t turns out → IfErr out (λ refusal. RefusedPush (known_of s) refusal (known_of t))
 shut_learns worn r s t turns (Ok u) h = tt
 shut_learns worn r s t turns (Err refusal) h = learns s t refusal h.refused.0

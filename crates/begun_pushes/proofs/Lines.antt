@@ -3,7 +3,10 @@
 use Rattle.std.proofs.Common.{◌≡◌, ℕ, ◌+◌, ◌≤◌, Bool, true, false, if◌then◌else◌, nat_eq, nat_lt, [], ◌∷◌, List, Option, Some, None, IfSome, refl, ap, arith}
 use Rattle.std.specs.List.{count_by}
 use Rattle.std.proofs.lemmas.List.Sums.{sum_by-cons}
-use Rattle.step_machine.specs.Below.{null, is_null, is_shut, same_ref, Kind, NonBlocking, TwoLock, Line, N1, N2, N4, N5, F1, F3, E3, E7, E9, E5, D2, D5, D12, D13, A3, A5, A7, B1, B3, B4, B6, S1, S3, S4, S6, S8, S9, Op, Enq, Deq, Shut, Held, Reply, Value, Refused, Setup, Actor, Outcome, Found, action, outcome, gives_up, freed, unlocked, left, left_with_node, busy_or, to_pocket, fills_hand, effect, goes, with_node, begun, Entry, Push, Pop, ShutEntry, is_push}
+use Rattle.step_machine.specs.Below.{null, is_null, is_shut, same_ref, Kind, NonBlocking, TwoLock, Line, N1, N2, N4, N5, F1, F3, E3, E7, E9, E5, D2}
+use Rattle.step_machine.specs.Below.{D5, D12, D13, A3, A5, A7, B1, B3, B4, B6, S1, S3, S4, S6, S8, S9, Op, Enq, Deq, Shut, Held, Reply, Value}
+use Rattle.step_machine.specs.Below.{Refused, Setup, Actor, Outcome, Found, action, outcome, gives_up, freed, unlocked, left, left_with_node, busy_or}
+use Rattle.step_machine.specs.Below.{to_pocket, fills_hand, effect, goes, with_node, begun, Entry, Push, Pop, ShutEntry, is_push}
 use Rattle.step_machine.specs.declared.actors.Move.TheVariants.{Begin}
 use Rattle.step_machine.specs.Machine.{made}
 use Rattle.step_machine.proofs.Choices.{both, tried}

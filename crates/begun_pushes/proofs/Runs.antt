@@ -40,7 +40,9 @@ module _ (t : Traced) (you : ℕ) (a : Actor) (is : actor_of t.world you ≡ Som
   counts f b = sum_set (λ (c : Actor). f c.line) t.world.actors (you - 1) a b (actor_stands t.world you a is).1
 
   -- only the world goes on
-  stays : (v : World) (b : Actor) (begun : ℕ) → IsTraced (record t { world = v }) → v.setup ≡ t.world.setup → v.actors ≡ (with_actor t.world you b).actors → has_no_node b.line ≤ has_no_node a.line + begun → has_no_effect b.line ≤ has_no_effect a.line + begun → Goes t (record t { world = v }) begun
+  stays : (v : World) (b : Actor) (begun : ℕ) → IsTraced (record t { world = v }) → v.setup ≡ t.world.setup
+      → v.actors ≡ (with_actor t.world you b).actors → has_no_node b.line ≤ has_no_node a.line + begun
+      → has_no_effect b.line ≤ has_no_effect a.line + begun → Goes t (record t { world = v }) begun
   stays v b begun r same moved node effect =
       record {
         reached = r;
@@ -48,7 +50,11 @@ module _ (t : Traced) (you : ℕ) (a : Actor) (is : actor_of t.world you ≡ Som
         entries = [];
         history = sym (append-nil t.history);
         nodes = 0;
-        taken = omega (arith, ap (λ (actors : List Actor). sum_by (λ n. takes_on (t.paths n)) (range_with_len 1 (length actors))) moved, ap (λ k. sum_by (λ n. takes_on (t.paths n)) (range_with_len 1 k)) (length-set t.world.actors (you - 1) b));
+        taken = omega (
+          arith,
+          ap (λ (actors : List Actor). sum_by (λ n. takes_on (t.paths n)) (range_with_len 1 (length actors))) moved,
+          ap (λ k. sum_by (λ n. takes_on (t.paths n)) (range_with_len 1 k)) (length-set t.world.actors (you - 1) b),
+        );
         by_node = omega (arith, node, counts has_no_node b, ap (λ (actors : List Actor). sum_by (λ (c : Actor). has_no_node c.line) actors) moved);
         by_effect = omega (arith, effect, counts has_no_effect b, ap (λ (actors : List Actor). sum_by (λ (c : Actor). has_no_effect c.line) actors) moved);
       }
@@ -98,12 +104,17 @@ move_goes t =
       at_rest = λ you a l is at may r. stays t you a is (with_actor t.world you (rested a)) (rested a) 0 r refl refl (omega arith) (omega arith);
     })
   where
-    began : (you : ℕ) (op : Op) (a : Actor) → actor_of t.world you ≡ Some a → a.line ≡ None → IsTraced (record t { world = with_actor t.world you (begun t.world.setup.kind you op a) }) → Goes t (record t { world = with_actor t.world you (begun t.world.setup.kind you op a) }) (one (made (Begin you op)))
+    began : (you : ℕ) (op : Op) (a : Actor) → actor_of t.world you ≡ Some a → a.line ≡ None
+        → IsTraced (record t { world = with_actor t.world you (begun t.world.setup.kind you op a) })
+        → Goes t (record t { world = with_actor t.world you (begun t.world.setup.kind you op a) }) (one (made (Begin you op)))
     began you op a is free r =
         let counted = begun_counts t.world.setup.kind you op a in
-        stays t you a is (with_actor t.world you (begun t.world.setup.kind you op a)) (begun t.world.setup.kind you op a) (one (made (Begin you op))) r refl refl (omega (arith, counted.0)) (omega (arith, counted.1))
+        stays t you a is (with_actor t.world you (begun t.world.setup.kind you op a)) (begun t.world.setup.kind you op a) (one (made (Begin you op)))
+        r refl refl (omega (arith, counted.0)) (omega (arith, counted.1))
 
-    gave_up : (you : ℕ) (a : Actor) (l : Line) (o : Outcome) → actor_of t.world you ≡ Some a → gives_up (t.world.steps + 1) a l ≡ Some o → IsTraced (record t { world = after_outcome t.world you a t.world.shared o }) → Goes t (record t { world = after_outcome t.world you a t.world.shared o }) 0
+    gave_up : (you : ℕ) (a : Actor) (l : Line) (o : Outcome) → actor_of t.world you ≡ Some a → gives_up (t.world.steps + 1) a l ≡ Some o
+        → IsTraced (record t { world = after_outcome t.world you a t.world.shared o })
+        → Goes t (record t { world = after_outcome t.world you a t.world.shared o }) 0
     gave_up you a l o is given r =
         let b : Actor = record o.actor { entry = Some (entry_or a.entry (length t.world.operations)) } in
         let none : o.actor.line ≡ None = some_of (λ o. o.actor.line ≡ None) (gives_up (t.world.steps + 1) a l) o given (given_none (t.world.steps + 1) a l) in
@@ -130,12 +141,14 @@ pub run_goes : (ms : List AnyMove) (t u : Traced) → IsTraced t → trace ms t 
 run_goes [] t u r led = subst (λ v. Goes t v 0) (same_Some t u led) (nowhere t r)
 run_goes (m ∷ ms) t u r led = go (next_any t.world m) refl led (λ v. run_goes ms v u)
   where
-    go : (o : Option World) → next_any t.world m ≡ o → traced_on (trace ms) (traced_next t m o) ≡ Some u → ((v : Traced) → IsTraced v → trace ms v ≡ Some u → Goes v u (pushes_begun ms)) → Goes t u (pushes_begun (m ∷ ms))
+    go : (o : Option World) → next_any t.world m ≡ o → traced_on (trace ms) (traced_next t m o) ≡ Some u
+        → ((v : Traced) → IsTraced v → trace ms v ≡ Some u → Goes v u (pushes_begun ms)) → Goes t u (pushes_begun (m ∷ ms))
     go None f g each = absurd (none-some u g)
     go (Some w) f g each =
         let r' : IsTraced (traced_move t m w) = traced_moves t m w r f in
         subst (Goes t u) (sym (sum_by-cons (λ x. if begins_push x then 1 else 0) m ms))
-        (goes_on t (traced_move t m w) u (one m) (pushes_begun ms) (some_of (λ v. IsTraced (traced_move t m v) → Goes t (traced_move t m v) (one m)) (next_any t.world m) w f (move_goes t m) r') (each (traced_move t m w) r' g))
+        (goes_on t (traced_move t m w) u (one m) (pushes_begun ms) (some_of (λ v. IsTraced (traced_move t m v) → Goes t (traced_move t m v) (one m))
+        (next_any t.world m) w f (move_goes t m) r') (each (traced_move t m w) r' g))
 
 pub take_nodes : OfRuns (TakeNodes 1 1)
 take_nodes was t moves r led = let g : Goes was t (pushes_begun moves) = run_goes moves was t r led in omega (arith, g.taken, g.by_node)

@@ -46,7 +46,8 @@ module _ (t : Traced) (you : ℕ) (a : Actor) (is : actor_of t.world you ≡ Som
       go (inr d) = others n d
 
   -- only the world goes on
-  stays : (v : World) (b : Actor) (begun : ℕ → ℕ) → v.actors ≡ (with_actor t.world you b).actors → has_no_node b.line ≤ has_no_node a.line + begun you → (n : ℕ) → Pays n t (record t { world = v }) (begun n)
+  stays : (v : World) (b : Actor) (begun : ℕ → ℕ) → v.actors ≡ (with_actor t.world you b).actors → has_no_node b.line ≤ has_no_node a.line + begun you
+      → (n : ℕ) → Pays n t (record t { world = v }) (begun n)
   stays v b begun moved node =
       by_seat (λ n. Pays n t (record t { world = v }) (begun n))
       (omega (arith, node, mine, same you, ap (of_line has_no_node) (actor_same t.world you a b is)))
@@ -65,7 +66,15 @@ module _ (t : Traced) (you : ℕ) (a : Actor) (is : actor_of t.world you ≡ Som
     steps : (n : ℕ) → Pays n t (step_at t you a l) 0
     steps =
         by_seat (λ n. Pays n t (step_at t you a l) 0)
-        (omega (arith, mine, ap has_no_node at, ap (of_line has_no_node) (step_here t you a l is), ap takes_on (changed_here t.paths you (t.paths you ++ event ∷ [])), sum_by_push (λ (e : Event). takes_at e.line e.to) (t.paths you) event, (step_falls t.world.setup (t.world.steps + 1) you a l (found (action t.world.setup you a l) t.world.shared)).0))
+        (omega (
+          arith,
+          mine,
+          ap has_no_node at,
+          ap (of_line has_no_node) (step_here t you a l is),
+          ap takes_on (changed_here t.paths you (t.paths you ++ event ∷ [])),
+          sum_by_push (λ (e : Event). takes_at e.line e.to) (t.paths you) event,
+          (step_falls t.world.setup (t.world.steps + 1) you a l (found (action t.world.setup you a l) t.world.shared)).0,
+        ))
         (λ n d. omega (arith, ap (of_line has_no_node) (step_else t you a l n is d), ap takes_on (changed_else t.paths you (t.paths you ++ event ∷ []) n d)))
 
 -- each move is paid
@@ -73,13 +82,15 @@ move_pays : (n : ℕ) (t : Traced) (m : AnyMove) → IfSome (next_any t.world m)
 move_pays n t =
     after_move t.world (λ m v. Pays n t (traced_move t m v) (one n m))
     (record {
-      began = λ you op a is free call. stays t you a is (with_actor t.world you (begun t.world.setup.kind you op a)) (begun t.world.setup.kind you op a) (λ k. one k (made (Begin you op))) refl (omega (arith, begun_own t.world.setup.kind you op a)) n;
+      began = λ you op a is free call. stays t you a is (with_actor t.world you (begun t.world.setup.kind you op a))
+          (begun t.world.setup.kind you op a) (λ k. one k (made (Begin you op))) refl (omega (arith, begun_own t.world.setup.kind you op a)) n;
       step = λ you a l is at. subst (λ u. Pays n t u 0) (sym (traced_step_is t you a l is at)) (steps t you a is l at n);
       gave_up = λ you a l o is at given. gave_up you a l o is given;
       at_rest = λ you a l is at may. stays t you a is (with_actor t.world you (rested a)) (rested a) (λ k. 0) refl (omega arith) n;
     })
   where
-    gave_up : (you : ℕ) (a : Actor) (l : Line) (o : Outcome) → actor_of t.world you ≡ Some a → gives_up (t.world.steps + 1) a l ≡ Some o → Pays n t (record t { world = after_outcome t.world you a t.world.shared o }) 0
+    gave_up : (you : ℕ) (a : Actor) (l : Line) (o : Outcome) → actor_of t.world you ≡ Some a → gives_up (t.world.steps + 1) a l ≡ Some o
+        → Pays n t (record t { world = after_outcome t.world you a t.world.shared o }) 0
     gave_up you a l o is given =
         let b : Actor = record o.actor { entry = Some (entry_or a.entry (length t.world.operations)) } in
         let none : o.actor.line ≡ None = some_of (λ o. o.actor.line ≡ None) (gives_up (t.world.steps + 1) a l) o given (given_none (t.world.steps + 1) a l) in
@@ -89,10 +100,16 @@ run_pays : (n : ℕ) (ms : List AnyMove) (t u : Traced) → trace ms t ≡ Some 
 run_pays n [] t u led = omega (arith, ap (λ (v : Traced). takes_on (v.paths n)) (same_Some t u led), ap (λ (v : Traced). lacks v.world n) (same_Some t u led))
 run_pays n (m ∷ ms) t u led = go (next_any t.world m) refl led (λ v. run_pays n ms v u)
   where
-    go : (o : Option World) → next_any t.world m ≡ o → traced_on (trace ms) (traced_next t m o) ≡ Some u → ((v : Traced) → trace ms v ≡ Some u → Pays n v u (count_by (begins_push_of n) ms)) → Pays n t u (count_by (begins_push_of n) (m ∷ ms))
+    go : (o : Option World) → next_any t.world m ≡ o → traced_on (trace ms) (traced_next t m o) ≡ Some u
+        → ((v : Traced) → trace ms v ≡ Some u → Pays n v u (count_by (begins_push_of n) ms)) → Pays n t u (count_by (begins_push_of n) (m ∷ ms))
     go None f g each = absurd (none-some u g)
     go (Some w) f g each =
-        omega (arith, each (traced_move t m w) g, some_of (λ v. Pays n t (traced_move t m v) (one n m)) (next_any t.world m) w f (move_pays n t m), sum_by-cons (λ x. if begins_push_of n x then 1 else 0) m ms)
+        omega (
+          arith,
+          each (traced_move t m w) g,
+          some_of (λ v. Pays n t (traced_move t m v) (one n m)) (next_any t.world m) w f (move_pays n t m),
+          sum_by-cons (λ x. if begins_push_of n x then 1 else 0) m ms,
+        )
 
 pub each_takes_nodes : OfRuns (EachTakesNodes 1 1)
 each_takes_nodes was t moves r led n = omega (arith, run_pays n moves was t led)

@@ -42,13 +42,37 @@ note-deeds : (k k' : Known) → k'.notes ≡ k.notes ++ length k'.seen ∷ [] �
 note-deeds k k' h = h ∙ ap (λ n. k.notes ++ n ∷ []) (sym (length-map k'.seen deed_of))
 
 pub empty-deeds : (k k' : Known) → FoundEmpty k k' → FindsDone (λ ds. RunsTo ds false []) (known_by_deeds k) (known_by_deeds k')
-empty-deeds k k' h = record { number = h.number; between = deeds_of h.between; seen = behind k.seen k'.seen h.between h.seen; leaves = RunsTo-deeds k'.seen false [] h.empty; mine = ap deeds_of h.mine; notes = note-deeds k k' h.notes }
+empty-deeds k k' h = record {
+  number = h.number;
+  between = deeds_of h.between;
+  seen = behind k.seen k'.seen h.between h.seen;
+  leaves =
+      RunsTo-deeds k'.seen false [] h.empty;
+  mine = ap deeds_of h.mine;
+  notes = note-deeds k k' h.notes;
+}
 
 shut-deeds : (k k' : Known) → FoundShut k k' → FindsDone RunsToShut (known_by_deeds k) (known_by_deeds k')
-shut-deeds k k' h = record { number = h.number; between = deeds_of h.between; seen = behind k.seen k'.seen h.between h.seen; leaves = RunsToShut-deeds k'.seen h.shut; mine = ap deeds_of h.mine; notes = note-deeds k k' h.notes }
+shut-deeds k k' h = record {
+  number = h.number;
+  between = deeds_of h.between;
+  seen = behind k.seen k'.seen h.between h.seen;
+  leaves =
+      RunsToShut-deeds k'.seen h.shut;
+  mine = ap deeds_of h.mine;
+  notes = note-deeds k k' h.notes;
+}
 
 shut_empty-deeds : (k k' : Known) → FoundShutEmpty k k' → FindsDone (λ ds. RunsTo ds true []) (known_by_deeds k) (known_by_deeds k')
-shut_empty-deeds k k' h = record { number = h.number; between = deeds_of h.between; seen = behind k.seen k'.seen h.between h.seen; leaves = RunsTo-deeds k'.seen true [] h.empty; mine = ap deeds_of h.mine; notes = note-deeds k k' h.notes }
+shut_empty-deeds k k' h = record {
+  number = h.number;
+  between = deeds_of h.between;
+  seen = behind k.seen k'.seen h.between h.seen;
+  leaves =
+      RunsTo-deeds k'.seen true [] h.empty;
+  mine = ap deeds_of h.mine;
+  notes = note-deeds k k' h.notes;
+}
 
 pub push_refused-deeds : (k k' : Known) (refusal : Refusal) → PushRefused k refusal k' → PushRefusedOf (known_by_deeds k) refusal (known_by_deeds k')
 push_refused-deeds k k' Closed h = shut-deeds k k' h

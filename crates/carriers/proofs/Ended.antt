@@ -48,7 +48,8 @@ doer-deed (Pop seat taken) = refl
 doer-deed (Shut seat) = refl
 
 -- and so are sums of them
-sums-deeds : (p : Entry → Bool) (p' : Deed ℕ → Bool) → ((e : Entry) → p' (deed_of e) ≡ p e) → (ks : List Known) → sum_by (λ (k : KnownOf ℕ). count_by p' k.mine) (map known_by_deeds ks) ≡ sum_by (λ (k : Known). count_by p k.mine) ks
+sums-deeds : (p : Entry → Bool) (p' : Deed ℕ → Bool) → ((e : Entry) → p' (deed_of e) ≡ p e) → (ks : List Known)
+    → sum_by (λ (k : KnownOf ℕ). count_by p' k.mine) (map known_by_deeds ks) ≡ sum_by (λ (k : Known). count_by p k.mine) ks
 sums-deeds p p' same [] = refl
 sums-deeds p p' same (k ∷ ks) =
     sum_by-cons (λ (k : KnownOf ℕ). count_by p' k.mine) (known_by_deeds k) (map known_by_deeds ks)
@@ -66,14 +67,21 @@ back f P Q so None h = absurd h
 
 -- an entry of one of the seats is so as a deed
 of_one-deed : (seats : List Known) (e : Entry) → IsOfOne seats e → IsOfOneOf (map known_by_deeds seats) (deed_of e)
-of_one-deed seats e h =
-    (h.0, subst (λ o. IsSomeAnd o (λ k. doer_of (deed_of e) ≡ k.number)) (sym (slice_get-map known_by_deeds seats h.0)) (there known_by_deeds (λ k. seat_of e ≡ k.number) (λ k. doer_of (deed_of e) ≡ k.number) (λ k same. doer-deed e ∙ same) (slice_get seats h.0) h.1))
+of_one-deed seats e h = (
+  h.0,
+  subst (λ o. IsSomeAnd o (λ k. doer_of (deed_of e) ≡ k.number)) (sym (slice_get-map known_by_deeds seats h.0))
+      (there known_by_deeds (λ k. seat_of e ≡ k.number) (λ k. doer_of (deed_of e) ≡ k.number) (λ k same. doer-deed e ∙ same) (slice_get seats h.0)
+      h.1),
+)
 
 -- and all seats are all
 all-deeds : (permits : List Permit) (seats : List Known) → AreAllOf permits (map known_by_deeds seats) → AreAll permits seats
 all-deeds permits seats all n low high =
-    let h = all n low high in
-    (h.0, back known_by_deeds (λ k. k.number ≡ n) (λ k. k.number ≡ n) (λ k same. same) (slice_get seats h.0) (subst (λ o. IsSomeAnd o (λ k. k.number ≡ n)) (slice_get-map known_by_deeds seats h.0) h.1))
+    let h = all n low high in (
+      h.0,
+      back known_by_deeds (λ k. k.number ≡ n) (λ k. k.number ≡ n) (λ k same. same) (slice_get seats h.0)
+          (subst (λ o. IsSomeAnd o (λ k. k.number ≡ n)) (slice_get-map known_by_deeds seats h.0) h.1),
+    )
 
 -- a beginning of entries is one of deeds
 begins-deeds : (history : List Entry) (k : Known) → IsPrefix k.seen history → IsPrefix (known_by_deeds k).seen (deeds_of history)
@@ -84,7 +92,8 @@ each-deeds : (P : Known → Type 0) (Q : KnownOf ℕ → Type 0) → ((k : Known
 each-deeds P Q so seats h = All-map Q known_by_deeds seats (All-weaker P (λ k. Q (known_by_deeds k)) so seats h)
 
 -- a closed queue of numbers is closed by deeds
-pub Closes-deeds : (permits : List Permit) (seats : List Known) (rest : Rest) → Closes permits seats rest → ClosesWith permits (map known_by_deeds seats) (map item_taken (left_of rest)) (taken_of rest) (whole_of rest) (was_shut_of rest)
+pub Closes-deeds : (permits : List Permit) (seats : List Known) (rest : Rest) → Closes permits seats rest
+    → ClosesWith permits (map known_by_deeds seats) (map item_taken (left_of rest)) (taken_of rest) (whole_of rest) (was_shut_of rest)
 Closes-deeds permits seats rest h =
     let pops = sums-deeds is_pop is_popping popping-deed seats in
     let pushes = sums-deeds is_push is_pushing pushing-deed seats in
@@ -101,6 +110,7 @@ Closes-deeds permits seats rest h =
         λ whole. let made = h.whole.0 whole in (pops ∙ made.0, pushes ∙ made.1 ∙ ap (λ n. taken_of rest + n) (sym many), λ shut. subst (λ n. 1 ≤ n) (sym shuts) (made.2 shut)),
         λ made. h.whole.1 (sym pops ∙ made.0, sym pushes ∙ made.1 ∙ ap (λ n. taken_of rest + n) many, λ shut. subst (λ n. 1 ≤ n) shuts (made.2 shut)),
       );
-      theirs = λ whole. All-map (IsOfOneOf (map known_by_deeds seats)) deed_of h.history (All-weaker (IsOfOne seats) (λ e. IsOfOneOf (map known_by_deeds seats) (deed_of e)) (of_one-deed seats) h.history (h.theirs whole));
+      theirs = λ whole. All-map (IsOfOneOf (map known_by_deeds seats)) deed_of h.history
+          (All-weaker (IsOfOne seats) (λ e. IsOfOneOf (map known_by_deeds seats) (deed_of e)) (of_one-deed seats) h.history (h.theirs whole));
       all = λ all. h.all (all-deeds permits seats all);
     }

@@ -8,14 +8,16 @@ use Rattle.carriers.specs.Values.{values_pushed, values_popped}
 
 module _ {A : Type 0} where
   -- deeds and further ones lead somewhere by what the first of them lead to
-  pub runs_split : (q : List (ItemOf A)) (s : Bool) (ds es : List (Deed A)) (q' : List (ItemOf A)) (s' : Bool) → Runs q s (ds ++ es) q' s' → (r : List (ItemOf A)) × (b : Bool) × Runs q s ds r b × Runs r b es q' s'
+  pub runs_split : (q : List (ItemOf A)) (s : Bool) (ds es : List (Deed A)) (q' : List (ItemOf A)) (s' : Bool) → Runs q s (ds ++ es) q' s'
+      → (r : List (ItemOf A)) × (b : Bool) × Runs q s ds r b × Runs r b es q' s'
   runs_split q s [] es q' s' h = (q, s, (refl, refl), h)
   runs_split q s (did_push n x ∷ ds) es q' s' h = let r = runs_split (q ++ item n x ∷ []) s ds es q' s' h.1 in (r.0, r.1, (h.0, r.2), r.3)
   runs_split q s (did_pop n t ∷ ds) es q' s' h = let r = runs_split h.0 s ds es q' s' h.2 in (r.0, r.1, (h.0, h.1, r.2), r.3)
   runs_split q s (did_shut n ∷ ds) es q' s' h = let r = runs_split q true ds es q' s' h.1 in (r.0, r.1, (h.0, r.2), r.3)
 
   -- what deeds lead to, further ones lead on from
-  pub runs_join : (q : List (ItemOf A)) (s : Bool) (ds es : List (Deed A)) (r : List (ItemOf A)) (b : Bool) (q' : List (ItemOf A)) (s' : Bool) → Runs q s ds r b → Runs r b es q' s' → Runs q s (ds ++ es) q' s'
+  pub runs_join : (q : List (ItemOf A)) (s : Bool) (ds es : List (Deed A)) (r : List (ItemOf A)) (b : Bool) (q' : List (ItemOf A)) (s' : Bool)
+      → Runs q s ds r b → Runs r b es q' s' → Runs q s (ds ++ es) q' s'
   runs_join q s [] es r b q' s' h k = subst (λ (y : List (ItemOf A)). Runs y s es q' s') (sym h.0) (subst (λ (y : Bool). Runs r y es q' s') (sym h.1) k)
   runs_join q s (did_push n x ∷ ds) es r b q' s' h k = (h.0, runs_join (q ++ item n x ∷ []) s ds es r b q' s' h.1 k)
   runs_join q s (did_pop n t ∷ ds) es r b q' s' h k = (h.0, h.1, runs_join h.0 s ds es r b q' s' h.2 k)
@@ -37,7 +39,8 @@ module _ {A : Type 0} where
   run-first before after run = let r = runs_split [] false before after run.0 run.1 run.2 in (r.0, r.1, r.2)
 
   -- what a pop takes was pushed just behind all that was popped before it
-  pub run-front : (before after : List (Deed A)) (seat : ℕ) (front : ItemOf A) → IsRun (before ++ did_pop seat front ∷ after) → (rest : List (ItemOf A)) × (values_pushed before ≡ values_popped before ++ front ∷ rest)
+  pub run-front : (before after : List (Deed A)) (seat : ℕ) (front : ItemOf A) → IsRun (before ++ did_pop seat front ∷ after)
+      → (rest : List (ItemOf A)) × (values_pushed before ≡ values_popped before ++ front ∷ rest)
   run-front before after seat front run =
       let r = runs_split [] false before (did_pop seat front ∷ after) run.0 run.1 run.2 in
       (r.3.0, pushed-RunsTo before r.1 r.0 r.2 ∙ ap (λ y. values_popped before ++ y) r.3.1)

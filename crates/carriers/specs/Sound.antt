@@ -24,11 +24,15 @@ value_or d (Value v) = v
 value_or d _ = d
 
 -- entries that lead from a queue to another lead there as deeds
-runs-deeds : (es : List Entry) (shut : Bool) (values : List Taken) (after : Queue) → Plays (record { values = values; shut = shut }) es after → Runs (map item_taken values) shut (deeds_of es) (map item_taken after.values) after.shut
+runs-deeds : (es : List Entry) (shut : Bool) (values : List Taken) (after : Queue) → Plays (record { values = values; shut = shut }) es after
+    → Runs (map item_taken values) shut (deeds_of es) (map item_taken after.values) after.shut
 runs-deeds [] shut values after h = (ap (λ (q : Queue). map item_taken q.values) h, ap (λ (q : Queue). q.shut) h)
 runs-deeds (Push seat body ∷ es) false values after h =
-    let v : Taken = record { from = seat; body = body } in
-    (refl, subst (λ (y : List (ItemOf ℕ)). Runs y false (deeds_of es) (map item_taken after.values) after.shut) (map-append item_taken values (v ∷ [])) (runs-deeds es false (values ++ v ∷ []) after h.1))
+    let v : Taken = record { from = seat; body = body } in (
+      refl,
+      subst (λ (y : List (ItemOf ℕ)). Runs y false (deeds_of es) (map item_taken after.values) after.shut)
+          (map-append item_taken values (v ∷ [])) (runs-deeds es false (values ++ v ∷ []) after h.1),
+    )
 runs-deeds (Push seat body ∷ es) true values after h = absurd (let e : Refused Closed ≡ Done = h.0 in cc)
 runs-deeds (Pop seat value ∷ es) shut (v ∷ vs) after h =
     (map item_taken vs, ap (λ (t : Taken). item_taken t ∷ map item_taken vs) (ap (value_or v) h.0), runs-deeds es shut vs after h.1)

@@ -8,7 +8,8 @@ use Rattle.deliveries.specs.Deliveries.{sent, taken_of}
 use Rattle.deliveries.proofs.Deliveries.{taken-in_order}
 
 -- by what both know, which is sound, and of one history
-pub met_in_order : {A : Type 0} (permits : List Permit) (giver taker : KnownOf A) → IsSoundOf permits giver → IsSoundOf permits taker → giver.seen ≡ taker.seen → Sublist (taken_of giver.number taker.mine) (sent giver.mine)
+pub met_in_order : {A : Type 0} (permits : List Permit) (giver taker : KnownOf A) → IsSoundOf permits giver → IsSoundOf permits taker
+    → giver.seen ≡ taker.seen → Sublist (taken_of giver.number taker.mine) (sent giver.mine)
 met_in_order permits giver taker gave took same =
     subst (λ es. Sublist (taken_of giver.number es) (sent giver.mine)) (ap (own_deeds taker.number) same ∙ took.own)
     (subst (λ es. Sublist (taken_of giver.number (own_deeds taker.number giver.seen)) (sent es)) gave.own (taken-in_order giver.seen gave.run giver.number taker.number))

@@ -46,14 +46,16 @@ module _ {C A S : Type 0} {carrier : Ghosts C A S} (prop : (q : C) (s : S) → I
       (∥∥₁_elim h.sits (×_prop (prop q h.seat) (may_pop-prop (carrier.permits q) (carrier.known h.seat).number)) (λ x. x))
 
   -- a sender's seat after a call that leaves it the queue's, with its number, is so too
-  pub sender_stays : (b : BlockingCarrier C) (h : Sender C A S carrier) → b ≡ h.queue.value → (after : S) → carrier.is_seat (queue_of b) after → (carrier.known after).number ≡ (carrier.known h.seat).number
+  pub sender_stays : (b : BlockingCarrier C) (h : Sender C A S carrier) → b ≡ h.queue.value → (after : S) → carrier.is_seat (queue_of b) after
+      → (carrier.known after).number ≡ (carrier.known h.seat).number
       → ∥ IsGiver carrier.is_seat carrier.permits carrier.known (queue_of h.queue.value) after ∥₁
   sender_stays b h e after here same =
       ∣ subst (λ x. IsGiver carrier.is_seat carrier.permits carrier.known (queue_of x) after) e
       (here, subst (λ n. MayPush (carrier.permits (queue_of b)) n) (sym same) (sender_in b h e).1) ∣₁
 
   -- a receiver's seat after a call that leaves it the queue's, with its number, is so too
-  pub receiver_stays : (b : BlockingCarrier C) (h : Receiver C A S carrier) → b ≡ h.queue.value → (after : S) → carrier.is_seat (queue_of b) after → (carrier.known after).number ≡ (carrier.known h.seat).number
+  pub receiver_stays : (b : BlockingCarrier C) (h : Receiver C A S carrier) → b ≡ h.queue.value → (after : S) → carrier.is_seat (queue_of b) after
+      → (carrier.known after).number ≡ (carrier.known h.seat).number
       → ∥ IsTaker carrier.is_seat carrier.permits carrier.known (queue_of h.queue.value) after ∥₁
   receiver_stays b h e after here same =
       ∣ subst (λ x. IsTaker carrier.is_seat carrier.permits carrier.known (queue_of x) after) e

@@ -83,7 +83,8 @@ pub colours_named-none : (o : Option (Bor Text)) (found : Option Text) → optio
 colours_named-none o found told is = rw (← told, is) refl
 
 -- the number that was read of an option, or another one
-pub SaysNumberIn-read : {E : Type 0} (bits : ℕ) (gives : List ℕ → Result ℕ E → Type 0) → ((t : List ℕ) (r : Result ℕ E) → gives t r → ParsesUnsigned bits 10 t r) → (o : Option Text) (r : Option ℕ) (other : ℕ)
+pub SaysNumberIn-read : {E : Type 0} (bits : ℕ) (gives : List ℕ → Result ℕ E → Type 0)
+    → ((t : List ℕ) (r : Result ℕ E) → gives t r → ParsesUnsigned bits 10 t r) → (o : Option Text) (r : Option ℕ) (other : ℕ)
     → (o ≡ None → r ≡ None) → ((t : List ℕ) → o ≡ Some t → ReadsOne gives t r) → SaysNumberIn bits o other (unwrap_or r other)
 SaysNumberIn-read bits gives parses None r other none value = rw (none refl) refl
 SaysNumberIn-read bits gives parses (Some t) None other none value = let read = value t refl in inr (parses t (Err read.0) read.1, refl)

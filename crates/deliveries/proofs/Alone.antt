@@ -36,7 +36,8 @@ module _ {A : Type 0} (giver : ℕ) where
       ∙ ap (λ l. value_of giver t ++ l) (taken-own permits me only ds (All-tail (IsPermittedDeed permits) (did_pop n t) ds may))
 
 -- so it is a beginning of what the giver pushed
-pub lone_beginning : {A : Type 0} (permits : List Permit) (k : KnownOf A) → IsSoundOf permits k → OnlyPops permits k.number → (giver : ℕ) → IsPrefix (taken_of giver k.mine) (sent (own_deeds giver k.seen))
+pub lone_beginning : {A : Type 0} (permits : List Permit) (k : KnownOf A) → IsSoundOf permits k → OnlyPops permits k.number → (giver : ℕ)
+    → IsPrefix (taken_of giver k.mine) (sent (own_deeds giver k.seen))
 lone_beginning permits k sound only giver =
     let left = sound.run.0 in
     let mine = ap (taken_of giver) (sym sound.own) ∙ taken-own giver permits k.number only k.seen sound.permitted in

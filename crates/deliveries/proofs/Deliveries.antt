@@ -52,7 +52,8 @@ module _ {A : Type 0} where
   sent-RunsTo ds shut left h giver = taken-then_left giver [] false ds left shut h
 
   -- a deed that is one's own or not
-  own_or_not : (giver : ℕ) (b : Bool) (d : Deed A) (own ds : List (Deed A)) → Sublist (taken_of giver own) (taken_of giver ds) → Sublist (taken_of giver (cond b (d ∷ own) own)) (taken_of giver (d ∷ ds))
+  own_or_not : (giver : ℕ) (b : Bool) (d : Deed A) (own ds : List (Deed A)) → Sublist (taken_of giver own) (taken_of giver ds)
+      → Sublist (taken_of giver (cond b (d ∷ own) own)) (taken_of giver (d ∷ ds))
   own_or_not giver true d own ds h = sublist_append (sublist_refl (value_taken giver d)) h
   own_or_not giver false d own ds h = sublist_append (nil-sublist (value_taken giver d)) h
 

@@ -43,7 +43,8 @@ module _ {A : Type 0} where
       let f : Deed A → ℕ = λ d. cond (is_popping d) 1 0 in
       let b = count_by is_popping before in
       let c = count_by is_popping between in
-      let all : count_by is_popping (before ++ did_pop seat front ∷ between) ≡ b + (1 + c) = sum_by-append f before (did_pop seat front ∷ between) ∙ ap (λ n. b + n) (sum_by-cons f (did_pop seat front) between) in
+      let all : count_by is_popping (before ++ did_pop seat front ∷ between) ≡ b + (1 + c) =
+      sum_by-append f before (did_pop seat front ∷ between) ∙ ap (λ n. b + n) (sum_by-cons f (did_pop seat front) between) in
       omega (arith, all)
 
   -- of no kind of value more are popped than were pushed

@@ -80,7 +80,8 @@ module _ {A Y : Type 0} (f : Deed A → List Y) where
       (one_part d ds ns apart one.0 one.1)
 
   -- the same by what each seat did
-  seats_parts : (ds : List (Deed A)) (ks : List (KnownOf A)) → All (λ k. own_deeds k.number ds ≡ k.mine) ks → parts (map (λ (k : KnownOf A). k.number) ks) ds ≡ flat_map (λ (k : KnownOf A). flat_map f k.mine) ks
+  seats_parts : (ds : List (Deed A)) (ks : List (KnownOf A)) → All (λ k. own_deeds k.number ds ≡ k.mine) ks
+      → parts (map (λ (k : KnownOf A). k.number) ks) ds ≡ flat_map (λ (k : KnownOf A). flat_map f k.mine) ks
   seats_parts ds [] h = refl
   seats_parts ds (k ∷ ks) h =
       ap (λ l. flat_map f l ++ parts (map (λ (k : KnownOf A). k.number) ks) ds) (All-head (λ (k : KnownOf A). own_deeds k.number ds ≡ k.mine) k ks h)
@@ -98,11 +99,13 @@ module _ {A Y : Type 0} (f : Deed A → List Y) where
       → IsPermutation (flat_map f ds) (flat_map (λ (k : KnownOf A). flat_map f k.mine) ks)
   by_seats ds ks apart own theirs =
       subst (IsPermutation (flat_map f ds)) (seats_parts ds ks own)
-      (all_parts (map (λ (k : KnownOf A). k.number) ks) apart ds (All-weaker (IsOfOneOf ks) (λ d. (i : ℕ) × IsSomeAnd (slice_get (map (λ (k : KnownOf A). k.number) ks) i) (λ n. doer_of d ≡ n)) (λ d. number_at d ks) ds theirs))
+      (all_parts (map (λ (k : KnownOf A). k.number) ks) apart ds (All-weaker (IsOfOneOf ks)
+      (λ d. (i : ℕ) × IsSomeAnd (slice_get (map (λ (k : KnownOf A). k.number) ks) i) (λ n. doer_of d ≡ n)) (λ d. number_at d ks) ds theirs))
 
 module _ {A : Type 0} where
   -- each value that these seats pushed was popped by one of them, or is left, once
-  pub handed_over_once : (permits : List Permit) (ks : List (KnownOf A)) (rest : RestOf A) → ClosesOf permits ks rest → IsTrue (whole_in rest) → IsDistinct nat_eq (map (λ (k : KnownOf A). k.number) ks)
+  pub handed_over_once : (permits : List Permit) (ks : List (KnownOf A)) (rest : RestOf A) → ClosesOf permits ks rest → IsTrue (whole_in rest)
+      → IsDistinct nat_eq (map (λ (k : KnownOf A). k.number) ks)
       → IsPermutation (pushed_by ks) (popped_by ks ++ left_in rest)
   handed_over_once permits ks rest closed whole apart =
       let h = closed.history in

@@ -1,5 +1,6 @@
 -- Which jobs have a result after results were added.
-use Rattle.std.proofs.Common.{◌≡◌, ◌∙◌, ◌⊎◌, inl, inr, sym, refl, ap, subst, ℕ, zero, suc, ◌+◌, ◌-◌, ◌<◌, List, [], ◌∷◌, map, length, replicate, Option, Some, None, Result, Ok, Err, slice_get, slice_set, arith}
+use Rattle.std.proofs.Common.{◌≡◌, ◌∙◌, ◌⊎◌, inl, inr, sym, refl, ap, subst, ℕ, zero, suc, ◌+◌, ◌-◌, ◌<◌, List, [], ◌∷◌, map, length, replicate}
+use Rattle.std.proofs.Common.{Option, Some, None, Result, Ok, Err, slice_get, slice_set, arith}
 use Rattle.std.specs.List.{Contains}
 use Rattle.std.specs.Result.{OnOk, OnErr, IfErr}
 use Rattle.std.proofs.lemmas.List.{length-map}
@@ -64,13 +65,15 @@ low_place (x ∷ found) zero o at = omega arith
 low_place (x ∷ found) (suc i) o at = let low = low_place found i o at in omega (arith, low)
 
 -- a result of a job in the list is there once it was added, or refused since there is one
-pub filled_one : (g g' : Gather) (r : JobResult) (answer : Result (Unit {0}) Refusal) → IsListed (jobs_in g) r → OnOk answer (Adds g r g') → OnErr answer (g' ≡ g) → IfErr answer (RefusesToAdd g r) → Fills (found_in g) (number_in r ∷ []) (found_in g')
+pub filled_one : (g g' : Gather) (r : JobResult) (answer : Result (Unit {0}) Refusal) → IsListed (jobs_in g) r → OnOk answer (Adds g r g')
+    → OnErr answer (g' ≡ g) → IfErr answer (RefusesToAdd g r) → Fills (found_in g) (number_in r ∷ []) (found_in g')
 filled_one g g' r (Ok done) listed adds same why p (inl h) = subst (λ f. IsFilled f p) (sym adds.put) (keeps_set (found_in g) (number_in r - 1) p r h)
 filled_one g g' r (Ok done) listed adds same why p (inr c) =
     let one = listed.0 in
     let e : number_in r ≡ p + 1 = only_one c in
     let place : number_in r - 1 ≡ p = omega (arith, e) in
-    subst (λ f. IsFilled f p) (sym adds.put) (subst (λ i. IsFilled (slice_set (found_in g) (number_in r - 1) (Some r)) i) place (fills_set (found_in g) (number_in r - 1) r (low_place (found_in g) (number_in r - 1) None adds.missing)))
+    subst (λ f. IsFilled f p) (sym adds.put) (subst (λ i. IsFilled (slice_set (found_in g) (number_in r - 1) (Some r)) i) place
+    (fills_set (found_in g) (number_in r - 1) r (low_place (found_in g) (number_in r - 1) None adds.missing)))
   where
     only_one : Contains (number_in r ∷ []) (p + 1) → number_in r ≡ p + 1
     only_one (zero, low, e) = e
@@ -106,7 +109,9 @@ length-job_rows first [] = refl
 length-job_rows first (job ∷ jobs) = ap suc (length-job_rows (first + 1) jobs)
 
 -- where all jobs have a result, and none had one before, each has a number of those that were added
-pub came_all : (jobs : List Job) (found found' : List (Option JobResult)) (results : List JobResult) (numbers : List ℕ) → found ≡ replicate (length jobs) None → OnlyAdds found numbers found' → map (λ r. Some r) results ≡ found' → map row_of results ≡ job_rows 1 jobs → Came (length jobs) numbers
+pub came_all : (jobs : List Job) (found found' : List (Option JobResult)) (results : List JobResult) (numbers : List ℕ)
+    → found ≡ replicate (length jobs) None → OnlyAdds found numbers found' → map (λ r. Some r) results ≡ found' → map row_of results ≡ job_rows 1 jobs
+    → Came (length jobs) numbers
 came_all jobs found found' results numbers none adds all rows p low =
     let long : length results ≡ length jobs = sym (length-map results row_of) ∙ ap length rows ∙ length-job_rows 1 jobs in
     elim (adds p (subst (λ f. IsFilled f p) all (filled_some results p (omega (arith, low, long))))) [

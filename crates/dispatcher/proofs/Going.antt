@@ -105,7 +105,8 @@ module _ {Q S : Type 0} (is_seat : Q → S → Type 0) (known : S → Known) (qu
   all_kept (t ∷ ts) (w ∷ ws) all = ((all.0.seat, all.0.number), all_kept ts ws all.1)
 
   -- so the numbers of jobs that all have a result went over the queue
-  pub went_over : (giver : S) (takers : List S) (run : JobsRun S) (n : ℕ) (seats : List S) → HasRun is_seat known queue jobs giver takers run → Came n (numbers_in run.workers.items) → seats ≡ run.giver.seat ∷ seats_in run.workers.items
+  pub went_over : (giver : S) (takers : List S) (run : JobsRun S) (n : ℕ) (seats : List S) → HasRun is_seat known queue jobs giver takers run
+      → Came n (numbers_in run.workers.items) → seats ≡ run.giver.seat ∷ seats_in run.workers.items
       → WentOver is_seat known queue giver takers n seats
   went_over giver takers run n seats h came same =
       let ws = run.workers.items in

@@ -1,5 +1,6 @@
 -- Each number that was pushed is answered once, or left, once the queue is closed by all its seats.
-use Rattle.std.proofs.Common.{◌≡◌, ◌∙◌, ◌≢◌, ◌+◌, ◌<◌, ◌≤◌, inl, inr, sym, refl, ap, subst, ℕ, zero, suc, Bool, false, cond, nat_eq, eq-eqb, ne_eqb, List, [], ◌∷◌, ◌++◌, map, length, Option, Some, None, IsSomeAnd, slice_get, append-nil, eq-or-lt_of_le, arith}
+use Rattle.std.proofs.Common.{◌≡◌, ◌∙◌, ◌≢◌, ◌+◌, ◌<◌, ◌≤◌, inl, inr, sym, refl, ap, subst, ℕ, zero, suc, Bool, false, cond, nat_eq, eq-eqb, ne_eqb}
+use Rattle.std.proofs.Common.{List, [], ◌∷◌, ◌++◌, map, length, Option, Some, None, IsSomeAnd, slice_get, append-nil, eq-or-lt_of_le, arith}
 use Rattle.std.specs.List.{All, AllZip, count_by, sum_by}
 use mathlib.Core.List.{IsPrefix}
 use Rattle.std.proofs.lemmas.List.{map-append}
@@ -146,7 +147,8 @@ module _ (n : ℕ) where
           ∙ pops_times k.number b.done.values
           ∙ ap (times n) (sym (numbers_are jobs b.done.values w.results.items b.done.done))
 
-      workers_times : (takers : List S) (ws : List (Back S)) → AllZip (IsBack is_seat known queue jobs) takers ws → All (λ k. k.mine ≡ []) (map known takers) → sum_by (λ k. count_by (takes n) k.mine) (map known (seats_in ws)) ≡ times n (numbers_in ws)
+      workers_times : (takers : List S) (ws : List (Back S)) → AllZip (IsBack is_seat known queue jobs) takers ws
+          → All (λ k. k.mine ≡ []) (map known takers) → sum_by (λ k. count_by (takes n) k.mine) (map known (seats_in ws)) ≡ times n (numbers_in ws)
       workers_times [] [] all unused = refl
       workers_times [] (w ∷ ws) all unused = absurd all
       workers_times (t ∷ ts) [] all unused = absurd all
@@ -184,7 +186,8 @@ module _ {Q S : Type 0} (is_seat : Q → S → Type 0) (known : S → Known) (qu
   back = map known (seats_in ws)
 
   -- the seats that came back have the numbers of those that were handed in
-  same_at : (ts : List S) (us : List (Back S)) → AllZip (IsBack is_seat known queue jobs) ts us → (i : ℕ) (k : Known) → slice_get (map known (seats_in us)) i ≡ Some k → (t : Known) × (slice_get (map known ts) i ≡ Some t) × (k.number ≡ t.number)
+  same_at : (ts : List S) (us : List (Back S)) → AllZip (IsBack is_seat known queue jobs) ts us → (i : ℕ) (k : Known)
+      → slice_get (map known (seats_in us)) i ≡ Some k → (t : Known) × (slice_get (map known ts) i ≡ Some t) × (k.number ≡ t.number)
   same_at [] [] all i k at = absurd (let e : None ≡ Some k = at in cc)
   same_at [] (u ∷ us) all i k at = absurd all
   same_at (t ∷ ts) [] all i k at = absurd all
@@ -201,7 +204,8 @@ module _ {Q S : Type 0} (is_seat : Q → S → Type 0) (known : S → Known) (qu
       let t = all_same_at j l at' in
       new.apart i j s.0 t.0 s.1 t.1 (sym s.2 ∙ same ∙ t.2)
 
-  back_at : (ts : List S) (us : List (Back S)) → AllZip (IsBack is_seat known queue jobs) ts us → (i n : ℕ) → IsSomeAnd (slice_get (map known ts) i) (λ k. k.number ≡ n) → IsSomeAnd (slice_get (map known (seats_in us)) i) (λ k. k.number ≡ n)
+  back_at : (ts : List S) (us : List (Back S)) → AllZip (IsBack is_seat known queue jobs) ts us → (i n : ℕ)
+      → IsSomeAnd (slice_get (map known ts) i) (λ k. k.number ≡ n) → IsSomeAnd (slice_get (map known (seats_in us)) i) (λ k. k.number ≡ n)
   back_at [] [] all i n at = at
   back_at [] (u ∷ us) all i n at = absurd all
   back_at (t ∷ ts) [] all i n at = absurd all
@@ -262,7 +266,9 @@ module _ {Q S : Type 0} (is_seat : Q → S → Type 0) (known : S → Known) (qu
         omega (arith, all, first, none, workers, took, same, parts, total)
 
   -- nothing is left where a worker found the queue shut and empty
-  found_end : (ts : List S) (us : List (Back S)) → AllZip (IsBack is_seat known queue jobs) ts us → All (λ k. IsPrefix k.seen closed.history) (map known (seats_in us)) → (i : ℕ) (w : Back S) → slice_get us i ≡ Some w → w.end ≡ Finished → left_of rest ≡ []
+  found_end : (ts : List S) (us : List (Back S)) → AllZip (IsBack is_seat known queue jobs) ts us
+      → All (λ k. IsPrefix k.seen closed.history) (map known (seats_in us)) → (i : ℕ) (w : Back S) → slice_get us i ≡ Some w → w.end ≡ Finished
+      → left_of rest ≡ []
   found_end ts [] all begins i w at fin = absurd (let e : None ≡ Some w = at in cc)
   found_end [] (u ∷ us) all begins i w at fin = absurd all
   found_end (t ∷ ts) (u ∷ us) all begins zero w at fin =

@@ -82,7 +82,8 @@ module _ {A B S T : Type 0} where
   either_alike push pushes shut shuts one two (queue.Second b) (seat.First s) (seat.First s') turns h = absurd h
 
   -- that a seat is one of a queue has at most one proof
-  pub either_prop : (first : A → S → Type 0) (second : B → T → Type 0) → ((a : A) (s : S) → IsProp (first a s)) → ((b : B) (t : T) → IsProp (second b t)) → (q : EitherQueue A B) (x : EitherSeat S T) → IsProp (IsEitherSeat first second q x)
+  pub either_prop : (first : A → S → Type 0) (second : B → T → Type 0) → ((a : A) (s : S) → IsProp (first a s))
+      → ((b : B) (t : T) → IsProp (second b t)) → (q : EitherQueue A B) (x : EitherSeat S T) → IsProp (IsEitherSeat first second q x)
   either_prop first second one two (queue.First a) (seat.First s) = one a s
   either_prop first second one two (queue.Second b) (seat.Second t) = two b t
   either_prop first second one two (queue.First a) (seat.Second t) = hlevel props

@@ -46,7 +46,8 @@ module _ {Q S V U T A F : Type 0} {is_seat : Q → S → Type 0} {permits : Q �
         let workers = length-map ws giver_in in
         h (map known' us) (omega (arith, is, these, workers))
 
-  module _ (rest : RestOf (Numbered T)) (untold : RestOf (Done A)) {ts : List S} {us : List U} (takers : ts ≡ crew.led.leader.tasks ∷ map taker_in ws) (givers : us ≡ crew.led.leader.results ∷ map giver_in ws)
+  module _ (rest : RestOf (Numbered T)) (untold : RestOf (Done A)) {ts : List S} {us : List U} (takers : ts ≡ crew.led.leader.tasks ∷ map taker_in ws)
+      (givers : us ≡ crew.led.leader.results ∷ map giver_in ws)
       (closed : ClosesOf (permits queue) (map known ts) rest) (closed' : ClosesOf (permits' results) (map known' us) untold) where
     -- nothing is left where the leader wasn't refused
     nothing : crew.led.refused ≡ None → (left_in rest ≡ []) × ((left_in untold ≡ []) × (unsent_of (map result_in ws) ≡ []))

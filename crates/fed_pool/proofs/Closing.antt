@@ -92,7 +92,8 @@ module _ {Q S V U T A : Type 0} (is_seat : Q → S → Type 0) (permits : Q → 
         (others_new is_seat permits known queue e.seats (map takes e.posts) e.leader.tasks e.split e.line)
         (others_new is_seat' permits' known' results e.seats' (map gives e.posts) e.leader.results e.split' e.line')
 
-    module _ (rest : RestOf (Numbered T)) (untold : RestOf (Done A)) (ts : List S) (us : List U) (is : ts ≡ crew.led.leader.tasks ∷ map taker_in ws) (is' : us ≡ crew.led.leader.results ∷ map giver_in ws)
+    module _ (rest : RestOf (Numbered T)) (untold : RestOf (Done A)) (ts : List S) (us : List U) (is : ts ≡ crew.led.leader.tasks ∷ map taker_in ws)
+        (is' : us ≡ crew.led.leader.results ∷ map giver_in ws)
         (closed : ClosesOf (permits queue) (map known ts) rest) (closed' : ClosesOf (permits' results) (map known' us) untold) where
       by_all : ClosesOf (permits queue) (g ∷ ks) rest
       by_all = subst (λ l. ClosesOf (permits queue) (map known l) rest) is closed
@@ -109,7 +110,8 @@ module _ {Q S V U T A : Type 0} (is_seat : Q → S → Type 0) (permits : Q → 
       results_once : IsPermutation (pushed_by (o ∷ os)) (popped_by (o ∷ os) ++ left_in untold)
       results_once =
           handed_over_once (permits' results) (o ∷ os) untold by_all'
-          (by_all'.all (every is_seat' permits' known' results e.seats' (map gives e.posts) e.leader.results e.split' e.line' o os e.led.goes.results_number (giver_numbers queue results e.posts ws e.back)))
+          (by_all'.all (every is_seat' permits' known' results e.seats' (map gives e.posts) e.leader.results e.split' e.line' o os
+          e.led.goes.results_number (giver_numbers queue results e.posts ws e.back)))
           (apart is_seat' permits' known' results e.seats' (map gives e.posts) e.leader.results e.split' e.line' o os e.led.goes.results_number (giver_numbers queue results e.posts ws e.back))
 
       abbrev so : LeadsSo answers (stands crew.led.leader.feed) g o crew.led.leader.given crew.led.leader.awaited

@@ -3,7 +3,8 @@ use Rattle.std.proofs.Common.{◌≡◌, ◌∙◌, sym, refl, ap, subst, ℕ, L
 use Rattle.std.specs.List.{AllZip}
 use Rattle.std.specs.List.Sorted.{IsPermutation}
 use Rattle.std.proofs.lemmas.List.{map-append, length-map}
-use Rattle.std.proofs.lemmas.List.Sorted.{IsPermutation-sym, IsPermutation-trans, IsPermutation-map, IsPermutation-append_left, IsPermutation-append_right, IsPermutation-append_comm, length_permutation}
+use Rattle.std.proofs.lemmas.List.Sorted.{IsPermutation-sym, IsPermutation-trans, IsPermutation-map, IsPermutation-append_left}
+use Rattle.std.proofs.lemmas.List.Sorted.{IsPermutation-append_right, IsPermutation-append_comm, length_permutation}
 use Rattle.carriers.specs.declared.items.ItemOf.{ItemOf}
 use Rattle.carriers.specs.declared.rests.RestOf.{RestOf}
 use Rattle.carriers.specs.Deeds.{item}
@@ -45,7 +46,8 @@ module _ {T A : Type 0} (answers : T → A → Type 0) (stands : List T → List
   pushed_once : IsPermutation so.pushed ((mine ++ theirs) ++ left)
   pushed_once =
       let first = ap (map value_in) ((λ i. so.pushes i ++ pushed i) ∙ append-nil (map (item g.number) so.pushed)) ∙ values-items g.number so.pushed in
-      let second = ap (map value_in) (λ i. (so.pops i ++ popped i) ++ left_in rest) ∙ map-append value_in (so.popped ++ items) (left_in rest) ∙ ap (λ l. l ++ left) (map-append value_in so.popped items) in
+      let second = ap (map value_in) (λ i. (so.pops i ++ popped i) ++ left_in rest) ∙ map-append value_in (so.popped ++ items) (left_in rest) ∙ ap
+      (λ l. l ++ left) (map-append value_in so.popped items) in
       subst (λ l. IsPermutation l ((mine ++ theirs) ++ left)) first
       (subst (IsPermutation (map value_in (pushed_by (g ∷ ks)))) second
       (IsPermutation-map value_in (pushed_by (g ∷ ks)) (popped_by (g ∷ ks) ++ left_in rest) tasks_once))
@@ -115,8 +117,13 @@ module _ {T A : Type 0} (answers : T → A → Type 0) (stands : List T → List
       let v = length-append (map value_in so.received) untold in
       let w = length-map so.received value_in in
       let l = so.still_awaited in
-      let x = length-map (left_in results) value_in in
-      (empty (left_in rest) (omega (arith, ended, a, b, c, d, e, f, z, s, t, u, v, w, l)), (empty (left_in results) (omega (arith, ended, a, b, c, d, e, f, z, s, t, u, v, w, l, x)), empty unsent (omega (arith, ended, a, b, c, d, e, f, z, s, t, u, v, w, l, x))))
+      let x = length-map (left_in results) value_in in (
+        empty (left_in rest) (omega (arith, ended, a, b, c, d, e, f, z, s, t, u, v, w, l)),
+        (
+          empty (left_in results) (omega (arith, ended, a, b, c, d, e, f, z, s, t, u, v, w, l, x)),
+          empty unsent (omega (arith, ended, a, b, c, d, e, f, z, s, t, u, v, w, l, x)),
+        ),
+      )
     where
       empty : {X : Type 0} (xs : List X) → length xs ≡ 0 → xs ≡ []
       empty [] h = refl

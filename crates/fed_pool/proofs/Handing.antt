@@ -85,7 +85,8 @@ module _ {T A : Type 0} (answers : T → A → Type 0) where
     pub leads_same : k'.number ≡ k.number → k'.mine ≡ k.mine → o'.mine ≡ o.mine → LeadsSo answers stands k' o' count awaited
     leads_same same mine mine' = leads_on same (ap values_pushed mine) (ap values_popped mine) mine'
 
-    module _ (stands' : List T → List (Done A) → Type 0) (t : T) (next : (given : List T) (told : List (Done A)) → stands given told → stands' (given ++ t ∷ []) told) (count' : ℕ) (more : count' ≡ count + 1) where
+    module _ (stands' : List T → List (Done A) → Type 0) (t : T) (next : (given : List T) (told : List (Done A)) → stands given told
+        → stands' (given ++ t ∷ []) told) (count' : ℕ) (more : count' ≡ count + 1) where
       abbrev this : Numbered T
       this = record { number = count; task = t }
 
@@ -156,7 +157,8 @@ module _ {T A : Type 0} (answers : T → A → Type 0) where
             still_awaited = h.still_awaited;
           }
 
-    module _ (stands' : List T → List (Done A) → Type 0) (d : Done A) (tell : (given : List T) (told : List (Done A)) → stands given told → stands' given (told ++ d ∷ [])) (awaited' : ℕ) (fewer : awaited ≡ awaited' + 1) where
+    module _ (stands' : List T → List (Done A) → Type 0) (d : Done A) (tell : (given : List T) (told : List (Done A)) → stands given told
+        → stands' given (told ++ d ∷ [])) (awaited' : ℕ) (fewer : awaited ≡ awaited' + 1) where
       -- a task was popped again and run here, and its result told
       pub leads_helped : (x : ItemOf (Numbered T)) → PoppedOf k x k' → IsDoneOf answers x.value d → LeadsSo answers stands' k' o count awaited'
       leads_helped x p of =
@@ -178,7 +180,8 @@ module _ {T A : Type 0} (answers : T → A → Type 0) where
             all = h.all;
             each_here = h.each_here;
             each_popped = zip-push (λ (y : ItemOf (Numbered T)) e. IsDoneOf answers y.value e) h.popped h.popped_done x d h.each_popped of;
-            came = subst (IsPermutation (h.told ++ d ∷ [])) (assoc3 (map value_in h.received) h.here_done h.popped_done (d ∷ [])) (perm_last h.told (map value_in h.received) (h.here_done ++ h.popped_done) d h.came);
+            came = subst (IsPermutation (h.told ++ d ∷ [])) (assoc3 (map value_in h.received) h.here_done h.popped_done (d ∷ []))
+                (perm_last h.told (map value_in h.received) (h.here_done ++ h.popped_done) d h.came);
             still_awaited = (
                 let l = longer h.popped x in
                 let was = h.still_awaited in

@@ -1,5 +1,6 @@
 -- The seats of a new queue, one of whom stands behind the others.
-use Rattle.std.proofs.Common.{◌≡◌, ◌∙◌, ℕ, zero, suc, ◌+◌, ◌<◌, ◌≤◌, inl, inr, sym, refl, ap, subst, false, nat_eq, List, [], ◌∷◌, ◌++◌, map, length, None, Some, IsSomeAnd, slice_get, length-append, eq-or-lt_of_le, arith}
+use Rattle.std.proofs.Common.{◌≡◌, ◌∙◌, ℕ, zero, suc, ◌+◌, ◌<◌, ◌≤◌, inl, inr, sym, refl, ap, subst, false, nat_eq, List, [], ◌∷◌, ◌++◌, map, length}
+use Rattle.std.proofs.Common.{None, Some, IsSomeAnd, slice_get, length-append, eq-or-lt_of_le, arith}
 use Rattle.std.specs.List.{All, AllByRecursion, IsDistinct}
 use Rattle.std.proofs.lemmas.Bool.Decides.{eqb_tells}
 use Rattle.std.proofs.lemmas.Map.Keys.{IsDistinct-cons}

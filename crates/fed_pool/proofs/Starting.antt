@@ -39,7 +39,9 @@ module _ {Q S V U T A : Type 0} {is_seat : Q → S → Type 0} {permits : Q → 
   pub new_posts : All (IsPost is_seat permits known is_seat' permits' known' q v) ps
   new_posts =
       on (λ q v. All (IsPost is_seat permits known is_seat' permits' known' q v) ps) (sym same) (sym same')
-      (posts_are is_seat permits known is_seat' permits' known' queue results ps (others_are is_seat permits known queue seats (map takes ps) s split line) (others_are is_seat' permits' known' results seats' (map gives ps) u split' line'))
+      (posts_are is_seat permits known is_seat' permits' known' queue results ps
+      (others_are is_seat permits known queue seats (map takes ps) s split line)
+      (others_are is_seat' permits' known' results seats' (map gives ps) u split' line'))
 
   module _ {F : Type 0} (answers : T → A → Type 0) (stands : F → List T → List (Done A) → Type 0) (feed : F) where
     abbrev leader : Leader S U F
@@ -49,8 +51,13 @@ module _ {Q S V U T A : Type 0} {is_seat : Q → S → Type 0} {permits : Q → 
     pub new_leader : stands feed [] [] → IsLeading is_seat permits known is_seat' permits' known' answers stands q v leader
     new_leader so =
         on (λ q v. IsLeading is_seat permits known is_seat' permits' known' answers stands q v leader) (sym same) (sym same')
-        (begins is_seat permits known is_seat' permits' known' answers stands queue results s u feed (last_is is_seat permits known queue seats (map takes ps) s split line) (last_may is_seat permits known queue seats (map takes ps) s split line) (last_new is_seat permits known queue seats (map takes ps) s split line)
-        (last_is is_seat' permits' known' results seats' (map gives ps) u split' line') (last_may is_seat' permits' known' results seats' (map gives ps) u split' line') (last_new is_seat' permits' known' results seats' (map gives ps) u split' line') so)
+        (begins is_seat permits known is_seat' permits' known' answers stands queue results s u feed
+        (last_is is_seat permits known queue seats (map takes ps) s split line)
+        (last_may is_seat permits known queue seats (map takes ps) s split line)
+        (last_new is_seat permits known queue seats (map takes ps) s split line)
+        (last_is is_seat' permits' known' results seats' (map gives ps) u split' line')
+        (last_may is_seat' permits' known' results seats' (map gives ps) u split' line')
+        (last_new is_seat' permits' known' results seats' (map gives ps) u split' line') so)
 
     module _ {crew : Crew S U F A} (led : HasEnded is_seat permits known is_seat' permits' known' answers stands q v leader crew.led)
         (back : AllZip (IsServed is_seat permits known is_seat' permits' known' answers q v) ps crew.workers.items) where

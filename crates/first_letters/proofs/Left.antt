@@ -37,7 +37,8 @@ module _ {A : Type 0} where
       absurd cc
 
   -- so what a seat pushed is left of it
-  all_left : (permits : List Permit) (giver taker : KnownOf A) (others : List (KnownOf A)) (rest : RestOf A) → OnlyPops permits taker.number → ClosesOf permits (giver ∷ taker ∷ others) rest → taker.mine ≡ []
+  all_left : (permits : List Permit) (giver taker : KnownOf A) (others : List (KnownOf A)) (rest : RestOf A) → OnlyPops permits taker.number
+      → ClosesOf permits (giver ∷ taker ∷ others) rest → taker.mine ≡ []
       → values_of giver.number (left_in rest) ≡ sent giver.mine
   all_left permits giver taker others rest only closed none =
       let Own = λ (k : KnownOf A). own_deeds k.number closed.history ≡ k.mine in
@@ -47,8 +48,10 @@ module _ {A : Type 0} where
       sym (ap (λ l. l ++ values_of giver.number (left_in rest)) nothing) ∙ sym (sent-RunsTo closed.history _ (left_in rest) closed.runs giver.number) ∙ ap sent gave
 
   -- of a seat of number 1 that pushed one value, of which seat 2, which alone may pop, popped nothing, that value is left
-  pub first_left : (permits : List Permit) (before giver taker : KnownOf A) (others : List (KnownOf A)) (rest : RestOf A) (value : A) → before.number ≡ 1 → before.mine ≡ [] → PushedOf before value giver
-      → taker.number ≡ 2 → taker.mine ≡ [] → ((n : ℕ) → MayPop permits n → (1 < n) × (n ≤ 1 + 1)) → ClosesOf permits (giver ∷ taker ∷ others) rest → slice_get (values_of 1 (left_in rest)) 0 ≡ Some value
+  pub first_left : (permits : List Permit) (before giver taker : KnownOf A) (others : List (KnownOf A)) (rest : RestOf A) (value : A)
+      → before.number ≡ 1 → before.mine ≡ [] → PushedOf before value giver
+      → taker.number ≡ 2 → taker.mine ≡ [] → ((n : ℕ) → MayPop permits n → (1 < n) × (n ≤ 1 + 1)) → ClosesOf permits (giver ∷ taker ∷ others) rest
+      → slice_get (values_of 1 (left_in rest)) 0 ≡ Some value
   first_left permits before giver taker others rest value one new pushed two none only closed =
       let alone : OnlyPops permits taker.number = λ n may. let o = only n may in let low = o.0 in let high = o.1 in omega (arith, low, high, two) in
       let all = all_left permits giver taker others rest alone closed none in
@@ -61,7 +64,8 @@ pub left_one : {A : Type 0} (seat : ℕ) (item : ItemOf A) (items : List (ItemOf
 left_one seat item items its = ap (λ b. slice_get (cond b (item.value ∷ []) [] ++ values_of seat items) 0) (eq-eqb item.from seat its)
 
 -- else they are those of the others
-pub left_other : {A : Type 0} (seat : ℕ) (item : ItemOf A) (items : List (ItemOf A)) (b : Bool) → nat_eq item.from seat ≡ b → (item.from ≡ seat → ⊥) → values_of seat (item ∷ items) ≡ values_of seat items
+pub left_other : {A : Type 0} (seat : ℕ) (item : ItemOf A) (items : List (ItemOf A)) (b : Bool) → nat_eq item.from seat ≡ b → (item.from ≡ seat → ⊥)
+    → values_of seat (item ∷ items) ≡ values_of seat items
 left_other seat item items true e other = absurd (other (eqb-true item.from seat e))
 left_other seat item items false e other = ap (λ b. cond b (item.value ∷ []) [] ++ values_of seat items) e
 
@@ -76,14 +80,16 @@ alone f all rest x y split same =
     (none, ap (λ l. get_or l 0 y) only)
 
 -- what is of one queue, and goes back to the list that it was taken from, of whose elements each is, leaves each of that queue
-pub put_back : {W Q : Type 0} (of : W → Q) (q : Q) (all rest new : List W) (one more : W) → all ≡ rest ++ one ∷ [] → All (λ h. of h ≡ q) all → of more ≡ of one → new ≡ rest ++ more ∷ [] → All (λ h. of h ≡ q) new
+pub put_back : {W Q : Type 0} (of : W → Q) (q : Q) (all rest new : List W) (one more : W) → all ≡ rest ++ one ∷ [] → All (λ h. of h ≡ q) all
+    → of more ≡ of one → new ≡ rest ++ more ∷ [] → All (λ h. of h ≡ q) new
 put_back {W} {Q} of q all rest new one more split was same put =
     let P = λ (h : W). of h ≡ q in
     let both = All-pop P all rest (Some one) split was in
     subst (All P) (sym put) (All-append P rest (more ∷ []) both.0 (All-cons P more [] (same ∙ both.1) (All-nil P)))
 
 -- what the seats of a waiter, of a cook and a further one know
-pub known_three : {S K W R : Type 0} (known : S → K) (sits : W → S) (sat : R → S) (waiters : List W) (cooks : List R) (o : S) (w : W) (k : K) → waiters ≡ w ∷ [] → map (λ h. known (sat h)) cooks ≡ k ∷ []
+pub known_three : {S K W R : Type 0} (known : S → K) (sits : W → S) (sat : R → S) (waiters : List W) (cooks : List R) (o : S) (w : W) (k : K)
+    → waiters ≡ w ∷ [] → map (λ h. known (sat h)) cooks ≡ k ∷ []
     → map known ((map sits waiters ++ map sat cooks) ++ o ∷ []) ≡ known (sits w) ∷ k ∷ known o ∷ []
 known_three known sits sat waiters cooks o w k one cook =
     ap (λ l. map known ((map sits l ++ map sat cooks) ++ o ∷ [])) one

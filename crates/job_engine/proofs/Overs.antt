@@ -18,7 +18,8 @@ module _ {Q S : Type 0} (is_seat : Q → S → Type 0) (known : S → Known) (qu
   as_many (w ∷ ws) [] h = absurd h
   as_many (w ∷ ws) (s ∷ ss) h = ap suc (as_many ws ss h.1)
 
-  pub is_over : (giver : S) (takers : List S) (workers jobs : ℕ) (seats : List S) → length takers ≡ workers → WentOver is_seat known queue giver takers jobs seats → IsOver is_seat known queue workers jobs seats
+  pub is_over : (giver : S) (takers : List S) (workers jobs : ℕ) (seats : List S) → length takers ≡ workers
+      → WentOver is_seat known queue giver takers jobs seats → IsOver is_seat known queue workers jobs seats
   is_over giver takers workers jobs seats many w =
       let same = as_many (giver ∷ takers) seats w.kept in
       record {

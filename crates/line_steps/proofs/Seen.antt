@@ -1,5 +1,6 @@
 -- What a read or a write of one word of the table is in the memory that is seen.
-use Rattle.std.proofs.Common.{◌≡◌, ℕ, zero, suc, ◌+◌, ◌-◌, ◌*◌, ◌/◌, ◌%◌, ◌^◌, ◌<◌, ◌≤◌, Bool, true, false, List, [], ◌∷◌, ◌++◌, length, replicate, get_or, set, drop, refl, sym, ap, subst, ◌∙◌, arith, Option, Some, None, IfSome}
+use Rattle.std.proofs.Common.{◌≡◌, ℕ, zero, suc, ◌+◌, ◌-◌, ◌*◌, ◌/◌, ◌%◌, ◌^◌, ◌<◌, ◌≤◌, Bool, true, false, List, [], ◌∷◌, ◌++◌, length, replicate}
+use Rattle.std.proofs.Common.{get_or, set, drop, refl, sym, ap, subst, ◌∙◌, arith, Option, Some, None, IfSome}
 use Rattle.std.proofs.Math.ListN.{length-set}
 use Rattle.std.proofs.lemmas.List.{drop-set-add, get_or-set_other, get_or-drop, length-drop, drop-append-le}
 use Rattle.std.proofs.lemmas.Option.{slice_get_past, slice_get-get_or}
@@ -42,7 +43,8 @@ module _ (bits : ℕ) where
       ap value_of (get_or-drop 6 ws (2 * (n - 1) + 1) 0 ∙ ap (λ p. get_or ws p 0) f)
 
   -- tables with the same first six words are seen as the same but for their nodes
-  other_nodes : (size : ℕ) (ws vs : List ℕ) (ns : List Node) → ((q : ℕ) → q < 6 → get_or vs q 0 ≡ get_or ws q 0) → padded size blank (nodes_of bits (drop 6 vs)) ≡ ns → shared_of bits size vs ≡ record (shared_of bits size ws) { nodes = ns }
+  other_nodes : (size : ℕ) (ws vs : List ℕ) (ns : List Node) → ((q : ℕ) → q < 6 → get_or vs q 0 ≡ get_or ws q 0)
+      → padded size blank (nodes_of bits (drop 6 vs)) ≡ ns → shared_of bits size vs ≡ record (shared_of bits size ws) { nodes = ns }
   other_nodes size ws vs ns f e =
       λ i. record {
         fresh = f 0 (omega arith) i;
@@ -96,7 +98,9 @@ module _ (bits : ℕ) where
   stored : (o m : Memory) → o ≡ m → (s : Shared) (x : Word) (c : Content x) → s ≡ put x c o.words → record o { words = s } ≡ accessed (store x c) m
   stored o m e s x c f = ap (λ (s : Shared). record o { words = s }) f ∙ ap (accessed (store x c)) e
 
-  pub next_stored : IsSplit bits → (o m : Memory) → o ≡ m → (size n p w : ℕ) (ws vs : List ℕ) (r : Ref) → o.words ≡ shared_of bits size ws → length ws ≡ 6 + 2 * o.room → n - 1 < m.room → p ≡ 6 + 2 * (n - 1) → w ≡ ref_word bits r → IsRef bits r → vs ≡ set ws p w → record o { words = shared_of bits size vs } ≡ accessed (store (Next n) r) m
+  pub next_stored : IsSplit bits → (o m : Memory) → o ≡ m → (size n p w : ℕ) (ws vs : List ℕ) (r : Ref) → o.words ≡ shared_of bits size ws
+      → length ws ≡ 6 + 2 * o.room → n - 1 < m.room → p ≡ 6 + 2 * (n - 1) → w ≡ ref_word bits r → IsRef bits r → vs ≡ set ws p w
+      → record o { words = shared_of bits size vs } ≡ accessed (store (Next n) r) m
   next_stored split o m e size n p w ws vs r kept len within place f h written =
       let within : n - 1 < o.room = subst (λ k. n - 1 < k) (ap (λ (m : Memory). m.room) (sym e)) within in
       stored o m e (shared_of bits size vs) (Next n) r
@@ -105,7 +109,9 @@ module _ (bits : ℕ) where
       ap (λ (r : Ref). put (Next n) r (shared_of bits size ws)) (ref_back split r w f h) ∙
       ap (put (Next n) r) (sym kept))
 
-  pub value_stored : (o m : Memory) → o ≡ m → (size n p w : ℕ) (ws vs : List ℕ) (v : Taken) → o.words ≡ shared_of bits size ws → length ws ≡ 6 + 2 * o.room → n - 1 < m.room → p ≡ 6 + 2 * (n - 1) → w ≡ value_word v → v.body < 2 ^ body_bits → vs ≡ set ws (p + 1) w → record o { words = shared_of bits size vs } ≡ accessed (store (Value_of n) v) m
+  pub value_stored : (o m : Memory) → o ≡ m → (size n p w : ℕ) (ws vs : List ℕ) (v : Taken) → o.words ≡ shared_of bits size ws
+      → length ws ≡ 6 + 2 * o.room → n - 1 < m.room → p ≡ 6 + 2 * (n - 1) → w ≡ value_word v → v.body < 2 ^ body_bits → vs ≡ set ws (p + 1) w
+      → record o { words = shared_of bits size vs } ≡ accessed (store (Value_of n) v) m
   value_stored o m e size n p w ws vs v kept len within place f h written =
       let within : n - 1 < o.room = subst (λ k. n - 1 < k) (ap (λ (m : Memory). m.room) (sym e)) within in
       stored o m e (shared_of bits size vs) (Value_of n) v
@@ -131,7 +137,10 @@ module _ (bits : ℕ) where
       (short-padded size blank (nodes_of bits (drop 6 ws)) (subst (λ k. k < length (padded size blank (nodes_of bits (drop 6 ws)))) (sym room) all))
 
   -- the memory with room for one node more
-  pub grown : (o m : Memory) → o ≡ m → (size : ℕ) (ws vs : List ℕ) (fs gs : List Bool) (room : ℕ) → o.words ≡ shared_of bits size ws → o.aside ≡ padded size false fs → length ws ≡ 6 + 2 * o.room → length fs ≡ o.room → o.room < size → vs ≡ ws ++ 0 ∷ 0 ∷ [] → gs ≡ fs ++ false ∷ [] → room ≡ o.room + 1 → record { words = shared_of bits size vs; aside = padded size false gs; room = room } ≡ record m { room = m.room + 1 }
+  pub grown : (o m : Memory) → o ≡ m → (size : ℕ) (ws vs : List ℕ) (fs gs : List Bool) (room : ℕ) → o.words ≡ shared_of bits size ws
+      → o.aside ≡ padded size false fs → length ws ≡ 6 + 2 * o.room → length fs ≡ o.room → o.room < size → vs ≡ ws ++ 0 ∷ 0 ∷ []
+      → gs ≡ fs ++ false ∷ [] → room ≡ o.room + 1 → record { words = shared_of bits size vs; aside = padded size false gs; room = room } ≡ record m
+      { room = m.room + 1 }
   grown o m e size ws vs fs gs room kept flags len all left f g h =
       let words : shared_of bits size vs ≡ o.words = ap (shared_of bits size) f ∙ pushed size o.room ws len left ∙ sym kept in
       let few : length fs < size = omega arith in
@@ -140,7 +149,9 @@ module _ (bits : ℕ) where
       ap {A = Memory} (λ m. record m { room = m.room + 1 }) e
 
   -- the memory after a node was set aside
-  pub set_aside : (o m : Memory) → o ≡ m → (size room : ℕ) (fs gs : List Bool) (node : Option ℕ) → o.aside ≡ padded size false fs → o.room ≡ length fs → IfSome node (λ n. n - 1 < m.room) → gs ≡ aside_after fs node → room ≡ length gs → record { words = o.words; aside = padded size false gs; room = room } ≡ record m { aside = aside_after m.aside node }
+  pub set_aside : (o m : Memory) → o ≡ m → (size room : ℕ) (fs gs : List Bool) (node : Option ℕ) → o.aside ≡ padded size false fs → o.room ≡ length fs
+      → IfSome node (λ n. n - 1 < m.room) → gs ≡ aside_after fs node → room ≡ length gs
+      → record { words = o.words; aside = padded size false gs; room = room } ≡ record m { aside = aside_after m.aside node }
   set_aside o m e size room fs gs None flags all within f g =
       let aside : padded size false gs ≡ o.aside = ap (padded size false) f ∙ sym flags in
       let same : room ≡ o.room = g ∙ ap length f ∙ sym all in

@@ -55,7 +55,8 @@ value_read bits m (a ∷ b ∷ ws) (suc k) e =
     rw f (value_read bits (m - 1) ws k (omega arith))
 
 -- the nodes after a word of one node was written
-pub next_put : (bits : ℕ) (m : ℕ) (ws : List ℕ) (k w : ℕ) → length ws ≡ 2 * m → k < m → nodes_of bits (set ws (2 * k) w) ≡ set (nodes_of bits ws) k (record (get_or (nodes_of bits ws) k blank) { next = ref_of bits w })
+pub next_put : (bits : ℕ) (m : ℕ) (ws : List ℕ) (k w : ℕ) → length ws ≡ 2 * m → k < m
+    → nodes_of bits (set ws (2 * k) w) ≡ set (nodes_of bits ws) k (record (get_or (nodes_of bits ws) k blank) { next = ref_of bits w })
 next_put bits m [] k w e h = absurd (omega arith)
 next_put bits m (a ∷ []) k w e h = absurd (omega arith)
 next_put bits m (a ∷ b ∷ ws) zero w e h = refl
@@ -63,7 +64,8 @@ next_put bits m (a ∷ b ∷ ws) (suc k) w e h =
     let f : 2 * suc k ≡ suc (suc (2 * k)) = omega arith in
     rw f (ap (λ ns. record { next = ref_of bits a; value = value_of b } ∷ ns) (next_put bits (m - 1) ws k w (omega arith) (omega arith)))
 
-pub value_put : (bits : ℕ) (m : ℕ) (ws : List ℕ) (k w : ℕ) → length ws ≡ 2 * m → k < m → nodes_of bits (set ws (2 * k + 1) w) ≡ set (nodes_of bits ws) k (record (get_or (nodes_of bits ws) k blank) { value = value_of w })
+pub value_put : (bits : ℕ) (m : ℕ) (ws : List ℕ) (k w : ℕ) → length ws ≡ 2 * m → k < m
+    → nodes_of bits (set ws (2 * k + 1) w) ≡ set (nodes_of bits ws) k (record (get_or (nodes_of bits ws) k blank) { value = value_of w })
 value_put bits m [] k w e h = absurd (omega arith)
 value_put bits m (a ∷ []) k w e h = absurd (omega arith)
 value_put bits m (a ∷ b ∷ ws) zero w e h = refl

@@ -30,7 +30,8 @@ OnOk-carried (Ok x) earlier P K Q same holds kept f = f (subst (λ r. OnOk r P) 
 OnOk-carried (Err e) earlier P K Q same holds kept f = tt
 
 -- what follows where a call is Ok, of which one fact or another is known by a flag
-pub OnOk-either : {A E : Type 0} (flag : Bool) (result : Result A E) (P Q R : Type 0) → (flag ≡ false → OnOk result P) → (flag ≡ true → OnOk result Q) → ((flag ≡ false → P) → (flag ≡ true → Q) → R) → OnOk result R
+pub OnOk-either : {A E : Type 0} (flag : Bool) (result : Result A E) (P Q R : Type 0) → (flag ≡ false → OnOk result P) → (flag ≡ true → OnOk result Q)
+    → ((flag ≡ false → P) → (flag ≡ true → Q) → R) → OnOk result R
 OnOk-either false result P Q R off on f = on_ok_weaker result (λ p. f (λ _. p) (λ e. absurd (false≢true e))) (off refl)
 OnOk-either true result P Q R off on f = on_ok_weaker result (λ q. f (λ e. absurd (false≢true (sym e))) (λ _. q)) (on refl)
 

@@ -25,12 +25,16 @@ others_of (n ∷ ns) = ns
 module _ {T : Type 0} where
   -- one value more of the same seat
   longer : (qs : List Taken) (xs : List (Item T)) (n b j : ℕ) (x : T) → j ≡ n → pushers qs ≡ pushers_of xs → pushers (qs ++ record { from = n; body = b } ∷ []) ≡ pushers_of (xs ++ item j x ∷ [])
-  longer qs xs n b j x one same = map-append (λ (y : Taken). y.from) qs (record { from = n; body = b } ∷ []) ∙ (λ i. same i ++ sym one i ∷ []) ∙ sym (map-append (λ (y : Item T). y.from) xs (item j x ∷ []))
+  longer qs xs n b j x one same = map-append (λ (y : Taken). y.from) qs (record { from = n; body = b } ∷ []) ∙ (λ i. same i ++ sym one i ∷ []) ∙ sym
+      (map-append (λ (y : Item T). y.from) xs (item j x ∷ []))
 
-  as_many_from : (es : List Entry) (ds : List (Deed T)) (qs : List Taken) (s : Bool) (xs : List (Item T)) (vs : List Taken) (ys : List (Item T)) (t u : Bool) → pushers qs ≡ pushers_of xs → Matches es ds → Plays (queue_of qs s) es (queue_of vs t) → Runs xs s ds ys u → (pushers vs ≡ pushers_of ys) × (t ≡ u)
+  as_many_from : (es : List Entry) (ds : List (Deed T)) (qs : List Taken) (s : Bool) (xs : List (Item T)) (vs : List Taken) (ys : List (Item T))
+      (t u : Bool) → pushers qs ≡ pushers_of xs → Matches es ds → Plays (queue_of qs s) es (queue_of vs t) → Runs xs s ds ys u
+      → (pushers vs ≡ pushers_of ys) × (t ≡ u)
   as_many_from [] [] qs s xs vs ys t u same m h k = (ap (λ (q : Queue). pushers q.values) (sym h) ∙ same ∙ ap pushers_of k.0, ap (λ (q : Queue). q.shut) (sym h) ∙ k.1)
   as_many_from (Push n b ∷ es) (pushed j x ∷ ds) qs true xs vs ys t u same m h k = absurd (true≢false k.0)
-  as_many_from (Push n b ∷ es) (pushed j x ∷ ds) qs false xs vs ys t u same m h k = as_many_from es ds (qs ++ record { from = n; body = b } ∷ []) false (xs ++ item j x ∷ []) vs ys t u (longer qs xs n b j x m.0 same) m.1 h.1 k.1
+  as_many_from (Push n b ∷ es) (pushed j x ∷ ds) qs false xs vs ys t u same m h k =
+      as_many_from es ds (qs ++ record { from = n; body = b } ∷ []) false (xs ++ item j x ∷ []) vs ys t u (longer qs xs n b j x m.0 same) m.1 h.1 k.1
   as_many_from (Pop n v ∷ es) (popped j y ∷ ds) (w ∷ ws) s xs vs ys t u same m h k = as_many_from es ds ws s k.0 vs ys t u (ap others_of (same ∙ ap pushers_of k.1)) m.2 h.1 k.2
   as_many_from (Pop n v ∷ es) (popped j y ∷ ds) [] false xs vs ys t u same m h k = absurd (let f : Empty ≡ Value v = h.0 in cc)
   as_many_from (Pop n v ∷ es) (popped j y ∷ ds) [] true xs vs ys t u same m h k = absurd (let f : Refused Closed ≡ Value v = h.0 in cc)
@@ -38,7 +42,8 @@ module _ {T : Type 0} where
   as_many_from (Shut n ∷ es) (closed j ∷ ds) qs false xs vs ys t u same m h k = as_many_from es ds qs true xs vs ys t u same m.1 h.1 k.1
   as_many_from es ds qs s xs vs ys t u same m h k = absurd m
 
-  pub as_many : (es : List Entry) (ds : List (Deed T)) (numbers : List Taken) (values : List (Item T)) (shut shut' : Bool) → Matches es ds → Leads es shut numbers → Runs [] false ds values shut' → (pushers numbers ≡ pushers_of values) × (shut ≡ shut')
+  pub as_many : (es : List Entry) (ds : List (Deed T)) (numbers : List Taken) (values : List (Item T)) (shut shut' : Bool) → Matches es ds
+      → Leads es shut numbers → Runs [] false ds values shut' → (pushers numbers ≡ pushers_of values) × (shut ≡ shut')
   as_many es ds numbers values shut shut' m h k = as_many_from es ds [] false [] numbers values shut shut' refl m h k
 
   -- who pushed none is told of none
@@ -55,7 +60,8 @@ module _ {T : Type 0} where
   matches_first (e ∷ es) fs ds m = absurd m
 
   -- where a beginning of the entries seen leaves no number, that of the values leaves none
-  pub left_no_value : (seen : List (Deed T)) (all es : List Entry) (shut : Bool) (values : List (Item T)) (s : Bool) → Matches all seen → Runs [] false seen values s → IsPrefix es all → Leads es shut [] → LeftNoValue seen es shut
+  pub left_no_value : (seen : List (Deed T)) (all es : List Entry) (shut : Bool) (values : List (Item T)) (s : Bool) → Matches all seen
+      → Runs [] false seen values s → IsPrefix es all → Leads es shut [] → LeftNoValue seen es shut
   left_no_value seen all es shut values s m k p h =
       let r = matches_first es p.0 seen (subst (λ (y : List Entry). Matches y seen) (sym p.1) m) in
       let f = runs_first [] false r.0 r.1 values s (subst (λ (y : List (Deed T)). Runs [] false y values s) (sym r.2) k) in

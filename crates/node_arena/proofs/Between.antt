@@ -1,6 +1,8 @@
 -- Between D4 and D5: what an actor found behind Head's node stays so, or Head was moved. A closed end in any node says that
 -- the history left the queue shut.
-use Rattle.std.proofs.Common.{◌≡◌, ◌≢◌, ◌⊎◌, inl, inr, ⊎_elim, ℕ, ◌+◌, ◌<◌, Bool, true, false, if◌then◌else◌, Option, Some, None, IfSome, List, [], ◌∷◌, ◌++◌, length, take, set, slice_index_or, replicate, zero, suc, nat_eq, ◌-◌, ◌≤◌, refl, sym, ap, subst, ◌∙◌, arith, append-nil}
+use Rattle.std.proofs.Common.{◌≡◌, ◌≢◌, ◌⊎◌, inl, inr, ⊎_elim, ℕ, ◌+◌, ◌<◌, Bool, true, false, if◌then◌else◌, Option, Some, None, IfSome, List, []}
+use Rattle.std.proofs.Common.{◌∷◌, ◌++◌, length, take, set, slice_index_or, replicate, zero, suc, nat_eq, ◌-◌, ◌≤◌, refl, sym, ap, subst, ◌∙◌, arith}
+use Rattle.std.proofs.Common.{append-nil}
 use Rattle.std.specs.List.{count_by}
 use Rattle.std.proofs.lemmas.Option.{none-some, same_Some}
 use Rattle.std.proofs.lemmas.List.{length-append, take-append-le}
@@ -27,7 +29,8 @@ use Rattle.line_steps.specs.Memory.{Shared, Next, Value_of, blank, node_at, put}
 use Rattle.line_steps.specs.Lines.{with_node, dequeues, gives_up, busy_or, to_pocket, raised, raised_end}
 use Rattle.line_steps.specs.Calling.{is_call, begun, from_pocket}
 use Rattle.step_machine.specs.declared.actors.Move.TheVariants.{Begin, Step, Give}
-use Rattle.step_machine.specs.Machine.{World, actor_of, rested, entry_or, with_actor, after_outcome, begins, steps, given, gives, may_rest, rests, moved, rest_of, AnyMove, made, Rest, next_any, IsSized}
+use Rattle.step_machine.specs.Machine.{World, actor_of, rested, entry_or, with_actor, after_outcome, begins, steps, given, gives, may_rest, rests}
+use Rattle.step_machine.specs.Machine.{moved, rest_of, AnyMove, made, Rest, next_any, IsSized}
 use Rattle.step_machine.proofs.StaleReferences.{IsCurrentOrStale}
 use Rattle.step_machine.specs.Range.{WorldInRange, RegistersInRange}
 use Rattle.step_machine.proofs.Reached.{some_of, below_closed, reached_in_range, actor_in_range}
@@ -35,7 +38,8 @@ use Rattle.step_machine.proofs.EitherQueue.{have_their_places}
 use Rattle.step_machine.proofs.StampsInvariants.{actor_cases}
 use Rattle.step_machine.proofs.TwoLockInvariant as two_lock_sound
 use Rattle.step_machine.proofs.NonBlockingLaws as non_blocking
-use Rattle.node_arena.specs.Traces.{Event, Traced, IsTraced, LeftNothing, StaysFound, KeepsWhatD4Found, actor_at, event_at, entries_at, step_at, traced_move, traced_next, traced_on, trace, first_trace}
+use Rattle.node_arena.specs.Traces.{Event, Traced, IsTraced, LeftNothing, StaysFound, KeepsWhatD4Found, actor_at, event_at, entries_at, step_at}
+use Rattle.node_arena.specs.Traces.{traced_move, traced_next, traced_on, trace, first_trace}
 use Rattle.node_arena.proofs.Tracing.{traced_reached, traced_moves, traced_step_is, changed_here, changed_else}
 use Rattle.node_arena.proofs.Histories.{history_plays, counts_pops}
 use Rattle.node_arena.proofs.Known.{known}
@@ -138,7 +142,15 @@ left_since t u a b k r q m same h =
 
     since : (shut : Bool) → LeftNothing t a shut k → LeftNothing u b shut k
     since shut = ⊎_elim
-        (λ (less : a.head.count < t.world.shared.head.count). inl (omega (arith, less, ap (λ (x : Ref). x.count) same.0, counts_pops t r, counts_pops u q, ap (count_by is_pop) m.history, sum_by-append (λ e. if is_pop e then 1 else 0) t.history m.more)))
+        (λ (less : a.head.count < t.world.shared.head.count). inl (omega (
+          arith,
+          less,
+          ap (λ (x : Ref). x.count) same.0,
+          counts_pops t r,
+          counts_pops u q,
+          ap (count_by is_pop) m.history,
+          sum_by-append (λ e. if is_pop e then 1 else 0) t.history m.more,
+        )))
         (λ (leads : Leads (take k t.history) shut []). inr (subst (λ es. Leads es shut []) (sym first) leads))
 
 keeps : (t u : Traced) → IsTraced t → IsTraced u → Turns t u → KeepsWhatD4Found t → KeepsWhatD4Found u
@@ -153,7 +165,9 @@ keeps t u r q m h me b before last is path line = ⊎_elim stays looks (m.each m
         subst (λ (e : Event). StaysFound u b e.entries) same (s.2 (ap (λ (e : Event). e.line) same ∙ line))
 
 -- a move that is no step: one actor has another state, with the same registers
-stutters : (t : Traced) (w : World) (me : ℕ) (a b : Actor) → actor_of t.world me ≡ Some a → ((you : ℕ) → actor_of w you ≡ actor_of (with_actor t.world me b) you) → w.shared ≡ t.world.shared → w.setup ≡ t.world.setup → LooksSame a b → Turns t (record t { world = w })
+stutters : (t : Traced) (w : World) (me : ℕ) (a b : Actor) → actor_of t.world me ≡ Some a
+    → ((you : ℕ) → actor_of w you ≡ actor_of (with_actor t.world me b) you) → w.shared ≡ t.world.shared → w.setup ≡ t.world.setup → LooksSame a b
+    → Turns t (record t { world = w })
 stutters t w me a b is same words setup looks =
     record {
       ends = λ n e. inl (ap (λ (m : Shared). (node_at m n).next.node) (sym words) ∙ e);
@@ -175,7 +189,8 @@ set_or [] i j x = inr refl
 set_or (y ∷ ys) zero zero x = inl (refl, refl)
 set_or (y ∷ ys) zero (suc j) x = inr refl
 set_or (y ∷ ys) (suc i) zero x = inr refl
-set_or (y ∷ ys) (suc i) (suc j) x = ⊎_elim (λ (q : (j ≡ i) × (slice_index_or (set ys i x) j blank ≡ x)). inl (ap suc q.0, q.1)) (λ (e : slice_index_or (set ys i x) j blank ≡ slice_index_or ys j blank). inr e) (set_or ys i j x)
+set_or (y ∷ ys) (suc i) (suc j) x = ⊎_elim (λ (q : (j ≡ i) × (slice_index_or (set ys i x) j blank ≡ x)). inl (ap suc q.0, q.1))
+    (λ (e : slice_index_or (set ys i x) j blank ≡ slice_index_or ys j blank). inr e) (set_or ys i j x)
 
 -- a word that isn't a `next` written leaves the closed ends
 either_kept : (bits : ℕ) (b : Bool) (m m' : Shared) (n : ℕ) → m'.nodes ≡ m.nodes → IsClosedAt bits (if b then m' else m) n → IsClosedAt bits m n
@@ -222,7 +237,8 @@ module _ (t : Traced) (me : ℕ) (a : Actor) (r : IsTraced t) (is : actor_of t.w
   ends_at F2 here n e = inl (put_next t.world.setup.bits t.world.shared a.node n (ref a.top.node a.mark) (below_closed t.world a.top.node range registers.top.node) e)
   ends_at F3 here n e = inl (either_kept t.world.setup.bits (same_ref t.world.shared.free a.top) t.world.shared _ n refl e)
   ends_at E2 here n e = inl (put_value t.world.setup.bits t.world.shared a.node n a.val e)
-  ends_at E3 here n e = inl (put_next t.world.setup.bits t.world.shared a.node n (record (node_at t.world.shared a.node).next { node = 0 }) (λ f. omega (arith, f, span_least t.world.setup.bits range.sized.split)) e)
+  ends_at E3 here n e = inl (put_next t.world.setup.bits t.world.shared a.node n (record (node_at t.world.shared a.node).next { node = 0 })
+      (λ f. omega (arith, f, span_least t.world.setup.bits range.sized.split)) e)
   ends_at E9 here n e =
       let below = (known t.world (traced_reached t r) me a E9 is here).room in
       let to : (raised t.world.setup a.next a.node).node ≡ a.node = raised_names t.world a.next a.node range registers.node (λ f. omega (arith, below, f)) in
@@ -232,7 +248,8 @@ module _ (t : Traced) (me : ℕ) (a : Actor) (r : IsTraced t) (is : actor_of t.w
   ends_at D10 here n e = inl (either_kept t.world.setup.bits (same_ref t.world.shared.tail a.tail) t.world.shared _ n refl e)
   ends_at D13 here n e = inl (either_kept t.world.setup.bits (same_ref t.world.shared.head a.head) t.world.shared _ n refl e)
   ends_at A1 here n e = inl (put_value t.world.setup.bits t.world.shared a.node n a.val e)
-  ends_at A2 here n e = inl (put_next t.world.setup.bits t.world.shared a.node n (record (node_at t.world.shared a.node).next { node = 0 }) (λ f. omega (arith, f, span_least t.world.setup.bits range.sized.split)) e)
+  ends_at A2 here n e = inl (put_next t.world.setup.bits t.world.shared a.node n (record (node_at t.world.shared a.node).next { node = 0 })
+      (λ f. omega (arith, f, span_least t.world.setup.bits range.sized.split)) e)
   ends_at A3 here n e = inl (either_kept t.world.setup.bits (nat_eq t.world.shared.tail_lock 0) t.world.shared _ n refl e)
   ends_at A5 here n e = inl (either_next t.world.setup.bits (same_ref (node_at t.world.shared a.tail.node).next null) t.world.shared a.tail.node n (ref a.node 0) own e)
   ends_at B1 here n e = inl (either_kept t.world.setup.bits (nat_eq t.world.shared.head_lock 0) t.world.shared _ n refl e)
@@ -269,7 +286,8 @@ at_d4 t me a r ends is here =
     at_head : (end : ℕ) → t.world.shared.head ≡ a.head → (node_at t.world.shared a.head.node).next.node ≡ end → (node_at t.world.shared t.world.shared.head.node).next.node ≡ end
     at_head end h e = subst (λ (x : Ref). (node_at t.world.shared x.node).next.node ≡ end) (sym h) e
 
-    found : (shut : Bool) → (t.world.shared.head ≡ a.head → Leads t.history shut []) → IsCurrentOrStale t.world.shared.head a.head → (a.head.count < t.world.shared.head.count) ⊎ Leads (take (length (t.history ++ [])) (t.history ++ [])) shut []
+    found : (shut : Bool) → (t.world.shared.head ≡ a.head → Leads t.history shut []) → IsCurrentOrStale t.world.shared.head a.head
+        → (a.head.count < t.world.shared.head.count) ⊎ Leads (take (length (t.history ++ [])) (t.history ++ [])) shut []
     found shut leads (inl e) = inr (subst (λ es. Leads es shut []) (sym whole) (leads e))
     found shut leads (inr less) = inl less
 

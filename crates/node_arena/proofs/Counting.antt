@@ -75,7 +75,8 @@ old_of (exchange_at p old new) = old
 -- an actor that stands before a line whose access is an exchange
 module _ (t : Traced) (me : ℕ) (a : Actor) (p old new : ℕ) (r : IsTraced t) (at : actor_of t.world me ≡ Some a) where
   -- whether the exchange is won, by the contents and by the numbers
-  won_is : (l : Line) (x : Word) (was mine : Content x) → ContentFits t.world.setup.bits x was → ContentFits t.world.setup.bits x mine → encoded t.world.setup.bits x mine ≡ old → same x was mine ≡ nat_eq (encoded t.world.setup.bits x was) old
+  won_is : (l : Line) (x : Word) (was mine : Content x) → ContentFits t.world.setup.bits x was → ContentFits t.world.setup.bits x mine
+      → encoded t.world.setup.bits x mine ≡ old → same x was mine ≡ nat_eq (encoded t.world.setup.bits x was) old
   won_is l x was mine f g e = same_content t.world.setup.bits (reached_in_range t.world (traced_reached t r)).sized.split x was mine f g ∙ ap (nat_eq (encoded t.world.setup.bits x was)) e
 
   fits : (x : Word) → ContentFits t.world.setup.bits x (content x t.world.shared)
@@ -84,36 +85,44 @@ module _ (t : Traced) (me : ℕ) (a : Actor) (p old new : ℕ) (r : IsTraced t) 
   given : (l : Line) → a.line ≡ Some l → ActionFits t.world.setup.bits (action t.world.setup me a l)
   given l here = access_fits t.world me a l (reached_in_range t.world (traced_reached t r)) at here
 
-  won_e9 : a.line ≡ Some E9 → word_step t.world.setup.bits (action t.world.setup me a E9) ≡ exchange_at p old new → same_ref (content (Next a.tail.node) t.world.shared) a.next ≡ nat_eq (number_at t.world.setup t me a E9) old
+  won_e9 : a.line ≡ Some E9 → word_step t.world.setup.bits (action t.world.setup me a E9) ≡ exchange_at p old new
+      → same_ref (content (Next a.tail.node) t.world.shared) a.next ≡ nat_eq (number_at t.world.setup t me a E9) old
   unfolding old_of
   won_e9 here e = won_is E9 (Next a.tail.node) (content (Next a.tail.node) t.world.shared) a.next (fits (Next a.tail.node)) (given E9 here).0 (ap old_of e)
 
-  won_a5 : a.line ≡ Some A5 → word_step t.world.setup.bits (action t.world.setup me a A5) ≡ exchange_at p old new → same_ref (content (Next a.tail.node) t.world.shared) null ≡ nat_eq (number_at t.world.setup t me a A5) old
+  won_a5 : a.line ≡ Some A5 → word_step t.world.setup.bits (action t.world.setup me a A5) ≡ exchange_at p old new
+      → same_ref (content (Next a.tail.node) t.world.shared) null ≡ nat_eq (number_at t.world.setup t me a A5) old
   unfolding old_of
   won_a5 here e = won_is A5 (Next a.tail.node) (content (Next a.tail.node) t.world.shared) null (fits (Next a.tail.node)) (given A5 here).0 (ap old_of e)
 
-  won_s4 : a.line ≡ Some S4 → word_step t.world.setup.bits (action t.world.setup me a S4) ≡ exchange_at p old new → same_ref (content (Next a.tail.node) t.world.shared) a.next ≡ nat_eq (number_at t.world.setup t me a S4) old
+  won_s4 : a.line ≡ Some S4 → word_step t.world.setup.bits (action t.world.setup me a S4) ≡ exchange_at p old new
+      → same_ref (content (Next a.tail.node) t.world.shared) a.next ≡ nat_eq (number_at t.world.setup t me a S4) old
   unfolding old_of
   won_s4 here e = won_is S4 (Next a.tail.node) (content (Next a.tail.node) t.world.shared) a.next (fits (Next a.tail.node)) (given S4 here).0 (ap old_of e)
 
-  won_s8 : a.line ≡ Some S8 → word_step t.world.setup.bits (action t.world.setup me a S8) ≡ exchange_at p old new → same_ref (content (Next a.tail.node) t.world.shared) null ≡ nat_eq (number_at t.world.setup t me a S8) old
+  won_s8 : a.line ≡ Some S8 → word_step t.world.setup.bits (action t.world.setup me a S8) ≡ exchange_at p old new
+      → same_ref (content (Next a.tail.node) t.world.shared) null ≡ nat_eq (number_at t.world.setup t me a S8) old
   unfolding old_of
   won_s8 here e = won_is S8 (Next a.tail.node) (content (Next a.tail.node) t.world.shared) null (fits (Next a.tail.node)) (given S8 here).0 (ap old_of e)
 
-  won_d13 : a.line ≡ Some D13 → word_step t.world.setup.bits (action t.world.setup me a D13) ≡ exchange_at p old new → same_ref t.world.shared.head a.head ≡ nat_eq (number_at t.world.setup t me a D13) old
+  won_d13 : a.line ≡ Some D13 → word_step t.world.setup.bits (action t.world.setup me a D13) ≡ exchange_at p old new
+      → same_ref t.world.shared.head a.head ≡ nat_eq (number_at t.world.setup t me a D13) old
   unfolding old_of
   won_d13 here e = won_is D13 Head t.world.shared.head a.head (fits Head) (given D13 here).0 (ap old_of e)
 
   -- an exchange that is won at E9 adds the push of its body
-  pub wins_push : a.line ≡ Some E9 → word_step t.world.setup.bits (action t.world.setup me a E9) ≡ exchange_at p old new → number_at t.world.setup t me a E9 ≡ old → entries_at t.world.setup t me a E9 ≡ Push me a.val.body ∷ []
+  pub wins_push : a.line ≡ Some E9 → word_step t.world.setup.bits (action t.world.setup me a E9) ≡ exchange_at p old new
+      → number_at t.world.setup t me a E9 ≡ old → entries_at t.world.setup t me a E9 ≡ Push me a.val.body ∷ []
   wins_push here e n = ap (λ b. if b then Push me a.val.body ∷ [] else []) (won_e9 here e ∙ eq-eqb _ _ n)
 
   -- one that is won at D13 adds the pop of its value
-  pub wins_pop : a.line ≡ Some D13 → word_step t.world.setup.bits (action t.world.setup me a D13) ≡ exchange_at p old new → number_at t.world.setup t me a D13 ≡ old → entries_at t.world.setup t me a D13 ≡ Pop me a.val ∷ []
+  pub wins_pop : a.line ≡ Some D13 → word_step t.world.setup.bits (action t.world.setup me a D13) ≡ exchange_at p old new
+      → number_at t.world.setup t me a D13 ≡ old → entries_at t.world.setup t me a D13 ≡ Pop me a.val ∷ []
   wins_pop here e n = ap (λ b. if b then Pop me a.val ∷ [] else []) (won_d13 here e ∙ eq-eqb _ _ n)
 
   -- an exchange that is won adds what its line counts
-  pub wins_counted : (l : Line) → a.line ≡ Some l → word_step t.world.setup.bits (action t.world.setup me a l) ≡ exchange_at p old new → number_at t.world.setup t me a l ≡ old → Counts l (entries_at t.world.setup t me a l)
+  pub wins_counted : (l : Line) → a.line ≡ Some l → word_step t.world.setup.bits (action t.world.setup me a l) ≡ exchange_at p old new
+      → number_at t.world.setup t me a l ≡ old → Counts l (entries_at t.world.setup t me a l)
   wins_counted E9 here e n = subst (λ b. Counts E9 (if b then Push me a.val.body ∷ [] else [])) (sym (won_e9 here e ∙ eq-eqb _ _ n)) (record { pushes = refl; pops = refl; shut = none_more })
   wins_counted D13 here e n = subst (λ b. Counts D13 (if b then Pop me a.val ∷ [] else [])) (sym (won_d13 here e ∙ eq-eqb _ _ n)) (record { pushes = refl; pops = refl; shut = none_more })
   wins_counted A5 here e n = subst (λ b. Counts A5 (if b then Push me a.val.body ∷ [] else [])) (sym (won_a5 here e ∙ eq-eqb _ _ n)) (record { pushes = refl; pops = refl; shut = none_more })
@@ -123,7 +132,8 @@ module _ (t : Traced) (me : ℕ) (a : Actor) (p old new : ℕ) (r : IsTraced t) 
   wins_counted _ here e n = record { pushes = refl; pops = refl; shut = none_more }
 
   -- an exchange that is lost adds nothing
-  pub loses_nothing : (l : Line) → a.line ≡ Some l → word_step t.world.setup.bits (action t.world.setup me a l) ≡ exchange_at p old new → number_at t.world.setup t me a l ≢ old → entries_at t.world.setup t me a l ≡ []
+  pub loses_nothing : (l : Line) → a.line ≡ Some l → word_step t.world.setup.bits (action t.world.setup me a l) ≡ exchange_at p old new
+      → number_at t.world.setup t me a l ≢ old → entries_at t.world.setup t me a l ≡ []
   loses_nothing E9 here e n = ap (λ b. if b then Push me a.val.body ∷ [] else []) (won_e9 here e ∙ ne_eqb _ _ n)
   loses_nothing D13 here e n = ap (λ b. if b then Pop me a.val ∷ [] else []) (won_d13 here e ∙ ne_eqb _ _ n)
   loses_nothing A5 here e n = ap (λ b. if b then Push me a.val.body ∷ [] else []) (won_a5 here e ∙ ne_eqb _ _ n)

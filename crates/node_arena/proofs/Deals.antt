@@ -1,5 +1,7 @@
 -- The opening keeps the rule, and so does a seat that is dealt.
-use Rattle.std.proofs.Common.{Bool, true, false, take, get_or, ◌≡◌, ◌≢◌, ◌⊎◌, ℕ, ◌+◌, ◌-◌, ◌*◌, ◌<◌, ◌≤◌, if◌then◌else◌, List, [], ◌∷◌, ◌++◌, zero, suc, length, replicate, set, sym, refl, ap, ◌∙◌, subst, ⊎_elim, inl, inr, arith, slice_get, Option, Some, None, ne_eqb, nat_lt}
+use Rattle.std.proofs.Common.{Bool, true, false, take, get_or, ◌≡◌, ◌≢◌, ◌⊎◌, ℕ, ◌+◌, ◌-◌, ◌*◌, ◌<◌, ◌≤◌, if◌then◌else◌, List, [], ◌∷◌, ◌++◌, zero}
+use Rattle.std.proofs.Common.{suc, length, replicate, set, sym, refl, ap, ◌∙◌, subst, ⊎_elim, inl, inr, arith, slice_get, Option, Some, None, ne_eqb}
+use Rattle.std.proofs.Common.{nat_lt}
 use Rattle.std.specs.List.{count_by}
 use Rattle.std.proofs.lemmas.List.Elements.{All-nil}
 use Rattle.std.proofs.Math.ListN.{length-replicate}
@@ -60,7 +62,8 @@ first_word : (bits : ℕ) → ref_word bits (ref 1 0) ≡ 1
 first_word bits = omega arith
 
 -- the words of a table that is 0 but at the places of Fresh, Head and Tail, which are 1
-pub lie_first : (nodes p q r : ℕ) (table : List ℕ) → table ≡ replicate (48 + 2 * nodes) 0 → p ≡ place 0 → q ≡ place 2 → r ≡ place 3 → shared_words (set (set (set table p 1) q 1) r 1) ≡ first_memory_words nodes
+pub lie_first : (nodes p q r : ℕ) (table : List ℕ) → table ≡ replicate (48 + 2 * nodes) 0 → p ≡ place 0 → q ≡ place 2 → r ≡ place 3
+    → shared_words (set (set (set table p 1) q 1) r 1) ≡ first_memory_words nodes
 lie_first nodes p q r table blank fresh head tail =
     let words : ℕ = 48 + 2 * nodes in
     let one : List ℕ = set (replicate words 0) (place 0) 1 in
@@ -79,7 +82,8 @@ lie_first nodes p q r table blank fresh head tail =
     begins n = ap (λ k. set (set (set (replicate {A = ℕ} k 0) 0 1) 2 1) 3 1) (let h : 6 + n ≡ suc (suc (suc (suc (suc (suc n))))) = omega arith in h)
 
 -- the same where so many flags follow, all of which are down
-pub lie_with_flags : (nodes flags p q r : ℕ) (table : List ℕ) → table ≡ replicate (48 + 2 * nodes + flags) 0 → p ≡ place 0 → q ≡ place 2 → r ≡ place 3 → LieFirst nodes flags (set (set (set table p 1) q 1) r 1)
+pub lie_with_flags : (nodes flags p q r : ℕ) (table : List ℕ) → table ≡ replicate (48 + 2 * nodes + flags) 0 → p ≡ place 0 → q ≡ place 2 → r ≡ place 3
+    → LieFirst nodes flags (set (set (set table p 1) q 1) r 1)
 lie_with_flags nodes flags p q r table blank fresh head tail =
     let m : ℕ = 48 + 2 * nodes in
     let one : List ℕ = set table p 1 in
@@ -98,7 +102,8 @@ lie_with_flags nodes flags p q r table blank fresh head tail =
     record {
       count = omega (arith, a, b, c, long);
       words = ap shared_words words ∙ lie_first nodes p q r (take m table) first fresh head tail;
-      down = λ i. get_or-set_other two r (m + i) 1 0 (λ e. omega (arith, e, high)) ∙ (get_or-set_other one q (m + i) 1 0 (λ e. omega (arith, e, mid)) ∙ (get_or-set_other table p (m + i) 1 0 (λ e. omega (arith, e, low)) ∙
+      down = λ i. get_or-set_other two r (m + i) 1 0 (λ e. omega (arith, e, high)) ∙
+          (get_or-set_other one q (m + i) 1 0 (λ e. omega (arith, e, mid)) ∙ (get_or-set_other table p (m + i) 1 0 (λ e. omega (arith, e, low)) ∙
           (ap (λ ws. get_or ws (m + i) 0) blank ∙ blank_at (m + flags) (m + i))));
     }
   where
@@ -153,16 +158,33 @@ deals z es id n few s hs mine =
     let own : ℕ → ℕ × ℕ = changed h.owner n (l, 0) in
     let P : ℕ → ℕ → SeatView → Type 0 = λ j i o. Fits h.trace o × (own o.number ≡ (j, i)) × (o.number < n + 1) in
     let fresh = h.undealt n (let e = k.1 in omega arith) few in
-    let new : P l 0 (new_seat n) = (record { actor = fresh.actor; path = fresh.path; rest = h.trace.history; begins = refl; own = fresh.own; known = refl; noted = All-nil (IsNoted []); saw = tt; looked = tt }, changed_here h.owner n (l, 0), omega arith) in
+    let new : P l 0 (new_seat n) = (
+      record {
+        actor = fresh.actor;
+        path = fresh.path;
+        rest = h.trace.history;
+        begins = refl;
+        own = fresh.own;
+        known =
+            refl;
+        noted = All-nil (IsNoted []);
+        saw = tt;
+        looked = tt;
+      },
+      changed_here h.owner n (l, 0),
+      omega arith,
+    ) in
     let old : (j i : ℕ) (u : View) (o : SeatView) → get_elem? s.views j ≡ some u → get_elem? (members u) i ≡ some o → P j i o = λ j i u o a b.
-    let t = h.owned j i u o a b in let lt : o.number < n = let x = t.1 in let e = k.1 in omega arith in (h.fits j i u o a b, changed_else h.owner n (l, 0) o.number (λ e. omega arith) ∙ t.0, omega arith) in
+    let t = h.owned j i u o a b in let lt : o.number < n = let x = t.1 in let e =
+    k.1 in omega arith in (h.fits j i u o a b, changed_else h.owner n (l, 0) o.number (λ e. omega arith) ∙ t.0, omega arith) in
     let all : (j i : ℕ) (u : View) (o : SeatView) → get_elem? (set s.views id (keeper (n + 1)) ++ seated (new_seat n) ∷ []) j ≡ some u → get_elem? (members u) i ≡ some o → P j i o = λ j i u o a b.
     ⊎_elim
     (λ (t : get_elem? (set s.views id (keeper (n + 1))) j ≡ some u).
     ⊎_elim (λ (q : (j ≡ id) × (keeper (n + 1) ≡ u)). subst (λ x. P x i o) (sym q.0) (old id i (keeper n) o mine (ap (λ (y : View). get_elem? (members y) i) q.1 ∙ b)))
     (λ (q : (j ≢ id) × (get_elem? s.views j ≡ some u)). old j i u o q.1 b)
     (at_set s.views id j (keeper (n + 1)) u t))
-    (λ (t : (j ≡ l) × (seated (new_seat n) ≡ u)). let q = one_of (new_seat n) o i (ap (λ (y : View). get_elem? (members y) i) t.1 ∙ b) in subst (λ (y : ℕ × ℕ × SeatView). P y.0 y.1 y.2) (λ c. (sym t.0 c, sym q.0 c, q.1 c)) new)
+    (λ (t : (j ≡ l) × (seated (new_seat n) ≡ u)). let q = one_of (new_seat n) o i (ap (λ (y : View). get_elem? (members y) i) t.1 ∙ b) in subst
+    (λ (y : ℕ × ℕ × SeatView). P y.0 y.1 y.2) (λ c. (sym t.0 c, sym q.0 c, q.1 c)) new)
     (at_end (set s.views id (keeper (n + 1))) (seated (new_seat n)) u j a) in (
       record {
         sized = h.sized;
@@ -190,14 +212,28 @@ deals z es id n few s hs mine =
     )
 
 -- the same of views that know of values, at the names of a call
-pub deals_at : {T : Type 0} (z about : Layout) (id n : ℕ) (me : Me (Option T) (Beside T)) → about ≡ z → me.0.plain ≡ keeper n → n ≤ length z.roles → Splits {S = Option T} (HoldsFor about) id me.0 (left_dealt me.0) (right_dealt me.0)
+pub deals_at : {T : Type 0} (z about : Layout) (id n : ℕ) (me : Me (Option T) (Beside T)) → about ≡ z → me.0.plain ≡ keeper n → n ≤ length z.roles
+    → Splits {S = Option T} (HoldsFor about) id me.0 (left_dealt me.0) (right_dealt me.0)
 deals_at {T} z about id n me same is few =
     lift_splits about id me.0 (left_dealt me.0) (right_dealt me.0)
     (λ es. subst (λ (y : View). Splits {S = ℕ} (HoldsWith about es) id y (dealt_left y) (dealt_right y)) (sym is) (deals about es id n (subst (λ x. n ≤ length x.roles) (sym same) few)))
     refl refl
     (λ ds b. (
-      record { rest = b.rest; begins = b.begins; matches = λ v e. absurd (not_seated v (ap dealt_left (sym is) ∙ e)); pair = λ v u e y. absurd (not_paired v u (ap dealt_left (sym is) ∙ e)); others = b.others },
-      record { rest = ds; begins = refl; matches = λ v e. subst (λ (y : View). Matches {T = T} (knows y).seen []) (ap dealt_right (sym is) ∙ e) tt; pair = λ v u e y. absurd (new_alone v u (ap dealt_right (sym is) ∙ e)); others = tt },
+      record {
+        rest = b.rest;
+        begins = b.begins;
+        matches = λ v e. absurd (not_seated v (ap dealt_left (sym is) ∙ e));
+        pair =
+            λ v u e y. absurd (not_paired v u (ap dealt_left (sym is) ∙ e));
+        others = b.others;
+      },
+      record {
+        rest = ds;
+        begins = refl;
+        matches = λ v e. subst (λ (y : View). Matches {T = T} (knows y).seen []) (ap dealt_right (sym is) ∙ e) tt;
+        pair = λ v u e y. absurd (new_alone v u (ap dealt_right (sym is) ∙ e));
+        others = tt;
+      },
     ))
   where
     not_seated : (v : SeatView) → dealt_left (keeper n) ≡ seated v → ⊥
@@ -210,13 +246,15 @@ deals_at {T} z about id n me same is few =
     new_alone v u e = cc
 
 -- the rule of a new table, which carries no values
-pub opens_alone : (T : Type 0) (z : Layout) (words : List ℕ) → z.carries ≡ false → IsPlanned z → shared_words words ≡ first_memory_words z.setup.size → HoldsFor z (opening {S = Option T} words [] (first_beside z))
+pub opens_alone : (T : Type 0) (z : Layout) (words : List ℕ) → z.carries ≡ false → IsPlanned z → shared_words words ≡ first_memory_words z.setup.size
+    → HoldsFor z (opening {S = Option T} words [] (first_beside z))
 opens_alone T z words none_carried size e =
     let n : length (replicate {A = ℕ} (2 * z.setup.size) 0) ≡ 2 * z.setup.size = length-replicate {A = ℕ} (2 * z.setup.size) 0 in
     lift_opens T z words none_carried (omega (arith, n, ap length e, length-shared_words words)) (opens z words size e).0
 
 -- the rule of a new table that carries values: all slots are free
-pub opens_vacant : (T : Type 0) (z : Layout) (words : List ℕ) → z.carries ≡ true → IsPlanned z → LieFirst z.setup.size z.setup.size words → HoldsFor z (opening {S = Option T} words (replicate {A = Option T} z.setup.size None) (first_beside z))
+pub opens_vacant : (T : Type 0) (z : Layout) (words : List ℕ) → z.carries ≡ true → IsPlanned z → LieFirst z.setup.size z.setup.size words
+    → HoldsFor z (opening {S = Option T} words (replicate {A = Option T} z.setup.size None) (first_beside z))
 opens_vacant T z words carries size f =
     let h = opens z (take (words_of z) words) size f.words in
     lift_vacant T z words carries f.count f.down h.0 h.1
@@ -229,7 +267,9 @@ got_snoc (x ∷ xs) a b (suc k) e = ⊎_elim (λ t. inl t) (λ (t : (k ≡ lengt
 
 -- a seat more that was just dealt
 pub one_more : {T : Type 0} (z : Layout) (t : TableId) (xs : List (Seat T)) (n : ℕ) (s : Seat T) → length xs ≡ n → AreDealt z t xs → IsDealt z t (n + 1) s → AreDealt z t (xs ++ s ∷ [])
-one_more {T} z t xs n s len all new k y got = ⊎_elim (λ (h : slice_get xs k ≡ Some y). all k y h) (λ (h : (k ≡ length xs) × (s ≡ y)). subst (λ (q : ℕ × Seat T). IsDealt z t (q.0 + 1) q.1) (λ i. (sym (h.0 ∙ len) i, h.1 i)) new) (got_snoc xs s y k got)
+one_more {T} z t xs n s len all new k y got = ⊎_elim (λ (h : slice_get xs k ≡ Some y). all k y h)
+    (λ (h : (k ≡ length xs) × (s ≡ y)). subst (λ (q : ℕ × Seat T). IsDealt z t (q.0 + 1) q.1) (λ i. (sym (h.0 ∙ len) i, h.1 i)) new)
+    (got_snoc xs s y k got)
 
 -- a seat that was dealt is a new seat of the arena
 pub new_seats : {T : Type 0} (r : Arena) (seats : List (Seat T)) → IsArena r → AreDealt r.plan r.id seats → (k : ℕ) (s : Seat T) → slice_get seats k ≡ Some s → IsNewSeat r (k + 1) s
@@ -247,7 +287,8 @@ new_seats r seats arena all k s got =
     }
 
 -- a table in which the first words lie, made about a plan, is laid out for it
-pub laid : (z about inside : Layout) (t : TableId) (words table : List ℕ) → z.carries ≡ false → IsPlanned z → about ≡ z → inside ≡ z → t.words ≡ length table → table ≡ words → shared_words words ≡ first_memory_words inside.setup.size → t.slots ≡ 0 → IsTable z about t
+pub laid : (z about inside : Layout) (t : TableId) (words table : List ℕ) → z.carries ≡ false → IsPlanned z → about ≡ z → inside ≡ z
+    → t.words ≡ length table → table ≡ words → shared_words words ≡ first_memory_words inside.setup.size → t.slots ≡ 0 → IsTable z about t
 laid z about inside t words table alone sized key same count is first slots =
     let e : length (replicate {A = ℕ} (2 * z.setup.size) 0) ≡ 2 * z.setup.size = length-replicate {A = ℕ} (2 * z.setup.size) 0 in
     let none_there : slots_of z ≡ 0 = ap (λ (b : Bool). if b then z.setup.size else 0) alone in
@@ -255,7 +296,8 @@ laid z about inside t words table alone sized key same count is first slots =
     record { sized = sized; key = key; words = omega (arith, count, e, ap length now, length-shared_words table, none_there); slots = slots ∙ sym none_there }
 
 -- the same of a table with flags and slots
-pub laid_with_slots : (z about inside : Layout) (t : TableId) (words table : List ℕ) → z.carries ≡ true → IsPlanned z → about ≡ z → inside ≡ z → t.words ≡ length table → table ≡ words → LieFirst inside.setup.size inside.setup.size words → t.slots ≡ inside.setup.size → IsTable z about t
+pub laid_with_slots : (z about inside : Layout) (t : TableId) (words table : List ℕ) → z.carries ≡ true → IsPlanned z → about ≡ z → inside ≡ z
+    → t.words ≡ length table → table ≡ words → LieFirst inside.setup.size inside.setup.size words → t.slots ≡ inside.setup.size → IsTable z about t
 laid_with_slots z about inside t words table carries sized key same count is first slots =
     let all : slots_of z ≡ z.setup.size = ap (λ (b : Bool). if b then z.setup.size else 0) carries in
     let size = ap (λ (y : Layout). y.setup.size) same in
@@ -273,7 +315,8 @@ newly z n sized least few =
     }
 
 -- a seat with the token of a number that was dealt
-pub dealt : {T : Type 0} (z : Layout) (t : TableId) (n : ℕ) (role : Role) (k : Token (Option T) (Beside T)) → IsPlanned z → 1 ≤ n → n ≤ length z.roles → slice_get z.roles (n - 1) ≡ Some role → k.table_id ≡ t → k.me.0.plain ≡ seated (new_seat n) → HasNone k.me → k.me.0.deeds ≡ []
+pub dealt : {T : Type 0} (z : Layout) (t : TableId) (n : ℕ) (role : Role) (k : Token (Option T) (Beside T)) → IsPlanned z → 1 ≤ n → n ≤ length z.roles
+    → slice_get z.roles (n - 1) ≡ Some role → k.table_id ≡ t → k.me.0.plain ≡ seated (new_seat n) → HasNone k.me → k.me.0.deeds ≡ []
     → IsDealt z t n record { token = k; number = n; role = role; full = false; held = record { node = 0; mark = 0 }; failed = 0; pushes = 0; pops = 0; shut = false; keeps = false }
 dealt z t n role k sized least few permits table me held deeds =
     let is : knows k.me.0.plain ≡ new_seat n = ap knows me in

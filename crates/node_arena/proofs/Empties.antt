@@ -1,6 +1,7 @@
 -- What an actor found before a line at which its call may answer that the queue is empty, or shut (`SawAt`), and what its steps
 -- note: such a reply comes only where what its seat has seen leaves the queue so.
-use Rattle.std.proofs.Common.{◌≡◌, ℕ, ◌+◌, ◌<◌, ◌≤◌, Bool, true, false, if◌then◌else◌, nat_eq, nat_lt, Option, Some, None, List, [], ◌++◌, length, take, refl, sym, ap, subst, ◌∙◌, arith, append-nil, length-append, eqb-true, take_all, le_refl, ⊎_elim, inl, inr, ◌⊎◌}
+use Rattle.std.proofs.Common.{◌≡◌, ℕ, ◌+◌, ◌<◌, ◌≤◌, Bool, true, false, if◌then◌else◌, nat_eq, nat_lt, Option, Some, None, List, [], ◌++◌, length}
+use Rattle.std.proofs.Common.{take, refl, sym, ap, subst, ◌∙◌, arith, append-nil, length-append, eqb-true, take_all, le_refl, ⊎_elim, inl, inr, ◌⊎◌}
 use Rattle.std.specs.List.{All}
 use Rattle.std.proofs.lemmas.Option.{none-some}
 use Rattle.std.proofs.lemmas.List.{take-append-le}
@@ -80,7 +81,8 @@ says_nothing l (Some (Refused Closed)) seen h = absurd h
 says_nothing l (Some (Refused _)) seen h = tt
 
 -- what an actor found stays so while Head's count only rises
-pub saw_later : (t u : Traced) (seen : List Entry) (a : Actor) (line : Option Line) (due : Option Reply) → t.world.shared.head.count ≤ u.world.shared.head.count → u.world.setup ≡ t.world.setup → SawAt t seen a line due → SawAt u seen a line due
+pub saw_later : (t u : Traced) (seen : List Entry) (a : Actor) (line : Option Line) (due : Option Reply)
+    → t.world.shared.head.count ≤ u.world.shared.head.count → u.world.setup ≡ t.world.setup → SawAt t seen a line due → SawAt u seen a line due
 saw_later t u seen a (Some D5) due up same h = (
   λ e. ⊎_elim (λ (less : a.head.count < t.world.shared.head.count). inl (omega arith)) (λ (f : LeadsTo seen []). inr f) (h.0 e),
   λ e. ⊎_elim (λ (less : a.head.count < t.world.shared.head.count). inl (omega arith)) (λ (f : Leads seen true []). inr f) (h.1 (e ∙ ap (λ z. reserved_node z.bits) same)),
@@ -95,7 +97,8 @@ saw_later t u seen a _ _ up same h = tt
 saw_begun : (t : Traced) (seen : List Entry) (kind : Kind) (me : ℕ) (op : Op) (a : Actor) → SawAt t seen (begun kind me op a) (begun kind me op a).line (begun kind me op a).due
 saw_begun t seen kind me (Enq body) a = go a.pocket kind
   where
-    go : (p : Option Held) (k : Kind) → let b : Actor = from_pocket (with_node k) p (record a { line = Some N1; op = Enq body; val = record { from = me; body = body }; due = None; entry = None }) in SawAt t seen b b.line b.due
+    go : (p : Option Held) (k : Kind) → let b : Actor = from_pocket (with_node k) p
+        (record a { line = Some N1; op = Enq body; val = record { from = me; body = body }; due = None; entry = None }) in SawAt t seen b b.line b.due
     go None k = tt
     go (Some held) TwoLock = tt
     go (Some held) NonBlocking = tt
@@ -109,7 +112,8 @@ saw_begun t seen TwoLock me Shut a = tt
 saw_begun t seen NonBlocking me Shut a = tt
 
 -- what an actor found stays so while it sets out for a step
-pub saw_led : (t u : Traced) (seen : List Entry) (s : Setup) (me : ℕ) (prologue : Prologue) (a : Actor) → t.world.shared.head.count ≤ u.world.shared.head.count → u.world.setup ≡ t.world.setup → SawAt t seen a a.line a.due
+pub saw_led : (t u : Traced) (seen : List Entry) (s : Setup) (me : ℕ) (prologue : Prologue) (a : Actor)
+    → t.world.shared.head.count ≤ u.world.shared.head.count → u.world.setup ≡ t.world.setup → SawAt t seen a a.line a.due
     → SawAt u seen (after_prologue s me prologue a) (after_prologue s me prologue a).line (after_prologue s me prologue a).due
 saw_led t u seen s me continues a up same h = saw_later t u seen a a.line a.due up same h
 saw_led t u seen s me (begins op) a up same h = saw_begun u seen s.kind me op (at_rest a)
@@ -184,7 +188,9 @@ module _ (t : Traced) (seen : List Entry) where
   sees_nothing s now me a F3 c h = both (same_ref c a.top) _ _ (freed_nothing s.kind now a.due (empties_hand a)) record { saw = λ b. tt }
   sees_nothing s now me a E3 c h = both (nat_eq c.count s.limit) _ _ record { saw = λ b. tt } record { saw = λ b. tt }
   sees_nothing s now me a E7 c h =
-      both (same_ref c a.tail) _ _ (both (is_null a.next) _ _ record { saw = λ b. tt } (both (is_shut s.bits a.next) _ _ record { saw = λ b. tt } (both (nat_eq a.tail.count s.limit) _ _ record { saw = λ b. tt } record { saw = λ b. tt })))
+      both (same_ref c a.tail) _ _ (both (is_null a.next) _ _ record { saw = λ b. tt }
+      (both (is_shut s.bits a.next) _ _ record { saw = λ b. tt } (both (nat_eq a.tail.count s.limit) _ _ record { saw = λ b. tt } record
+      { saw = λ b. tt })))
       record { saw = λ b. tt }
   sees_nothing s now me a E9 c h = won (same_ref c a.next)
     where
@@ -192,13 +198,16 @@ module _ (t : Traced) (seen : List Entry) where
       linked true = record { saw = λ b. tt }
       linked false = record { saw = λ b. tt }
 
-      won : (b : Bool) → SeesNothing t seen (if b then effect now (if nat_eq a.tail.count s.limit then ends now Done (empties_hand (record a { due = Some Done })) else goes E17 (empties_hand (record a { due = Some Done }))) else goes E5 a)
+      won : (b : Bool) → SeesNothing t seen (if b then effect now (if nat_eq a.tail.count s.limit then ends now Done
+          (empties_hand (record a { due = Some Done })) else goes E17 (empties_hand (record a { due = Some Done }))) else goes E5 a)
       won true = linked (nat_eq a.tail.count s.limit)
       won false = record { saw = λ b. tt }
   sees_nothing s now me a D4 c h = absurd h
   sees_nothing s now me a D5 c h =
       both (same_ref c a.head) _ _
-      (both (nat_eq a.head.node a.tail.node) _ _ (both (is_null a.next) _ _ record { saw = λ b. tt } (both (is_shut s.bits a.next) _ _ record { saw = λ b. tt } (both (nat_eq a.tail.count s.limit) _ _ record { saw = λ b. tt } record { saw = λ b. tt }))) record { saw = λ b. tt })
+      (both (nat_eq a.head.node a.tail.node) _ _ (both (is_null a.next) _ _ record { saw = λ b. tt }
+      (both (is_shut s.bits a.next) _ _ record { saw = λ b. tt } (both (nat_eq a.tail.count s.limit) _ _ record { saw = λ b. tt } record
+      { saw = λ b. tt }))) record { saw = λ b. tt })
       record { saw = λ b. tt }
   sees_nothing s now me a D12 c h = both (nat_eq a.head.count s.limit) _ _ record { saw = λ b. tt } record { saw = λ b. tt }
   sees_nothing s now me a D13 c h = both (same_ref c a.head) _ _ record { saw = λ b. tt } record { saw = λ b. tt }
@@ -211,7 +220,9 @@ module _ (t : Traced) (seen : List Entry) where
   sees_nothing s now me a B4 c h = both (nat_eq a.head.count s.limit) _ _ record { saw = λ b. tt } record { saw = λ b. tt }
   sees_nothing s now me a B6 c h = unlocked_nothing now a.due a
   sees_nothing s now me a S3 c h =
-      both (same_ref c a.tail) _ _ (both (is_null a.next) _ _ record { saw = λ b. tt } (both (is_shut s.bits a.next) _ _ record { saw = λ b. tt } (both (nat_eq a.tail.count s.limit) _ _ record { saw = λ b. tt } record { saw = λ b. tt })))
+      both (same_ref c a.tail) _ _ (both (is_null a.next) _ _ record { saw = λ b. tt }
+      (both (is_shut s.bits a.next) _ _ record { saw = λ b. tt } (both (nat_eq a.tail.count s.limit) _ _ record { saw = λ b. tt } record
+      { saw = λ b. tt })))
       record { saw = λ b. tt }
   sees_nothing s now me a S4 c h = both (same_ref c a.next) _ _ record { saw = λ b. tt } record { saw = λ b. tt }
   sees_nothing s now me a S6 c h = both (nat_eq c 0) _ _ record { saw = λ b. tt } record { saw = λ b. tt }
@@ -251,7 +262,8 @@ placed t a o = record o.actor { entry = Some (entry_or a.entry (length t.world.o
 pub saw_after : (t : Traced) (me : ℕ) (a : Actor) (l : Line) → IsTraced t → actor_of t.world me ≡ Some a → a.line ≡ Some l → (seen : List Entry) → (sees l ≡ true → seen ≡ (step_at t me a l).history)
     → SawAt (step_at t me a l) seen (actor_at t.world.setup t me a l) (actor_at t.world.setup t me a l).line (actor_at t.world.setup t me a l).due
 saw_after t me a D4 r is here seen whole =
-    let same : take (length (step_at t me a D4).history) (step_at t me a D4).history ≡ seen = take_all (length (step_at t me a D4).history) (step_at t me a D4).history (le_refl _) ∙ sym (whole refl) in
+    let same : take (length (step_at t me a D4).history) (step_at t me a D4).history ≡ seen = take_all (length (step_at t me a D4).history)
+    (step_at t me a D4).history (le_refl _) ∙ sym (whole refl) in
     let found = at_d4 t me a r (shuts_by_ends t r) is here in (
       λ e. subst (λ es. (a.head.count < t.world.shared.head.count) ⊎ LeadsTo es []) same (found.empty e),
       λ e. subst (λ es. (a.head.count < t.world.shared.head.count) ⊎ Leads es true []) same (found.closed e),
@@ -267,7 +279,9 @@ saw_after t me a B3 r is here seen whole = go (is_null (node_at t.world.shared a
     go : (b c : Bool) → is_null (node_at t.world.shared a.head.node).next ≡ b → is_shut t.world.setup.bits (node_at t.world.shared a.head.node).next ≡ c
         → let o : Outcome = after_b3 (t.world.steps + 1) a (node_at t.world.shared a.head.node).next b c in SawAt (step_at t me a B3) seen (placed t a o) o.actor.line o.actor.due
     go true c none shut = subst (λ es. LeadsTo es []) (sym all) (leaves_nothing t r (at_head 0 (eqb-true (node_at t.world.shared a.head.node).next.node 0 none)))
-    go false true none shut = subst (λ es. Leads es true []) (sym all) (leaves_shut t r (at_head (reserved_node t.world.setup.bits) (eqb-true (node_at t.world.shared a.head.node).next.node (reserved_node t.world.setup.bits) shut)))
+    go false true none shut = subst (λ es. Leads es true []) (sym all) (leaves_shut t r
+        (at_head (reserved_node t.world.setup.bits) (eqb-true (node_at t.world.shared a.head.node).next.node (reserved_node t.world.setup.bits)
+        shut)))
     go false false none shut = tt
 saw_after t me a A5 r is here seen whole = go (same_ref (node_at t.world.shared a.tail.node).next null) refl
   where
@@ -290,7 +304,8 @@ saw_after t me a S8 r is here seen whole = go (same_ref (node_at t.world.shared 
         let b : Actor = placed t a (after_s8 (t.world.steps + 1) a false) in
         let stands : actor_of (step_at t me a S8).world me ≡ Some b = step_here t me a S8 is ∙ ap (λ c. Some (placed t a (after_s8 (t.world.steps + 1) a c))) lost in
         subst LeadsToShut (sym (whole refl)) (shut_by_reply (step_at t me a S8) me b S9 (step_traced t me a S8 r is here) stands refl refl)
-saw_after t me a l r is here seen whole = (sees_nothing (step_at t me a l) seen t.world.setup (t.world.steps + 1) me a l (found (action t.world.setup me a l) t.world.shared) tt).saw (actor_at t.world.setup t me a l)
+saw_after t me a l r is here seen whole = (sees_nothing (step_at t me a l) seen t.world.setup (t.world.steps + 1) me a l
+    (found (action t.world.setup me a l) t.world.shared) tt).saw (actor_at t.world.setup t me a l)
 
 -- what an actor's registers have before its line, in either queue
 fixed_at : (t : Traced) (me : ℕ) (a : Actor) (l : Line) → IsTraced t → actor_of t.world me ≡ Some a → a.line ≡ Some l → FixedAt t.world.setup.limit me a (Some l)
@@ -346,7 +361,8 @@ module _ (t : Traced) (me : ℕ) (a : Actor) (seen : List Entry) where
   none_said l h = says_nothing l (outcome_at t.world.setup t me a l).reply seen (silent t.world.setup (t.world.steps + 1) me a l (found (action t.world.setup me a l) t.world.shared) h).reply
 
   -- what a step says of the queue is so
-  pub says_after : (l : Line) → IsTraced t → actor_of t.world me ≡ Some a → a.line ≡ Some l → (sees l ≡ true → seen ≡ (step_at t me a l).history) → (sees l ≡ false → SawAt t seen a (Some l) a.due) → Says l
+  pub says_after : (l : Line) → IsTraced t → actor_of t.world me ≡ Some a → a.line ≡ Some l → (sees l ≡ true → seen ≡ (step_at t me a l).history)
+      → (sees l ≡ false → SawAt t seen a (Some l) a.due) → Says l
   says_after E7 r is here whole saw = go (same_ref t.world.shared.tail a.tail) (is_null a.next) (is_shut t.world.setup.bits a.next) (nat_eq a.tail.count t.world.setup.limit)
       (λ e. subst LeadsToShut (sym (whole refl ∙ append-nil t.history)) (shut_by_reply t me a E7 r is here e))
     where
@@ -365,14 +381,16 @@ module _ (t : Traced) (me : ℕ) (a : Actor) (seen : List Entry) where
       go true false false true h = tt
       go true false false false h = tt
       go false n c w h = tt
-  says_after D5 r is here whole saw = go (same_ref t.world.shared.head a.head) (nat_eq a.head.node a.tail.node) (is_null a.next) (is_shut t.world.setup.bits a.next) (nat_eq a.tail.count t.world.setup.limit) refl refl refl
+  says_after D5 r is here whole saw = go (same_ref t.world.shared.head a.head) (nat_eq a.head.node a.tail.node) (is_null a.next)
+      (is_shut t.world.setup.bits a.next) (nat_eq a.tail.count t.world.setup.limit) refl refl refl
     where
       unmoved : (shut : Bool) → same_ref t.world.shared.head a.head ≡ true → (a.head.count < t.world.shared.head.count) ⊎ Leads seen shut [] → Leads seen shut []
       unmoved shut same (inl less) = absurd (let e = ap (λ (x : Ref). x.count) (same_ref-true t.world.shared.head a.head same) in omega arith)
       unmoved shut same (inr e) = e
 
       go : (p q n c w : Bool) → same_ref t.world.shared.head a.head ≡ p → is_null a.next ≡ n → is_shut t.world.setup.bits a.next ≡ c
-          → SaysOfSeen D5 (if p then if q then if n then ends (t.world.steps + 1) Empty a else if c then closed (t.world.steps + 1) a else if w then worn (t.world.steps + 1) OfTail a else goes D10 a else goes D12 a else goes D2 a).reply seen
+          → SaysOfSeen D5 (if p then if q then if n then ends (t.world.steps + 1) Empty a else if c then closed (t.world.steps + 1) a else if w then
+          worn (t.world.steps + 1) OfTail a else goes D10 a else goes D12 a else goes D2 a).reply seen
       go true true true c w same none shut = unmoved false same ((saw refl).0 (eqb-true a.next.node 0 none))
       go true true false true w same none shut = unmoved true same ((saw refl).1 (eqb-true a.next.node (reserved_node t.world.setup.bits) shut))
       go true true false false true same none shut = tt

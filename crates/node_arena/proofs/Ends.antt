@@ -1,5 +1,6 @@
 -- The end of an arena: its words are those of a traced world, to which each seat handed in fits.
-use Rattle.std.proofs.Common.{◌≡◌, ℕ, ◌+◌, ◌*◌, ◌<◌, ◌≤◌, ◌↔◌, IsTrue, zero, suc, List, [], ◌∷◌, length, map, take, slice_get, slice_index, Option, Some, refl, sym, ap, subst, ◌∙◌, arith, true, false, Bool, nat_lt, nat_eq, inl, inr, eq-eqb, ne_eqb, if◌then◌else◌}
+use Rattle.std.proofs.Common.{◌≡◌, ℕ, ◌+◌, ◌*◌, ◌<◌, ◌≤◌, ◌↔◌, IsTrue, zero, suc, List, [], ◌∷◌, length, map, take, slice_get, slice_index, Option}
+use Rattle.std.proofs.Common.{Some, refl, sym, ap, subst, ◌∙◌, arith, true, false, Bool, nat_lt, nat_eq, inl, inr, eq-eqb, ne_eqb, if◌then◌else◌}
 use Rattle.std.specs.List.{All, count_by, sum_by}
 use Rattle.std.proofs.lemmas.List.{length-map}
 use Rattle.std.proofs.lemmas.List.Elements.{All-nil, All-cons, All-head, All-tail, All-weaker}
@@ -84,12 +85,14 @@ module _ (bits : ℕ) (split : IsSplit bits) (m : Shared) (fits : SharedFits bit
         λ i. record { from = p.0 i; body = p.1 i }
 
   -- the nodes behind one of the queue's chain have their values, and the chain's end says whether it is shut
-  chain_values : (front : ℕ) (ns : List ℕ) → IsQueueChain bits m.nodes (node_at m front).next.node ns → HaveValues bits (memory_words bits m) (is_shut_chain bits m (front ∷ ns)) (node_at m front).next.node (values_of m ns)
+  chain_values : (front : ℕ) (ns : List ℕ) → IsQueueChain bits m.nodes (node_at m front).next.node ns
+      → HaveValues bits (memory_words bits m) (is_shut_chain bits m (front ∷ ns)) (node_at m front).next.node (values_of m ns)
   chain_values front [] c = ended bits split (node_at m front).next.node c
   chain_values front (k ∷ ks) c =
       let more : HaveValues bits (memory_words bits m) (is_shut_chain bits m (k ∷ ks)) (ref_at bits (memory_words bits m) (4 + 2 * k)).node (values_of m ks) =
       subst (λ (r : Ref). HaveValues bits (memory_words bits m) (is_shut_chain bits m (k ∷ ks)) r.node (values_of m ks)) (sym (next_is k c.1 c.2)) (chain_values k ks c.3) in
-      subst (λ j. HaveValues bits (memory_words bits m) (is_shut_chain bits m (k ∷ ks)) j (values_of m (k ∷ ks))) (sym c.0) (c.1, (let most = c.2 in omega (arith, most, few)), has_node k c.1 c.2, value_is k c.1 c.2, more)
+      subst (λ j. HaveValues bits (memory_words bits m) (is_shut_chain bits m (k ∷ ks)) j (values_of m (k ∷ ks))) (sym c.0)
+      (c.1, (let most = c.2 in omega (arith, most, few)), has_node k c.1 c.2, value_is k c.1 c.2, more)
 
 -- the words of a world have the values of its queue, of which there are no more than nodes
 record Left (w : World) : Type 0 where
@@ -117,13 +120,15 @@ left_in w r =
     let at = chain_some (IsEnd w.setup.bits) m.nodes m.head.node p.0 (no_end w.setup.bits m.head.node low (λ e. omega (arith, e, high, small))) p.2.queue_chain in
     let c : IsQueueChain w.setup.bits m.nodes m.head.node (m.head.node ∷ at.0) = subst (IsQueueChain w.setup.bits m.nodes m.head.node) at.1 p.2.queue_chain in
     let front : front_of w.setup.bits (memory_words w.setup.bits m) ≡ (node_at m m.head.node).next.node =
-    ap (λ (x : Ref). (ref_at w.setup.bits (memory_words w.setup.bits m) (4 + 2 * x.node)).node) (head_is w.setup.bits split m fits small) ∙ ap (λ (x : Ref). x.node) (next_is w.setup.bits split m fits small m.head.node low high) in
+    ap (λ (x : Ref). (ref_at w.setup.bits (memory_words w.setup.bits m) (4 + 2 * x.node)).node) (head_is w.setup.bits split m fits small) ∙ ap
+    (λ (x : Ref). x.node) (next_is w.setup.bits split m fits small m.head.node low high) in
     record {
       queue = m.head.node ∷ at.0;
       chain = c;
       head = has_head w.setup.bits split m fits small;
       dummy = subst (λ (x : Ref). HasNode (memory_words w.setup.bits m) x.node) (sym (head_is w.setup.bits split m fits small)) (has_node w.setup.bits split m fits small m.head.node low high);
-      values = subst (λ n. HaveValues w.setup.bits (memory_words w.setup.bits m) (is_shut_chain w.setup.bits m (m.head.node ∷ at.0)) n (values_of m at.0)) (sym front) (chain_values w.setup.bits split m fits small m.head.node at.0 c.3);
+      values = subst (λ n. HaveValues w.setup.bits (memory_words w.setup.bits m) (is_shut_chain w.setup.bits m (m.head.node ∷ at.0)) n
+          (values_of m at.0)) (sym front) (chain_values w.setup.bits split m fits small m.head.node at.0 c.3);
       few = omega (arith, used, fresh, ap length at.1, length-map at.0 (λ n. (node_at m n).value));
       long = omega (arith, long w.setup.bits split m fits small, all);
     }
@@ -144,7 +149,8 @@ got_map f (y ∷ ys) zero x e = let same : y ≡ x = cc in ap (λ z. some (f z))
 got_map f (y ∷ ys) (suc k) x e = got_map f ys k x e
 
 -- at a state by the rule of the queue alone, whose own traced world that is
-pub ends_in : {T : Type 0} (z : Layout) (seats : List (Seat T)) (id : ℕ) (s : State ℕ View) (h : Holds z s) (words : List ℕ) → get_elem? s.views id ≡ some (gathered (map view seats)) → s.words ≡ words → (e : Ends z seats (shared_words words)) × (e.trace ≡ h.trace)
+pub ends_in : {T : Type 0} (z : Layout) (seats : List (Seat T)) (id : ℕ) (s : State ℕ View) (h : Holds z s) (words : List ℕ)
+    → get_elem? s.views id ≡ some (gathered (map view seats)) → s.words ≡ words → (e : Ends z seats (shared_words words)) × (e.trace ≡ h.trace)
 ends_in z seats id s h words at_id are =
     let u : View = gathered (map view seats) in (
       record {
@@ -154,13 +160,16 @@ ends_in z seats id s h words at_id are =
         words_are = ap shared_words (sym are) ∙ h.words;
         permitted = h.permitted;
         fits = λ k s got. h.fits id k u (view s) at_id (got_map view seats k s got);
-        apart = λ k l a b x y e. ap (λ (q : ℕ × ℕ). q.1) (sym (h.owned id k u (view a) at_id (got_map view seats k a x)).0 ∙ (ap h.owner e ∙ (h.owned id l u (view b) at_id (got_map view seats l b y)).0));
+        apart = λ k l a b x y e. ap (λ (q : ℕ × ℕ). q.1) (sym (h.owned id k u (view a) at_id (got_map view seats k a x)).0 ∙
+            (ap h.owner e ∙ (h.owned id l u (view b) at_id (got_map view seats l b y)).0));
       },
       refl,
     )
 
 -- the same of a table whose words are the queue's alone, at the names of a call
-pub ends : {T : Type 0} (z key : Layout) (seats : List (Seat T)) (id : ℕ) (me : Me (Option T) (Beside T)) (words : List ℕ) (slots : List (Option T)) → key ≡ z → length words ≡ words_of key → me.0.plain ≡ gathered (map view seats) → Final {S = Option T} (Seen (HoldsFor key) id me.0) words slots → Ends z seats (shared_words words)
+pub ends : {T : Type 0} (z key : Layout) (seats : List (Seat T)) (id : ℕ) (me : Me (Option T) (Beside T)) (words : List ℕ) (slots : List (Option T))
+    → key ≡ z → length words ≡ words_of key → me.0.plain ≡ gathered (map view seats) → Final {S = Option T} (Seen (HoldsFor key) id me.0) words slots
+    → Ends z seats (shared_words words)
 ends z key seats id me words slots same long is t =
     let f = lift_final key id me.0 words slots t in
     let e = ends_in key seats id f.0 f.1.0 (take (words_of key) words) (f.1.1 ∙ ap some is) f.2 in
@@ -168,7 +177,8 @@ ends z key seats id me words slots same long is t =
 
 -- the words of a table that carries no values are the queue's alone
 pub words_alone : (z key : Layout) (t : TableId) (n : ℕ) → IsTable z key t → z.carries ≡ false → n ≡ t.words → n ≡ words_of key
-words_alone z key t n table none is = let no_slots : slots_of z ≡ 0 = ap (λ (b : Bool). if b then z.setup.size else 0) none in omega (arith, is, table.words, no_slots, ap (λ (y : Layout). y.setup.size) table.key)
+words_alone z key t n table none is = let no_slots : slots_of z ≡ 0 = ap (λ (b : Bool). if b then z.setup.size else 0) none in omega
+    (arith, is, table.words, no_slots, ap (λ (y : Layout). y.setup.size) table.key)
 
 -- it has no slots
 pub slots_none : (z key : Layout) (t : TableId) → IsTable z key t → z.carries ≡ false → t.slots ≡ 0
@@ -195,7 +205,8 @@ queue_at_end z seats words most room e =
     }))
 
 -- each seat's own entries are those that it knows
-own_each : {T : Type 0} (t : Traced) (seats : List (Seat T)) → ((k : ℕ) (s : Seat T) → slice_get seats k ≡ Some s → Fits t (view s)) → All (λ k. own_entries k.number t.history ≡ k.mine) (map known_of seats)
+own_each : {T : Type 0} (t : Traced) (seats : List (Seat T)) → ((k : ℕ) (s : Seat T) → slice_get seats k ≡ Some s → Fits t (view s))
+    → All (λ k. own_entries k.number t.history ≡ k.mine) (map known_of seats)
 own_each t [] f = All-nil (λ (k : Known). own_entries k.number t.history ≡ k.mine)
 own_each t (s ∷ ss) f = All-cons (λ (k : Known). own_entries k.number t.history ≡ k.mine) (known_of s) (map known_of ss) (f 0 s refl).own (own_each t ss (λ k. f (suc k)))
 
@@ -222,16 +233,23 @@ pub record Rests (bits : ℕ) (words : List ℕ) (pushes pops : ℕ) (shut : Boo
   pub whole : IsTrue (whole_of rest) ↔ ((pops ≡ taken_of rest) × (pushes ≡ taken_of rest + length (left_of rest)) × (IsTrue (was_shut_of rest) → IsTrue shut))
 
 -- the history then leads to the values left, of which there are no more than nodes
-pub leads_at_end : {T : Type 0} (z : Layout) (seats : List (Seat T)) (words : List ℕ) (rest : Rest) (e : Ends z seats words) → AreLeft z.setup.bits words (was_shut_of rest) (left_of rest) → Leads e.trace.history (was_shut_of rest) (left_of rest) × (length (left_of rest) ≤ z.setup.size)
+pub leads_at_end : {T : Type 0} (z : Layout) (seats : List (Seat T)) (words : List ℕ) (rest : Rest) (e : Ends z seats words)
+    → AreLeft z.setup.bits words (was_shut_of rest) (left_of rest) → Leads e.trace.history (was_shut_of rest) (left_of rest)
+    × (length (left_of rest) ≤ z.setup.size)
 leads_at_end z seats words rest e there =
     let t : Traced = e.trace in
     let b : ℕ = t.world.setup.bits in
     let words_are : words ≡ memory_words b t.world.shared = e.words_are ∙ ap (λ (y : Setup). memory_words y.bits t.world.shared) (sym e.setup) in
     let range = reached_in_range t.world (traced_reached t e.reached) in
     let l : Left t.world = left_in t.world (traced_reached t e.reached) in
-    let told : AreLeft b (memory_words b t.world.shared) (was_shut_of rest) (left_of rest) = subst (λ ws. AreLeft b ws (was_shut_of rest) (left_of rest)) words_are (subst (λ (y : Setup). AreLeft y.bits words (was_shut_of rest) (left_of rest)) (sym e.setup) there) in
-    let same = same_values b range.sized.split (memory_words b t.world.shared) (is_shut_chain b t.world.shared l.queue) (was_shut_of rest) (front_of b (memory_words b t.world.shared)) _ _ l.values told in
-    (subst (Plays empty t.history) (λ i. record { values = same.0 i; shut = same.1 i }) (history_plays t e.reached l.queue l.chain), omega (arith, ap length same.0, l.few, ap (λ (y : Setup). y.size) e.setup))
+    let told : AreLeft b (memory_words b t.world.shared) (was_shut_of rest) (left_of rest) =
+    subst (λ ws. AreLeft b ws (was_shut_of rest) (left_of rest)) words_are (subst
+    (λ (y : Setup). AreLeft y.bits words (was_shut_of rest) (left_of rest)) (sym e.setup) there) in
+    let same = same_values b range.sized.split (memory_words b t.world.shared) (is_shut_chain b t.world.shared l.queue) (was_shut_of rest)
+    (front_of b (memory_words b t.world.shared)) _ _ l.values told in (
+      subst (Plays empty t.history) (λ i. record { values = same.0 i; shut = same.1 i }) (history_plays t e.reached l.queue l.chain),
+      omega (arith, ap length same.0, l.few, ap (λ (y : Setup). y.size) e.setup),
+    )
 
 -- Head's count is then that of the pops
 pub counted_at_end : {T : Type 0} (z : Layout) (seats : List (Seat T)) (words : List ℕ) (e : Ends z seats words) → (ref_at z.setup.bits words 2).count ≡ count_by is_pop e.trace.history
@@ -239,12 +257,18 @@ counted_at_end z seats words e =
     let t : Traced = e.trace in
     let b : ℕ = t.world.setup.bits in
     let range = reached_in_range t.world (traced_reached t e.reached) in
-    let head : ref_at b (memory_words b t.world.shared) 2 ≡ t.world.shared.head = head_is b range.sized.split t.world.shared (shared_fits t.world range) (few_nodes t.world (traced_reached t e.reached)) in
-    ap (λ (y : Setup). (ref_at y.bits words 2).count) (sym e.setup) ∙ ap (λ ws. (ref_at b ws 2).count) (e.words_are ∙ ap (λ (y : Setup). memory_words y.bits t.world.shared) (sym e.setup)) ∙ ap (λ (x : Ref). x.count) head ∙ counts_pops t e.reached
+    let head : ref_at b (memory_words b t.world.shared) 2 ≡ t.world.shared.head =
+    head_is b range.sized.split t.world.shared (shared_fits t.world range) (few_nodes t.world (traced_reached t e.reached)) in
+    ap (λ (y : Setup). (ref_at y.bits words 2).count) (sym e.setup) ∙ ap (λ ws. (ref_at b ws 2).count)
+    (e.words_are ∙ ap (λ (y : Setup). memory_words y.bits t.world.shared) (sym e.setup)) ∙ ap (λ (x : Ref). x.count) head ∙ counts_pops t
+    e.reached
 
 -- what is told of an arena that is closed by seats, whose own history that is
-closes_in : (permits : List Permit) (ks : List Known) (rest : Rest) (es : List Entry) → Leads es (was_shut_of rest) (left_of rest) → All (IsPermitted permits) es → All (λ k. IsPrefix k.seen es) ks → All (λ k. own_entries k.number es ≡ k.mine) ks → AreApart ks → taken_of rest ≡ count_by is_pop es
-    → (IsTrue (whole_of rest) ↔ ((pops_of ks ≡ taken_of rest) × (pushes_of ks ≡ taken_of rest + length (left_of rest)) × (IsTrue (was_shut_of rest) → 1 ≤ shuts_of ks))) → (c : Closes permits ks rest) × (c.history ≡ es)
+closes_in : (permits : List Permit) (ks : List Known) (rest : Rest) (es : List Entry) → Leads es (was_shut_of rest) (left_of rest)
+    → All (IsPermitted permits) es → All (λ k. IsPrefix k.seen es) ks → All (λ k. own_entries k.number es ≡ k.mine) ks → AreApart ks
+    → taken_of rest ≡ count_by is_pop es
+    → (IsTrue (whole_of rest) ↔ ((pops_of ks ≡ taken_of rest) × (pushes_of ks ≡ taken_of rest + length (left_of rest))
+    × (IsTrue (was_shut_of rest) → 1 ≤ shuts_of ks))) → (c : Closes permits ks rest) × (c.history ≡ es)
 closes_in permits ks rest es leads permitted begins own apart counted whole = (
   record {
     history = es;
@@ -254,7 +278,9 @@ closes_in permits ks rest es leads permitted begins own apart counted whole = (
     own = own;
     counted = counted;
     whole = whole;
-    theirs = λ t. let h = whole.0 t in theirs ks es apart own (h.0 ∙ counted) (let pushed = pushes-Leads es (was_shut_of rest) (left_of rest) leads in omega (arith, h.1, counted, pushed)) (one_shut (was_shut_of rest) _ _ (shut_by_one es (was_shut_of rest) (left_of rest) leads) (made-le ks es apart own is_shut) h.2);
+    theirs = λ t. let h = whole.0 t in theirs ks es apart own (h.0 ∙ counted) (let pushed =
+        pushes-Leads es (was_shut_of rest) (left_of rest) leads in omega (arith, h.1, counted, pushed))
+        (one_shut (was_shut_of rest) _ _ (shut_by_one es (was_shut_of rest) (left_of rest) leads) (made-le ks es apart own is_shut) h.2);
     all = (closes permits ks rest es leads permitted begins own apart counted whole).all;
   },
   refl,
@@ -265,9 +291,14 @@ closes_in permits ks rest es leads permitted begins own apart counted whole = (
     one_shut false made all e low one = omega (arith, e, low)
 
 -- an arena is closed by seats, where that is told of its end
-pub closes_at_end : {T : Type 0} (r : Arena) (seats : List (Seat T)) (words : List ℕ) (pushes pops : ℕ) (shut : Bool) (rest : Rest) (e : Ends r.plan seats words) → pushes ≡ pushes_of (map known_of seats) → pops ≡ pops_of (map known_of seats) → shut ≡ nat_lt 0 (shuts_of (map known_of seats)) → Rests r.plan.setup.bits words pushes pops shut rest → (c : Closes (permits_of r) (map known_of seats) rest) × (c.history ≡ e.trace.history)
+pub closes_at_end : {T : Type 0} (r : Arena) (seats : List (Seat T)) (words : List ℕ) (pushes pops : ℕ) (shut : Bool) (rest : Rest)
+    (e : Ends r.plan seats words) → pushes ≡ pushes_of (map known_of seats) → pops ≡ pops_of (map known_of seats)
+    → shut ≡ nat_lt 0 (shuts_of (map known_of seats)) → Rests r.plan.setup.bits words pushes pops shut rest
+    → (c : Closes (permits_of r) (map known_of seats) rest) × (c.history ≡ e.trace.history)
 closes_at_end r seats words pushes pops shut rest e pushed popped shuts h =
-    closes_in (permits_of r) (map known_of seats) rest e.trace.history (leads_at_end r.plan seats words rest e h.left).0 e.permitted (begins_each e.trace seats e.fits) (own_each e.trace seats e.fits) (numbers_apart r.plan seats words e) (h.taken ∙ counted_at_end r.plan seats words e) (
+    closes_in (permits_of r) (map known_of seats) rest e.trace.history (leads_at_end r.plan seats words rest e h.left).0 e.permitted
+    (begins_each e.trace seats e.fits) (own_each e.trace seats e.fits) (numbers_apart r.plan seats words e)
+    (h.taken ∙ counted_at_end r.plan seats words e) (
       λ w. let x = h.whole.0 w in (sym popped ∙ x.0, sym pushed ∙ x.1, λ was. ltb-true 0 (shuts_of (map known_of seats)) (sym shuts ∙ x.2 was)),
       λ x. h.whole.1 (popped ∙ x.0, pushed ∙ x.1, λ was. shuts ∙ lt-ltb 0 (shuts_of (map known_of seats)) (x.2 was)),
     )
@@ -283,12 +314,24 @@ count_own r = All-weaker (IsReady r) CountsItsOwn (λ s h. record { pushes = h.s
 pub sum_by-pushes : {T : Type 0} (seats : List (Seat T)) → All CountsItsOwn seats → sum_by (λ (s : Seat T). s.pushes) seats ≡ pushes_of (map known_of seats)
 sum_by-pushes [] h = refl
 sum_by-pushes (s ∷ ss) h =
-    omega (arith, sum_by-cons (λ (x : Seat _). x.pushes) s ss, sum_by-cons (λ (k : Known). count_by is_push k.mine) (known_of s) (map known_of ss), (All-head CountsItsOwn s ss h).pushes, sum_by-pushes ss (All-tail CountsItsOwn s ss h))
+    omega (
+      arith,
+      sum_by-cons (λ (x : Seat _). x.pushes) s ss,
+      sum_by-cons (λ (k : Known). count_by is_push k.mine) (known_of s) (map known_of ss),
+      (All-head CountsItsOwn s ss h).pushes,
+      sum_by-pushes ss (All-tail CountsItsOwn s ss h),
+    )
 
 pub sum_by-pops : {T : Type 0} (seats : List (Seat T)) → All CountsItsOwn seats → sum_by (λ (s : Seat T). s.pops) seats ≡ pops_of (map known_of seats)
 sum_by-pops [] h = refl
 sum_by-pops (s ∷ ss) h =
-    omega (arith, sum_by-cons (λ (x : Seat _). x.pops) s ss, sum_by-cons (λ (k : Known). count_by is_pop k.mine) (known_of s) (map known_of ss), (All-head CountsItsOwn s ss h).pops, sum_by-pops ss (All-tail CountsItsOwn s ss h))
+    omega (
+      arith,
+      sum_by-cons (λ (x : Seat _). x.pops) s ss,
+      sum_by-cons (λ (k : Known). count_by is_pop k.mine) (known_of s) (map known_of ss),
+      (All-head CountsItsOwn s ss h).pops,
+      sum_by-pops ss (All-tail CountsItsOwn s ss h),
+    )
 
 -- their shuts are those of what they know
 pub sum_by-shuts : {T : Type 0} (seats : List (Seat T)) → sum_by (λ (s : Seat T). count_by is_shut (view s).mine) seats ≡ shuts_of (map known_of seats)

@@ -118,7 +118,8 @@ permits-at (x ∷ xs) (suc k) r at = permits-at xs k r at
 permitted_one : (roles : List Role) (r : Role) (e : Entry) → 1 ≤ seat_of e → slice_get roles (seat_of e - 1) ≡ Some r → Allows (permit_of r) e → RolesPermit roles e
 permitted_one roles r e least at p = (least, subst (λ o. IsSomeAnd o (λ x. Allows x e)) (sym (permits-at roles (seat_of e - 1) r at)) p)
 
-permitted_of : (s : Setup) (roles : List Role) (me : ℕ) (a : Actor) (l : Line) (r : Role) (c : Found (action s me a l)) → 1 ≤ me → slice_get roles (me - 1) ≡ Some r → PermitsLine r l → All (RolesPermit roles) (entries_of s me a l c)
+permitted_of : (s : Setup) (roles : List Role) (me : ℕ) (a : Actor) (l : Line) (r : Role) (c : Found (action s me a l)) → 1 ≤ me
+    → slice_get roles (me - 1) ≡ Some r → PermitsLine r l → All (RolesPermit roles) (entries_of s me a l c)
 permitted_of s roles me a E9 r c least at p = go (same_ref c a.next)
   where
     go : (b : Bool) → All (RolesPermit roles) (if b then Push me a.val.body ∷ [] else [])
@@ -148,5 +149,6 @@ permitted_of s roles me a S8 r c least at p = go (same_ref c null)
 permitted_of s roles me a _ r c least at p = all_none (RolesPermit roles)
 
 -- what a step adds is permitted, where the actor's role permits the line
-pub permitted_added : (s : Setup) (roles : List Role) (t : Traced) (me : ℕ) (a : Actor) (l : Line) (r : Role) → 1 ≤ me → slice_get roles (me - 1) ≡ Some r → PermitsLine r l → All (RolesPermit roles) (entries_at s t me a l)
+pub permitted_added : (s : Setup) (roles : List Role) (t : Traced) (me : ℕ) (a : Actor) (l : Line) (r : Role) → 1 ≤ me
+    → slice_get roles (me - 1) ≡ Some r → PermitsLine r l → All (RolesPermit roles) (entries_at s t me a l)
 permitted_added s roles t me a l r least at p = permitted_of s roles me a l r (found (action s me a l) t.world.shared) least at p

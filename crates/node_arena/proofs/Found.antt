@@ -1,5 +1,6 @@
 -- Looks one after another: what a word that was looked at says of the world, and what three looks say of the queue.
-use Rattle.std.proofs.Common.{◌≡◌, ◌≢◌, ℕ, ◌+◌, ◌*◌, ◌<◌, ◌≤◌, ◌⊎◌, get_or, inl, inr, true, false, if◌then◌else◌, List, ◌∷◌, ◌++◌, length, IfSome, refl, sym, ap, subst, ◌∙◌, arith, append_assoc, eqb-true}
+use Rattle.std.proofs.Common.{◌≡◌, ◌≢◌, ℕ, ◌+◌, ◌*◌, ◌<◌, ◌≤◌, ◌⊎◌, get_or, inl, inr, true, false, if◌then◌else◌, List, ◌∷◌, ◌++◌, length, IfSome}
+use Rattle.std.proofs.Common.{refl, sym, ap, subst, ◌∙◌, arith, append_assoc, eqb-true}
 use Rattle.std.proofs.lemmas.Bool.{eqb-false}
 use Rattle.std.specs.List.{count_by}
 use Rattle.std.proofs.lemmas.List.Sums.{sum_by-append}
@@ -62,7 +63,8 @@ module _ (z : Layout) (word n : ℕ) (v v' : SeatView) (a : LooksAt z word n v v
 
   -- what a look at what follows a node found
   pub next_there : (k : ℕ) → 1 ≤ k → k ≤ length m.nodes → word ≡ 4 + 2 * k → ref_of z.setup.bits n ≡ (node_at m k).next
-  next_there k low high e = read_back z.setup.bits split_there (node_at m k).next n (fits_there (Next k)) (subst (λ w. n ≡ get_or (memory_words z.setup.bits m) w 0) e a.held ∙ reading z.setup.bits m (Next k) (low, high))
+  next_there k low high e = read_back z.setup.bits split_there (node_at m k).next n (fits_there (Next k))
+      (subst (λ w. n ≡ get_or (memory_words z.setup.bits m) w 0) e a.held ∙ reading z.setup.bits m (Next k) (low, high))
 
   -- a node that Head or Tail names has a number that is one of the nodes'
   pub head_within : m.head.node ≤ length m.nodes
@@ -159,7 +161,8 @@ leaves_some t r some = go (second_or_end (IsEnd t.world.setup.bits) m.nodes m.he
     go (inr h) = absurd (some (subst (λ k. IsEnd t.world.setup.bits (next_in m.nodes k)) (sym first) h))
 
 -- a look at Head, at what follows its node, and at Head again
-module _ (z : Layout) (word n1 n2 n3 : ℕ) (v0 v1 v2 v3 : SeatView) (a : LooksAt z 2 n1 v0 v1) (b : LooksAt z word n2 v1 v2) (c : LooksAt z 2 n3 v2 v3) (at : word ≡ 4 + 2 * (ref_of z.setup.bits n1).node) where
+module _ (z : Layout) (word n1 n2 n3 : ℕ) (v0 v1 v2 v3 : SeatView) (a : LooksAt z 2 n1 v0 v1) (b : LooksAt z word n2 v1 v2) (c : LooksAt z 2 n3 v2 v3)
+    (at : word ≡ 4 + 2 * (ref_of z.setup.bits n1).node) where
   abbrev bits : ℕ
   bits = z.setup.bits
 
@@ -179,7 +182,8 @@ module _ (z : Layout) (word n1 n2 n3 : ℕ) (v0 v1 v2 v3 : SeatView) (a : LooksA
   to_three = (since_there z word n2 2 n3 v1 v2 v3 b c).head
 
   sees_all : SeesMore (known_by v0) (known_by v3)
-  sees_all = sees_then (known_by v0) (known_by v2) (known_by v3) (sees_then (known_by v0) (known_by v1) (known_by v2) (sees_there z 2 n1 v0 v1 a) (sees_there z word n2 v1 v2 b)) (sees_there z 2 n3 v2 v3 c)
+  sees_all = sees_then (known_by v0) (known_by v2) (known_by v3) (sees_then (known_by v0) (known_by v1) (known_by v2) (sees_there z 2 n1 v0 v1 a)
+      (sees_there z word n2 v1 v2 b)) (sees_there z 2 n3 v2 v3 c)
 
   -- Head moved: pops took effect
   pub found_moved : n3 ≢ n1 → FoundSo (known_by v0) Moved (known_by v3)

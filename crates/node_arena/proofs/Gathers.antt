@@ -81,7 +81,17 @@ none_paired v u e = cc
 
 -- the same of views that know of values
 pub enters_beside : {T : Type 0} (key : Layout) (slots : ℕ) → Enters {S = Option T} (HoldsFor key) slots 0 (λ n w. OpensBeside (w, []))
-enters_beside key slots = lift_enters key slots 0 (λ n w. Opens (w, [])) (omega arith) (λ es s hs empty fit. let q = enters key es 0 0 s hs empty fit in (q.0, q.1, (q.2, (λ v e. none_seated v (sym (ap (λ (y : Me ℕ View). y.0) q.2) ∙ e)), (λ v u e. none_paired v u (sym (ap (λ (y : Me ℕ View). y.0) q.2) ∙ e)))))
+enters_beside key slots = lift_enters key slots 0 (λ n w. Opens (w, [])) (omega arith)
+    (λ es s hs empty fit. let q = enters key es 0 0 s hs empty fit in (
+      q.0,
+      q.1,
+      (
+        q.2,
+        (λ v e. none_seated v (sym (ap (λ (y : Me ℕ View). y.0) q.2) ∙ e)),
+        (λ v u e. none_paired v u
+            (sym (ap (λ (y : Me ℕ View). y.0) q.2) ∙ e)),
+      ),
+    ))
 
 -- an index below the number of words is that of one of them, which has a place in the table
 pub look_there : (z key : Layout) (t : TableId) (word size : ℕ) → IsTable z key t → size ≡ z.setup.size → word < 6 + 2 * size → place word < t.words
@@ -101,7 +111,14 @@ peeks key es slots p s hs empty fit =
       (
         λ i at less.
             let there : i < length s.words - 42 = omega (arith, less, words_there key s h, length-shared_words s.words) in
-            record { was = h.trace; reached = h.reached; setup = h.setup; peopled = h.actors; held = ap (λ q. get_or s.words q 0) (sym at) ∙ (sym (get_or-shared_words s.words i there) ∙ ap (λ ws. slice_index ws i) h.words) },
+            record {
+              was = h.trace;
+              reached = h.reached;
+              setup = h.setup;
+              peopled = h.actors;
+              held = ap (λ q. get_or s.words q 0) (sym at) ∙
+                  (sym (get_or-shared_words s.words i there) ∙ ap (λ ws. slice_index ws i) h.words);
+            },
         (λ v e. none_seated v (sym (ap (λ (y : Me ℕ View). y.0) new.2) ∙ e)),
         (λ v u e. none_paired v u (sym (ap (λ (y : Me ℕ View). y.0) new.2) ∙ e)),
       ),
@@ -120,17 +137,32 @@ pub held_at : (z key : Layout) (t : TableId) (p word size n : ℕ) → IsTable z
 held_at z key t p word size n h at same less was = subst (λ y. WasWord y word n) h.key (was word (sym at) (omega (arith, ap (λ (y : Layout). y.setup.size) h.key, same, less)))
 
 -- the same of views that know of values, at the names of a call
-pub gathers_at : {T : Type 0} (key : Layout) (id other : ℕ) (vs : List SeatView) (me him : Me (Option T) (Beside T)) (w : SeatView) → me.0.plain ≡ gathered vs → him.0.plain ≡ seated w → him.0.hand ≡ none → Joins {S = Option T} (HoldsFor key) id me.0 other him.0 (both_beside me.0 him.0) knows_nothing
+pub gathers_at : {T : Type 0} (key : Layout) (id other : ℕ) (vs : List SeatView) (me him : Me (Option T) (Beside T)) (w : SeatView)
+    → me.0.plain ≡ gathered vs → him.0.plain ≡ seated w → him.0.hand ≡ none → Joins {S = Option T} (HoldsFor key) id me.0 other him.0
+    (both_beside me.0 him.0) knows_nothing
 gathers_at key id other vs me him w is his none_out = lift_joins key id other me.0 him.0 (both_beside me.0 him.0) knows_nothing
     (λ es. subst (λ (y : View × View). Joins {S = ℕ} (HoldsWith key es) id y.0 other y.1 (both_of y.0 y.1) spent) (λ i. (sym is i, sym his i)) (gathers key es id other vs w)) refl (sym none_out)
-    (λ ds b his_own. (record { rest = b.rest; begins = b.begins; matches = λ v e. cc; pair = λ v u e y. cc; others = ((his_own.rest, his_own.begins), b.others) }, record { rest = ds; begins = refl; matches = λ v e. cc; pair = λ v u e y. cc; others = tt }))
+    (λ ds b his_own. (
+      record {
+        rest = b.rest;
+        begins = b.begins;
+        matches = λ v e. cc;
+        pair = λ v u e y. cc;
+        others =
+            ((his_own.rest, his_own.begins), b.others);
+      },
+      record { rest = ds; begins = refl; matches = λ v e. cc; pair = λ v u e y. cc; others = tt },
+    ))
 
 -- the same of a token that gathers, and of a seat that brings its own
-pub gathers_token : {T : Type 0} (key : Layout) (t : TableId) (k : Token (Option T) (Beside T)) (s : Seat T) (seats : List (Seat T)) → HasGathered t k seats → HasToken t s → Joins {S = Option T} (HoldsFor key) k.id k.me.0 s.token.id s.token.me.0 (both_beside k.me.0 s.token.me.0) knows_nothing
+pub gathers_token : {T : Type 0} (key : Layout) (t : TableId) (k : Token (Option T) (Beside T)) (s : Seat T) (seats : List (Seat T))
+    → HasGathered t k seats → HasToken t s → Joins {S = Option T} (HoldsFor key) k.id k.me.0 s.token.id s.token.me.0 (both_beside k.me.0 s.token.me.0)
+    knows_nothing
 gathers_token key t k s seats g has = gathers_at key k.id s.token.id (map view seats) k.me s.token.me (view s) g.seat has.seat (none_hand s.token.me.0.hand has.none_out.1)
 
 -- a token that took in one more
-pub took_in : {T : Type 0} (t : TableId) (k k' : Token (Option T) (Beside T)) (seats : List (Seat T)) (s : Seat T) → HasGathered t k seats → HasToken t s → k'.table_id ≡ k.table_id → k'.me ≡ (both_beside k.me.0 s.token.me.0, k.me.1) → HasGathered t k' (seats ++ s ∷ [])
+pub took_in : {T : Type 0} (t : TableId) (k k' : Token (Option T) (Beside T)) (seats : List (Seat T)) (s : Seat T) → HasGathered t k seats
+    → HasToken t s → k'.table_id ≡ k.table_id → k'.me ≡ (both_beside k.me.0 s.token.me.0, k.me.1) → HasGathered t k' (seats ++ s ∷ [])
 took_in {T} t k k' seats s g has same is =
     record {
       table = same ∙ g.table;

@@ -1,5 +1,6 @@
 -- A seat gets a slot by its flag, and gives it back: the rule holds, and nothing else that the seat knows changes.
-use Rattle.std.proofs.Common.{◌≡◌, ◌≢◌, ℕ, suc, ◌+◌, ◌-◌, ◌*◌, ◌<◌, ◌≤◌, Bool, true, false, if◌then◌else◌, nat_lt, nat_eq, List, [], ◌∷◌, length, get_or, Option, None, sym, refl, ap, ◌∙◌, subst, arith}
+use Rattle.std.proofs.Common.{◌≡◌, ◌≢◌, ℕ, suc, ◌+◌, ◌-◌, ◌*◌, ◌<◌, ◌≤◌, Bool, true, false, if◌then◌else◌, nat_lt, nat_eq, List, [], ◌∷◌, length}
+use Rattle.std.proofs.Common.{get_or, Option, None, sym, refl, ap, ◌∙◌, subst, arith}
 use Rattle.std.proofs.Math.Logic.{∥∥₁_map}
 use Rattle.std.proofs.lemmas.Bool.{ltb-true}
 use Rattle.std.proofs.lemmas.List.{set-get_or, length-set}
@@ -69,13 +70,15 @@ module _ {T : Type 0} (z : Layout) (carries : z.carries ≡ true) where
         (λ e. absurd (ne e), λ e. (refl, ∣ subst (WasTaken z w) is (record { state = s; holds = h; id = id; seat = mine; up = ne }) ∣₁)),
       ))
 
-  frees : (id k : ℕ) (w : Beside T) → k < z.setup.size → w.hand ≡ some k → Allows {S = Option T} (HoldsFor z) z.setup.size id (w, (k, None) ∷ []) (words_of z + k) (λ _. 0) (λ _ m. Frees (w, (k, None) ∷ []) m)
+  frees : (id k : ℕ) (w : Beside T) → k < z.setup.size → w.hand ≡ some k → Allows {S = Option T} (HoldsFor z) z.setup.size id (w, (k, None) ∷ [])
+      (words_of z + k) (λ _. 0) (λ _ m. Frees (w, (k, None) ∷ []) m)
   frees id k w lt hand s h count mine small =
       let p : ℕ = words_of z + k in (
         with_hand w none,
         gives,
         tt,
-        back (stepped s p 0 id ((k, None) ∷ []) (with_hand w none) gives) (frees_beside z (words_of z) z.setup.size id w k lt hand s (beside s h) count (long s h) mine) (subst (λ (n : ℕ). words_of z + z.setup.size ≤ n) (sym (length-set s.words p 0)) (long s h)),
+        back (stepped s p 0 id ((k, None) ∷ []) (with_hand w none) gives) (frees_beside z (words_of z) z.setup.size id w k lt hand s
+            (beside s h) count (long s h) mine) (subst (λ (n : ℕ). words_of z + z.setup.size ≤ n) (sym (length-set s.words p 0)) (long s h)),
         refl,
       )
 
@@ -101,7 +104,9 @@ asks_free {T} r s slot word is has at =
     )
 
 -- a seat with another slot, or none, that stores and knows the same
-module _ {T : Type 0} (r : Arena) (s : Seat T) (t : Token (Option T) (Beside T)) (h : maybe.Option ℕ) (is : IsSeat r s) (carries : carries_of r ≡ true) (here : t.table_id ≡ s.token.table_id) (same : t.me.0 ≡ with_hand s.token.me.0 h) (there : (i : ℕ) → h ≡ some i → i < r.plan.setup.size) where
+module _ {T : Type 0} (r : Arena) (s : Seat T) (t : Token (Option T) (Beside T)) (h : maybe.Option ℕ) (is : IsSeat r s)
+    (carries : carries_of r ≡ true) (here : t.table_id ≡ s.token.table_id) (same : t.me.0 ≡ with_hand s.token.me.0 h)
+    (there : (i : ℕ) → h ≡ some i → i < r.plan.setup.size) where
   knows_same : knows t.me.0.plain ≡ view s
   knows_same = ap (λ (w : Beside T). knows w.plain) same
 
@@ -145,7 +150,9 @@ module _ {T : Type 0} (r : Arena) (s : Seat T) (t : Token (Option T) (Beside T))
   still_known = record { stored = record { number = refl; role = refl; keeps = refl; pocket = refl; failed = refl }; view = knows_same; deeds = ap (λ (w : Beside T). w.deeds) same }
 
 -- what a try leaves, by whether the flag was down
-module _ {T : Type 0} (r : Arena) (s : Seat T) (t : Token (Option T) (Beside T)) (slot word n : ℕ) (is : IsSeat r s) (carries : carries_of r ≡ true) (none_out : HasNoSlot s) (lt : slot < r.plan.setup.size) (at : word ≡ 48 + 2 * r.plan.setup.size + slot) (told : (t.table_id ≡ s.token.table_id) × (t.id ≡ s.token.id) × Tries r.key word s.token.me n t.me) where
+module _ {T : Type 0} (r : Arena) (s : Seat T) (t : Token (Option T) (Beside T)) (slot word n : ℕ) (is : IsSeat r s) (carries : carries_of r ≡ true)
+    (none_out : HasNoSlot s) (lt : slot < r.plan.setup.size) (at : word ≡ 48 + 2 * r.plan.setup.size + slot)
+    (told : (t.table_id ≡ s.token.table_id) × (t.id ≡ s.token.id) × Tries r.key word s.token.me n t.me) where
   at_slot : word - words_of r.key ≡ slot
   at_slot = let same = ap (λ (z : Layout). words_of z) is.arena.key in omega (arith, same, at)
 
@@ -153,9 +160,11 @@ module _ {T : Type 0} (r : Arena) (s : Seat T) (t : Token (Option T) (Beside T))
   same_hand = ap (λ (h : maybe.Option ℕ). with_hand s.token.me.0 h) (none_hand s.token.me.0.hand none_out.1)
 
   abbrev Left : Type 0
-  Left = IsSeat r (record s { token = t }) × (IsReady r s → IsReady r (record s { token = t })) × KeepsKnown s (record s { token = t }) × (n ≡ 0 → HasSlot r (record s { token = t }) slot None) × (n ≢ 0 → IsMissed r s (record s { token = t }) slot)
+  Left = IsSeat r (record s { token = t }) × (IsReady r s → IsReady r (record s { token = t })) × KeepsKnown s (record s { token = t })
+      × (n ≡ 0 → HasSlot r (record s { token = t }) slot None) × (n ≢ 0 → IsMissed r s (record s { token = t }) slot)
 
-  left_by : (h : maybe.Option ℕ) → t.me.0 ≡ with_hand s.token.me.0 h → ((i : ℕ) → h ≡ some i → i < r.plan.setup.size) → (n ≡ 0 → HasSlot r (record s { token = t }) slot None) → (n ≢ 0 → IsMissed r s (record s { token = t }) slot) → Left
+  left_by : (h : maybe.Option ℕ) → t.me.0 ≡ with_hand s.token.me.0 h → ((i : ℕ) → h ≡ some i → i < r.plan.setup.size)
+      → (n ≡ 0 → HasSlot r (record s { token = t }) slot None) → (n ≢ 0 → IsMissed r s (record s { token = t }) slot) → Left
   left_by h same there hit miss = (still_seat r s t h is carries told.0 same there, still_ready r s t h is carries told.0 same there, still_known r s t h is carries told.0 same there, hit, miss)
 
   pub tried : Left
@@ -164,7 +173,8 @@ module _ {T : Type 0} (r : Arena) (s : Seat T) (t : Token (Option T) (Beside T))
       (λ down.
       let got = told.2.0 down in
       let now : t.me ≡ (with_hand s.token.me.0 (some slot), (slot, None) ∷ []) = got ∙ ap (λ (y : ℕ). (with_hand s.token.me.0 (some y), (y, None) ∷ [])) at_slot in
-      left_by (some slot) (ap (λ y. y.0) now) (λ i e. subst (λ (k : ℕ). k < r.plan.setup.size) (some-injective slot i e) lt) (λ e. record { carries = carries; there = lt; out = ap (λ y. y.1) now; hand = ap (λ y. y.0.hand) now }) (λ ne. absurd (ne down)))
+      left_by (some slot) (ap (λ y. y.0) now) (λ i e. subst (λ (k : ℕ). k < r.plan.setup.size) (some-injective slot i e) lt)
+      (λ e. record { carries = carries; there = lt; out = ap (λ y. y.1) now; hand = ap (λ y. y.0.hand) now }) (λ ne. absurd (ne down)))
       (λ up.
       let missed = told.2.1 up in
       let same = ap (λ (y : Me (Option T) (Beside T)). y.0) missed.0 in
@@ -176,7 +186,8 @@ module _ {T : Type 0} (r : Arena) (s : Seat T) (t : Token (Option T) (Beside T))
       }))
 
 -- what a slot that was given back leaves
-module _ {T : Type 0} (r : Arena) (s : Seat T) (t : Token (Option T) (Beside T)) (slot : ℕ) (is : IsSeat r s) (has : HasSlot r s slot None) (told : (t.table_id ≡ s.token.table_id) × (t.id ≡ s.token.id) × Frees s.token.me t.me) where
+module _ {T : Type 0} (r : Arena) (s : Seat T) (t : Token (Option T) (Beside T)) (slot : ℕ) (is : IsSeat r s) (has : HasSlot r s slot None)
+    (told : (t.table_id ≡ s.token.table_id) × (t.id ≡ s.token.id) × Frees s.token.me t.me) where
   abbrev now_none : t.me.0 ≡ with_hand s.token.me.0 none
   now_none = ap (λ (y : Me (Option T) (Beside T)). y.0) told.2
 
@@ -202,7 +213,9 @@ pub then_known : {T : Type 0} (s t u : Seat T) → KeepsKnown s t → KeepsKnown
 then_known s t u f g = record { stored = then_stored s t u f.stored g.stored; view = g.view ∙ f.view; deeds = g.deeds ∙ f.deeds }
 
 -- one more slot was taken
-pub one_more_taken : {T : Type 0} (z : Layout) (w w' : Beside T) (first slot next failed : ℕ) → w' ≡ w → ∥ WasTaken z w' slot ∥₁ → next ≡ next_slot z.setup.size slot → ((m : ℕ) → AllTaken z w slot m → AllTaken z w first (failed + m)) → (m : ℕ) → AllTaken z w next m → AllTaken z w first (failed + 1 + m)
+pub one_more_taken : {T : Type 0} (z : Layout) (w w' : Beside T) (first slot next failed : ℕ) → w' ≡ w → ∥ WasTaken z w' slot ∥₁
+    → next ≡ next_slot z.setup.size slot → ((m : ℕ) → AllTaken z w slot m → AllTaken z w first (failed + m)) → (m : ℕ) → AllTaken z w next m
+    → AllTaken z w first (failed + 1 + m)
 one_more_taken z w w' first slot next failed same taken is before m all =
     let e : failed + suc m ≡ failed + 1 + m = omega arith in
     subst (AllTaken z w first) e (before (suc m) (subst (λ (x : Beside _). ∥ WasTaken z x slot ∥₁) same taken, subst (λ (k : ℕ). AllTaken z w k m) is all))

@@ -126,19 +126,24 @@ is_effect _ = false
 
 -- an outcome of a line where no call has its effect adds nothing
 stutters : (s : Setup) (now me : ℕ) (a : Actor) (l : Line) (c : Found (action s me a l)) → is_effect l ≡ false → AddsNothing me a.op (outcome s now me a l c)
-stutters s now me a N2 c e = both _ _ (is_null c) _ _ (both _ _ (nat_lt a.f s.size) _ _ record { none = refl } record { none = refl }) (both _ _ (nat_eq c.count s.limit) _ _ record { none = refl } record { none = refl })
+stutters s now me a N2 c e = both _ _ (is_null c) _ _ (both _ _ (nat_lt a.f s.size) _ _ record { none = refl } record { none = refl })
+    (both _ _ (nat_eq c.count s.limit) _ _ record { none = refl } record { none = refl })
 stutters s now me a N4 c e = both _ _ (same_ref c a.top) _ _ record { none = refl } record { none = refl }
 stutters s now me a N5 c e = both _ _ (nat_eq c a.f) _ _ record { none = refl } record { none = refl }
 stutters s now me a F1 c e = both _ _ (nat_eq c.count s.limit) _ _ (aside_adds _ _ s.kind now a.due (record a { top = c })) record { none = refl }
 stutters s now me a F3 c e = both _ _ (same_ref c a.top) _ _ (freed_adds _ _ s.kind now a.due (empties_hand a)) record { none = refl }
 stutters s now me a E3 c e = both _ _ (nat_eq c.count s.limit) _ _ record { none = refl } record { none = refl }
 stutters s now me a E7 c e =
-    both _ _ (same_ref c a.tail) _ _ (both _ _ (is_null a.next) _ _ record { none = refl } (both _ _ (is_shut s.bits a.next) _ _ record { none = refl } (both _ _ (nat_eq a.tail.count s.limit) _ _ record { none = refl } record { none = refl })))
+    both _ _ (same_ref c a.tail) _ _ (both _ _ (is_null a.next) _ _ record { none = refl }
+    (both _ _ (is_shut s.bits a.next) _ _ record { none = refl } (both _ _ (nat_eq a.tail.count s.limit) _ _ record { none = refl } record
+    { none = refl })))
     record { none = refl }
 stutters s now me a E9 c e = absurd (let h : true ≡ false = e in cc)
 stutters s now me a D5 c e =
     both _ _ (same_ref c a.head) _ _
-    (both _ _ (nat_eq a.head.node a.tail.node) _ _ (both _ _ (is_null a.next) _ _ record { none = refl } (both _ _ (is_shut s.bits a.next) _ _ record { none = refl } (both _ _ (nat_eq a.tail.count s.limit) _ _ record { none = refl } record { none = refl }))) record { none = refl })
+    (both _ _ (nat_eq a.head.node a.tail.node) _ _ (both _ _ (is_null a.next) _ _ record { none = refl }
+    (both _ _ (is_shut s.bits a.next) _ _ record { none = refl } (both _ _ (nat_eq a.tail.count s.limit) _ _ record { none = refl } record
+    { none = refl }))) record { none = refl })
     record { none = refl }
 stutters s now me a D12 c e = both _ _ (nat_eq a.head.count s.limit) _ _ record { none = refl } record { none = refl }
 stutters s now me a D13 c e = absurd (let h : true ≡ false = e in cc)
@@ -151,7 +156,9 @@ stutters s now me a B4 c e = both _ _ (nat_eq a.head.count s.limit) _ _ record {
 stutters s now me a B5 c e = absurd (let h : true ≡ false = e in cc)
 stutters s now me a B6 c e = unlocked_adds _ _ now a.due a
 stutters s now me a S3 c e =
-    both _ _ (same_ref c a.tail) _ _ (both _ _ (is_null a.next) _ _ record { none = refl } (both _ _ (is_shut s.bits a.next) _ _ record { none = refl } (both _ _ (nat_eq a.tail.count s.limit) _ _ record { none = refl } record { none = refl })))
+    both _ _ (same_ref c a.tail) _ _ (both _ _ (is_null a.next) _ _ record { none = refl }
+    (both _ _ (is_shut s.bits a.next) _ _ record { none = refl } (both _ _ (nat_eq a.tail.count s.limit) _ _ record { none = refl } record
+    { none = refl })))
     record { none = refl }
 stutters s now me a S4 c e = absurd (let h : true ≡ false = e in cc)
 stutters s now me a S6 c e = both _ _ (nat_eq c 0) _ _ record { none = refl } record { none = refl }
@@ -163,21 +170,26 @@ stutters s now me a _ c e = record { none = refl }
 line_gains : (s : Setup) (now me : ℕ) (a : Actor) (l : Line) (c : Found (action s me a l)) → Runs (section_of l) me a.op a.val → gained me a.op (outcome s now me a l c) ≡ entries_of s me a l c
 line_gains s now me a E9 c h = won (same_ref c a.next)
   where
-    linked : (b : Bool) → gained me a.op (effect now (if b then ends now Done (empties_hand (record a { due = Some Done })) else goes E17 (empties_hand (record a { due = Some Done })))) ≡ Push me a.val.body ∷ []
+    linked : (b : Bool) → gained me a.op (effect now (if b then ends now Done (empties_hand (record a { due = Some Done })) else goes E17
+        (empties_hand (record a { due = Some Done })))) ≡ Push me a.val.body ∷ []
     linked true = pushed_is me a.op a.val h
     linked false = pushed_is me a.op a.val h
 
-    won : (b : Bool) → gained me a.op (if b then effect now (if nat_eq a.tail.count s.limit then ends now Done (empties_hand (record a { due = Some Done })) else goes E17 (empties_hand (record a { due = Some Done }))) else goes E5 a) ≡ (if b then Push me a.val.body ∷ [] else [])
+    won : (b : Bool) → gained me a.op (if b then effect now (if nat_eq a.tail.count s.limit then ends now Done
+        (empties_hand (record a { due = Some Done })) else goes E17 (empties_hand (record a { due = Some Done }))) else goes E5 a) ≡
+        (if b then Push me a.val.body ∷ [] else [])
     won true = linked (nat_eq a.tail.count s.limit)
     won false = refl
 line_gains s now me a D13 c h = won (same_ref c a.head)
   where
-    won : (b : Bool) → gained me a.op (if b then effect now (goes F1 (fills_hand a.head.node a.next.count (record a { due = Some (Value a.val) }))) else goes D2 a) ≡ (if b then Pop me a.val ∷ [] else [])
+    won : (b : Bool) → gained me a.op (if b then effect now (goes F1 (fills_hand a.head.node a.next.count (record a { due = Some (Value a.val) })))
+        else goes D2 a) ≡ (if b then Pop me a.val ∷ [] else [])
     won true = refl
     won false = refl
 line_gains s now me a A5 c h = won (same_ref c null)
   where
-    won : (b : Bool) → gained me a.op (if b then effect now (goes A6 (empties_hand (record a { due = Some Done }))) else goes A7 (record a { due = Some (Refused Closed) })) ≡ (if b then Push me a.val.body ∷ [] else [])
+    won : (b : Bool) → gained me a.op (if b then effect now (goes A6 (empties_hand (record a { due = Some Done }))) else goes A7
+        (record a { due = Some (Refused Closed) })) ≡ (if b then Push me a.val.body ∷ [] else [])
     won true = pushed_is me a.op a.val h
     won false = refl
 line_gains s now me a B5 c h = refl
@@ -298,7 +310,8 @@ traced_booked : (ms : List AnyMove) (t u : Traced) → IsReached t.world → IsB
 traced_booked [] t u r h e = subst IsBooked (same_Some t u e) h
 traced_booked (m ∷ ms) t u r h e = go (next_any t.world m) refl e (λ v. traced_booked ms v u)
   where
-    go : (o : Option World) → next_any t.world m ≡ o → traced_on (trace ms) (traced_next t m o) ≡ Some u → ((v : Traced) → IsReached v.world → IsBooked v → trace ms v ≡ Some u → IsBooked u) → IsBooked u
+    go : (o : Option World) → next_any t.world m ≡ o → traced_on (trace ms) (traced_next t m o) ≡ Some u
+        → ((v : Traced) → IsReached v.world → IsBooked v → trace ms v ≡ Some u → IsBooked u) → IsBooked u
     go None f g each = absurd (none-some u g)
     go (Some w) f g each =
         each (traced_move t m w) (subst IsReached (sym (world-traced_move t m w)) (reached_next t.world w m r f)) (moved_booked t m w r f h) g

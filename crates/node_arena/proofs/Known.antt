@@ -63,7 +63,8 @@ module _ (w : World) (r : IsReached w) (me : ℕ) (a : Actor) (l : Line) (is : a
       }
 
 -- a fact of the actor of a seat that stands before a line, where it has at most one proof
-pub by_known : {T : Type 0} {P : Type 0} (r : Arena) (s : Seat T) (prologue : Prologue) (l : Line) → IsBefore r s prologue l → IsProp P → (Known r.plan.setup (view s).number (after_prologue r.plan.setup (view s).number prologue (view s).actor) l → P) → P
+pub by_known : {T : Type 0} {P : Type 0} (r : Arena) (s : Seat T) (prologue : Prologue) (l : Line) → IsBefore r s prologue l → IsProp P
+    → (Known r.plan.setup (view s).number (after_prologue r.plan.setup (view s).number prologue (view s).actor) l → P) → P
 by_known r s prologue l h one says =
     ∥∥₁_elim h.seat.sits.fitted one (λ fitted.
     let b : Actor = after_prologue r.plan.setup (view s).number prologue (view s).actor in
@@ -76,5 +77,6 @@ PocketAt-prop LockedShut pocket = Unit-prop
 PocketAt-prop _ pocket = hlevel (props, Held-set)
 
 -- its pocket is empty, but for a shut
-pub empty_before : {T : Type 0} (r : Arena) (s : Seat T) (prologue : Prologue) (l : Line) → IsBefore r s prologue l → PocketAt (section_of l) (after_prologue r.plan.setup (view s).number prologue (view s).actor).pocket
+pub empty_before : {T : Type 0} (r : Arena) (s : Seat T) (prologue : Prologue) (l : Line) → IsBefore r s prologue l
+    → PocketAt (section_of l) (after_prologue r.plan.setup (view s).number prologue (view s).actor).pocket
 empty_before r s prologue l h = by_known r s prologue l h (PocketAt-prop (section_of l) _) (λ k. k.fixed.pocket)

@@ -15,7 +15,8 @@ all_on (o ∷ os) ds d all is h = ((h.0.0 ++ d, is ∙ (ap (λ y. y ++ d) h.0.1 
 
 module _ {T : Type 0} (z : Layout) where
   -- what begins deeds that run runs
-  pub knows_values : (seen : List Entry) (w : Beside T) (ds rest : List (Deed T)) (q : List (Item T)) (shut : Bool) → ds ≡ w.deeds ++ rest → Runs [] false ds q shut → Matches seen w.deeds → ((i : ℕ) → w.hand ≡ some i → i < z.setup.size) → KnowsValues z seen w
+  pub knows_values : (seen : List Entry) (w : Beside T) (ds rest : List (Deed T)) (q : List (Item T)) (shut : Bool) → ds ≡ w.deeds ++ rest
+      → Runs [] false ds q shut → Matches seen w.deeds → ((i : ℕ) → w.hand ≡ some i → i < z.setup.size) → KnowsValues z seen w
   knows_values seen w ds rest q shut begins runs matches there =
       let first = runs_first [] false w.deeds rest q shut (subst (λ (y : List (Deed T)). Runs [] false y q shut) begins runs) in
       record { matches = matches; values = first.0; shut = first.1; runs = first.2; there = there }
@@ -26,7 +27,8 @@ module _ {T : Type 0} (z : Layout) where
   knows_by false seen w h = tt
 
   -- the same of another view with the same deeds, and no other slot
-  pub knows_again : (b : Bool) (seen seen' : List Entry) (w w' : Beside T) → seen ≡ seen' → w.deeds ≡ w'.deeds → ((i : ℕ) → w'.hand ≡ some i → w.hand ≡ some i) → KnowsBy b z seen w → KnowsBy b z seen' w'
+  pub knows_again : (b : Bool) (seen seen' : List Entry) (w w' : Beside T) → seen ≡ seen' → w.deeds ≡ w'.deeds
+      → ((i : ℕ) → w'.hand ≡ some i → w.hand ≡ some i) → KnowsBy b z seen w → KnowsBy b z seen' w'
   knows_again true seen seen' w w' same deeds hand k =
       record {
         matches = (let P : List Entry × List (Deed T) → Type 0 = λ y. Matches y.0 y.1 in subst P (λ i. (same i, deeds i)) k.matches);
@@ -53,7 +55,8 @@ module _ {T : Type 0} (z : Layout) where
   pub knows_parted : (w : Beside T) (v u : SeatView) → w.plain ≡ paired v u → v.seen ≡ u.seen → KnowsNow z w → KnowsNow z (first_beside_of w) × KnowsNow z (second_beside_of w)
   knows_parted w v u is met k = (
     knows_again z.carries (knows w.plain).seen (knows (first_of w.plain)).seen w (first_beside_of w) ((λ i. (knows (is i)).seen) ∙ (λ i. (knows (first_of (sym is i))).seen)) refl (λ i e. e) k,
-    knows_again z.carries (knows w.plain).seen (knows (second_of w.plain)).seen w (second_beside_of w) ((λ i. (knows (is i)).seen) ∙ (met ∙ (λ i. (knows (second_of (sym is i))).seen))) refl (λ i e. none_there i e) k,
+    knows_again z.carries (knows w.plain).seen (knows (second_of w.plain)).seen w (second_beside_of w)
+        ((λ i. (knows (is i)).seen) ∙ (met ∙ (λ i. (knows (second_of (sym is i))).seen))) refl (λ i e. none_there i e) k,
   )
     where
       none_there : {X : Type 0} (i : ℕ) → none ≡ some i → X

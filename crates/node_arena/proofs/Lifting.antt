@@ -1,5 +1,6 @@
 -- The step of a seat, of which node_arena says that it keeps its rule, also keeps the rule of the slots.
-use Rattle.std.proofs.Common.{◌≡◌, ◌≢◌, ℕ, ◌-◌, ◌<◌, ◌≤◌, Bool, true, false, if◌then◌else◌, Option, Some, List, [], ◌∷◌, ◌++◌, zero, suc, length, get_or, set, slice_get, sym, refl, ap, ◌∙◌, subst, ⊎_elim, arith, append-nil, append_assoc}
+use Rattle.std.proofs.Common.{◌≡◌, ◌≢◌, ℕ, ◌-◌, ◌<◌, ◌≤◌, Bool, true, false, if◌then◌else◌, Option, Some, List, [], ◌∷◌, ◌++◌, zero, suc, length}
+use Rattle.std.proofs.Common.{get_or, set, slice_get, sym, refl, ap, ◌∙◌, subst, ⊎_elim, arith, append-nil, append_assoc}
 use Rattle.std.proofs.lemmas.List.{length-set}
 use mathlib.Core.Option.{some, some-injective, some-ne-none}
 use lib.ListN.{get_elem?}
@@ -39,7 +40,8 @@ use Rattle.node_arena.proofs.Seens.{history_legal}
 use Rattle.node_arena.specs.Deeds.{item, Deed, pushed, popped, closed, Matches}
 use Rattle.node_arena.specs.Slots.{Changes, item_of}
 use Rattle.node_arena.specs.Riding.{Rides, number_of}
-use Rattle.node_arena.specs.Beside.{Beside, hand_in, hand_at, home_at, plain_of, plain_state, words_of, flag_at, Begins, CarriedBy, HoldsFor, KnowsValues, KnowsBy, Effect, EffectBy, TellsBeside, LoadedAt}
+use Rattle.node_arena.specs.Beside.{Beside, hand_in, hand_at, home_at, plain_of, plain_state, words_of, flag_at, Begins, CarriedBy, HoldsFor}
+use Rattle.node_arena.specs.Beside.{KnowsValues, KnowsBy, Effect, EffectBy, TellsBeside, LoadedAt}
 use Rattle.node_arena.proofs.Riding.{rides_push, rides_pop, rides_shut, rides_same}
 use Rattle.node_arena.proofs.StepsPreserve.{becomes, one_seat, allows_seated}
 use Rattle.node_arena.proofs.StepsPreserve as landed
@@ -100,9 +102,13 @@ pub record HoldsBeside {T : Type 0} (z : Layout) (m n : ℕ) (s : State (Option 
   pub rides : Rides base.trace.history n (flag_at m s.words) (home_at s.homes) (hand_at s.views)
   pub known : (j : ℕ) (w : Beside T) → get_elem? s.views j ≡ some w → Begins rides.deeds w
 
-module _ {T : Type 0} (z : Layout) (m n : ℕ) (s : State (Option T) (Beside T)) (H : HoldsBeside z m n s) (count : length s.homes ≡ n) (id : ℕ) (v : SeatView) (ds : List (Deed T)) (hd : maybe.Option ℕ) (os : List (List (Deed T)))
-    (mine : get_elem? s.views id ≡ some (record { plain = seated v; deeds = ds; hand = hd; others = os })) (prologue : Prologue) (l : Line) (can : CanStart prologue v.actor) (line : (after_prologue z.setup v.number prologue v.actor).line ≡ Some l)
-    (role : Role) (its : slice_get z.roles (v.number - 1) ≡ Some role) (permits : PermitsLine role l) (x : WordStep) (acts : word_step z.setup.bits (action z.setup v.number (after_prologue z.setup v.number prologue v.actor) l) ≡ x) (within : place (word_index x) < m) where
+module _ {T : Type 0} (z : Layout) (m n : ℕ) (s : State (Option T) (Beside T)) (H : HoldsBeside z m n s) (count : length s.homes ≡ n) (id : ℕ)
+    (v : SeatView) (ds : List (Deed T)) (hd : maybe.Option ℕ) (os : List (List (Deed T)))
+    (mine : get_elem? s.views id ≡ some (record { plain = seated v; deeds = ds; hand = hd; others = os })) (prologue : Prologue) (l : Line)
+    (can : CanStart prologue v.actor) (line : (after_prologue z.setup v.number prologue v.actor).line ≡ Some l)
+    (role : Role) (its : slice_get z.roles (v.number - 1) ≡ Some role) (permits : PermitsLine role l) (x : WordStep)
+    (acts : word_step z.setup.bits (action z.setup v.number (after_prologue z.setup v.number prologue v.actor) l) ≡ x)
+    (within : place (word_index x) < m) where
   abbrev w : Beside T
   w = record { plain = seated v; deeds = ds; hand = hd; others = os }
 
@@ -164,15 +170,36 @@ module _ {T : Type 0} (z : Layout) (m n : ℕ) (s : State (Option T) (Beside T))
   fit = H.known id w mine
 
   -- put together
-  built : (d : List (Deed T)) (h : maybe.Option ℕ) (homes' : List (maybe.Option (Option T))) (r : Rides (hist ++ es) n (flag_at m words') (home_at homes') (hand_at (set s.views id (seat_after d h)))) → r.deeds ≡ H.rides.deeds ++ d
+  built : (d : List (Deed T)) (h : maybe.Option ℕ) (homes' : List (maybe.Option (Option T)))
+      (r : Rides (hist ++ es) n (flag_at m words') (home_at homes') (hand_at (set s.views id (seat_after d h)))) → r.deeds ≡ H.rides.deeds ++ d
       → HoldsBeside z m n record { words = words'; homes = homes'; views = set s.views id (seat_after d h) }
   built d h homes' r is =
       record {
-        base = moved z record { words = set s0.words p (becomes x (get_or s0.words p 0)); homes = s0.homes; views = set s0.views id (seated v') } (plain_state m (record { words = words'; homes = homes'; views = set s.views id (seat_after d h) })) base0 same_words (map_set plain_of s.views id (seat_after d h));
-        rides = record { deeds = r.deeds; q = r.q; pops = r.pops; shut = r.shut; leads = subst (λ es. Leads es r.shut (map number_of r.q)) (sym history_is) r.leads; runs = r.runs; matches = subst (λ es. Matches es r.deeds) (sym history_is) r.matches; slotted = r.slotted };
+        base = moved z record { words = set s0.words p (becomes x (get_or s0.words p 0)); homes = s0.homes; views = set s0.views id (seated v') }
+            (plain_state m (record { words = words'; homes = homes'; views = set s.views id (seat_after d h) })) base0 same_words
+            (map_set plain_of s.views id (seat_after d h));
+        rides = record {
+          deeds = r.deeds;
+          q = r.q;
+          pops = r.pops;
+          shut = r.shut;
+          leads = subst (λ es. Leads es r.shut (map number_of r.q))
+              (sym history_is) r.leads;
+          runs = r.runs;
+          matches = subst (λ es. Matches es r.deeds) (sym history_is) r.matches;
+          slotted = r.slotted;
+        };
         known = λ j o at. ⊎_elim
             (λ (e : (j ≡ id) × (seat_after d h ≡ o)). subst (Begins r.deeds) e.1 here)
-            (λ (e : (j ≢ id) × (get_elem? s.views j ≡ some o)). let f = H.known j o e.1 in let g : Begins r.deeds o = record { rest = f.rest ++ d; begins = is ∙ (ap (λ y. y ++ d) f.begins ∙ append_assoc o.deeds f.rest d); matches = f.matches; pair = f.pair; others = all_on o.others H.rides.deeds d r.deeds is f.others } in g)
+            (λ (e : (j ≢ id) × (get_elem? s.views j ≡ some o)). let f = H.known j o e.1 in let g : Begins r.deeds o =
+            record {
+              rest = f.rest ++ d;
+              begins = is ∙ (ap (λ y. y ++ d) f.begins ∙ append_assoc o.deeds f.rest d);
+              matches = f.matches;
+              pair =
+                  f.pair;
+              others = all_on o.others H.rides.deeds d r.deeds is f.others;
+            } in g)
             (at_set s.views id j (seat_after d h) o at);
       }
     where
@@ -181,7 +208,8 @@ module _ {T : Type 0} (z : Layout) (m n : ℕ) (s : State (Option T) (Beside T))
       begins_by false = (fit.rest ++ d, ap (λ y. y ++ d) fit.begins ∙ append_assoc ds fit.rest d)
 
       matches_by : (b : Bool) → sees l ≡ b → Matches v'.seen (if b then H.rides.deeds ++ d else ds)
-      matches_by true e = let P : List Entry × List (Deed T) → Type 0 = λ y. Matches y.0 y.1 in subst P (λ i. (sym (landed.whole z s0 H.base id v mine0 prologue l can line role its permits e ∙ history_is) i, is i)) r.matches
+      matches_by true e = let P : List Entry × List (Deed T) → Type 0 = λ y. Matches y.0 y.1 in subst P
+          (λ i. (sym (landed.whole z s0 H.base id v mine0 prologue l can line role its permits e ∙ history_is) i, is i)) r.matches
       matches_by false e = subst (λ es. Matches es ds) (sym (landed.stays z s0 H.base id v mine0 prologue l can line role its permits e)) (fit.matches v refl)
 
       here : Begins r.deeds (seat_after d h)
@@ -209,7 +237,8 @@ module _ {T : Type 0} (z : Layout) (m n : ℕ) (s : State (Option T) (Beside T))
       go false = sym (append-nil ds)
 
   abbrev Told : (held : List (ℕ × Option T)) (k : ℕ) → Beside T × List (ℕ × Option T) → Type 0
-  Told held k o = ((o.0.plain ≡ seated (knows o.0.plain)) × Steps z prologue l k v (knows o.0.plain)) × ((fs : List Entry) × ((knows o.0.plain).mine ≡ v.mine ++ fs) × Effect v.number fs w held o.0 o.1)
+  Told held k o = ((o.0.plain ≡ seated (knows o.0.plain)) × Steps z prologue l k v (knows o.0.plain))
+      × ((fs : List Entry) × ((knows o.0.plain).mine ≡ v.mine ++ fs) × Effect v.number fs w held o.0 o.1)
 
   told0 : Steps z prologue l (get_or s.words p 0) v v'
   told0 = subst (λ (k : ℕ). Steps z prologue l k v v') (get_or-take m s.words p 0 within) (landed.steps_told z s0 H.base id v mine0 prologue l can line role its permits x acts)
@@ -219,7 +248,8 @@ module _ {T : Type 0} (z : Layout) (m n : ℕ) (s : State (Option T) (Beside T))
 
   -- what the step is to come to, with these slots in hand
   abbrev Result : List (ℕ × Option T) → Type 0
-  Result held = (w' : Beside T) × (act : Act (Option T)) × Valid s.homes held act × HoldsBeside z m n (stepped s p (becomes x (get_or s.words p 0)) id held w' act) × Told held (get_or s.words p 0) (w', carried_after held act)
+  Result held = (w' : Beside T) × (act : Act (Option T)) × Valid s.homes held act
+      × HoldsBeside z m n (stepped s p (becomes x (get_or s.words p 0)) id held w' act) × Told held (get_or s.words p 0) (w', carried_after held act)
 
   some_entry : (e : Entry) → es ≡ e ∷ [] → ¬ (es ≡ [])
   some_entry e is none_there = let bad : 1 ≡ 0 = ap length (sym is ∙ none_there) in absurd (omega (arith, bad))
@@ -236,14 +266,18 @@ module _ {T : Type 0} (z : Layout) (m n : ℕ) (s : State (Option T) (Beside T))
   by_none : (held : List (ℕ × Option T)) → es ≡ [] → Result held
   by_none held is =
       let r = rides_same hist n (flag_at m s.words) (flag_at m words') (home_at s.homes) (hand_at s.views) (hand_at (set s.views id (seat_after [] hd))) H.rides (λ i. sym (flags i)) (same_hands []) in
-      let r' : At [] hd s.homes [] = subst (λ (y : List Entry). (q : Rides y n (flag_at m words') (home_at s.homes) (hand_at (set s.views id (seat_after [] hd)))) × (q.deeds ≡ H.rides.deeds ++ [])) (sym (append-nil hist)) (r.0, r.1 ∙ sym (append-nil H.rides.deeds)) in
+      let r' : At [] hd s.homes [] = subst (λ (y : List Entry). (q : Rides y n (flag_at m words') (home_at s.homes)
+      (hand_at (set s.views id (seat_after [] hd)))) × (q.deeds ≡ H.rides.deeds ++ [])) (sym (append-nil hist))
+      (r.0, r.1 ∙ sym (append-nil H.rides.deeds)) in
       stays_put held [] [] is r' (refl, refl, ((if sees l then fit.rest else []), grown))
 
   by_shut : (held : List (ℕ × Option T)) → es ≡ Shut v.number ∷ [] → Result held
   by_shut held is =
       let d = closed v.number ∷ [] in
-      let one = rides_shut hist n (flag_at m s.words) (flag_at m s.words) (home_at s.homes) (home_at s.homes) (hand_at s.views) (hand_at s.views) id v.number H.rides (subst IsQueueRun (ap (λ y. hist ++ y) is) legal) in
-      let two = rides_same (hist ++ Shut v.number ∷ []) n (flag_at m s.words) (flag_at m words') (home_at s.homes) (hand_at s.views) (hand_at (set s.views id (seat_after d hd))) one.0 (λ i. sym (flags i)) (same_hands d) in
+      let one = rides_shut hist n (flag_at m s.words) (flag_at m s.words) (home_at s.homes) (home_at s.homes) (hand_at s.views)
+      (hand_at s.views) id v.number H.rides (subst IsQueueRun (ap (λ y. hist ++ y) is) legal) in
+      let two = rides_same (hist ++ Shut v.number ∷ []) n (flag_at m s.words) (flag_at m words') (home_at s.homes) (hand_at s.views)
+      (hand_at (set s.views id (seat_after d hd))) one.0 (λ i. sym (flags i)) (same_hands d) in
       stays_put held d (Shut v.number ∷ []) is (two.0, two.1 ∙ one.1) (refl, refl, (fit.rest, all_seen d (some_entry (Shut v.number) is)))
 
   by_push : (y : T) → hd ≡ some a.val.body → a.val.body < n → es ≡ Push v.number a.val.body ∷ [] → Result ((a.val.body, Some y) ∷ [])
@@ -251,7 +285,9 @@ module _ {T : Type 0} (z : Layout) (m n : ℕ) (s : State (Option T) (Beside T))
       let b = a.val.body in
       let d = pushed v.number y ∷ [] in
       let homes' = set s.homes b (some (Some y)) in
-      let r = rides_push hist n (flag_at m s.words) (flag_at m words') (home_at s.homes) (home_at homes') (hand_at s.views) (hand_at (set s.views id (seat_after d none))) id v.number H.rides b y (ap hand_in mine ∙ has) (subst IsQueueRun (ap (λ y. hist ++ y) is) legal)
+      let r = rides_push hist n (flag_at m s.words) (flag_at m words') (home_at s.homes) (home_at homes') (hand_at s.views)
+      (hand_at (set s.views id (seat_after d none))) id v.number H.rides b y (ap hand_in mine ∙ has)
+      (subst IsQueueRun (ap (λ y. hist ++ y) is) legal)
       flags (homes s.homes b (some (Some y)) (omega (arith, lt, count))) (hands d none) in
       let r' = subst (At d none homes') (sym is) r in (
         seat_after d none,
@@ -267,7 +303,8 @@ module _ {T : Type 0} (z : Layout) (m n : ℕ) (s : State (Option T) (Beside T))
       let b = a.val.body in
       let d = popped v.number (item a.val.from it.0) ∷ [] in
       let homes' = set s.homes b none in
-      let r = it.3 (flag_at m words') (home_at homes') (hand_at (set s.views id (seat_after d (some b)))) id flags (homes s.homes b none (let lt = it.1 in omega (arith, lt, count))) (hands d (some b)) in
+      let r = it.3 (flag_at m words') (home_at homes') (hand_at (set s.views id (seat_after d (some b)))) id flags
+      (homes s.homes b none (let lt = it.1 in omega (arith, lt, count))) (hands d (some b)) in
       let r' = subst (At d (some b) homes') (sym is) r in (
         seat_after d (some b),
         takes b (Some it.0),
@@ -287,14 +324,20 @@ module _ {T : Type 0} (z : Layout) (m n : ℕ) (s : State (Option T) (Beside T))
 
 -- what a step tells: what node_arena tells, and what became of the slots and of the history of values
 abbrev pub ToldBeside : {T : Type 0} (z : Layout) (prologue : Prologue) (l : Line) (v : SeatView) (w : Beside T) (held : List (ℕ × Option T)) (k : ℕ) → Me (Option T) (Beside T) → Type 0
-ToldBeside z prologue l v w held k o = ((o.0.plain ≡ seated (knows o.0.plain)) × Steps z prologue l k v (knows o.0.plain)) × ((fs : List Entry) × ((knows o.0.plain).mine ≡ v.mine ++ fs) × Effect v.number fs w held o.0 o.1)
+ToldBeside z prologue l v w held k o = ((o.0.plain ≡ seated (knows o.0.plain)) × Steps z prologue l k v (knows o.0.plain))
+    × ((fs : List Entry) × ((knows o.0.plain).mine ≡ v.mine ++ fs) × Effect v.number fs w held o.0 o.1)
 
 module _ {T : Type 0} (z : Layout) (m n id : ℕ) where
   -- every step of both queues keeps the rule of the slots
-  pub allows_beside : (v : SeatView) (ds : List (Deed T)) (hd : maybe.Option ℕ) (os : List (List (Deed T))) (prologue : Prologue) (l : Line) (x : WordStep) (role : Role) → CanStart prologue v.actor → (after_prologue z.setup v.number prologue v.actor).line ≡ Some l → slice_get z.roles (v.number - 1) ≡ Some role → PermitsLine role l
+  pub allows_beside : (v : SeatView) (ds : List (Deed T)) (hd : maybe.Option ℕ) (os : List (List (Deed T))) (prologue : Prologue) (l : Line)
+      (x : WordStep) (role : Role) → CanStart prologue v.actor → (after_prologue z.setup v.number prologue v.actor).line ≡ Some l
+      → slice_get z.roles (v.number - 1) ≡ Some role → PermitsLine role l
       → word_step z.setup.bits (action z.setup v.number (after_prologue z.setup v.number prologue v.actor) l) ≡ x → place (word_index x) < m → (held : List (ℕ × Option T))
-      → (pushes_at l ≡ true → (y : T) × (held ≡ ((after_prologue z.setup v.number prologue v.actor).val.body, Some y) ∷ []) × (hd ≡ some (after_prologue z.setup v.number prologue v.actor).val.body) × ((after_prologue z.setup v.number prologue v.actor).val.body < n))
-      → Allows {S = Option T} (HoldsBeside z m n) n id (record { plain = seated v; deeds = ds; hand = hd; others = os }, held) (place (word_index x)) (becomes x) (ToldBeside z prologue l v (record { plain = seated v; deeds = ds; hand = hd; others = os }) held)
+      → (pushes_at l ≡ true → (y : T) × (held ≡ ((after_prologue z.setup v.number prologue v.actor).val.body, Some y) ∷ [])
+      × (hd ≡ some (after_prologue z.setup v.number prologue v.actor).val.body)
+      × ((after_prologue z.setup v.number prologue v.actor).val.body < n))
+      → Allows {S = Option T} (HoldsBeside z m n) n id (record { plain = seated v; deeds = ds; hand = hd; others = os }, held) (place (word_index x))
+      (becomes x) (ToldBeside z prologue l v (record { plain = seated v; deeds = ds; hand = hd; others = os }) held)
   allows_beside v ds hd os prologue l x role can line its permits acts within held ready s H count mine small =
       goes_beside z m n s H count id v ds hd os mine prologue l can line role its permits x acts within held ready
 
@@ -305,7 +348,8 @@ module _ {T : Type 0} (z : Layout) (m n id : ℕ) where
   abbrev pub Gets : (i : ℕ) → Beside T → ℕ → Me (Option T) (Beside T) → Type 0
   Gets i w k o = (k ≡ 0 → (o.1 ≡ (i, None) ∷ []) × (o.0 ≡ record { plain = w.plain; deeds = w.deeds; hand = some i; others = w.others })) × (k ≢ 0 → o ≡ (w, []))
 
-  pub gets_beside : (w : Beside T) (i : ℕ) → i < n → (s : State (Option T) (Beside T)) (H : HoldsBeside z m n s) → length s.homes ≡ n → m + n ≤ length s.words → get_elem? s.views id ≡ some w → get_or s.words (m + i) 0 ≡ 0
+  pub gets_beside : (w : Beside T) (i : ℕ) → i < n → (s : State (Option T) (Beside T)) (H : HoldsBeside z m n s) → length s.homes ≡ n
+      → m + n ≤ length s.words → get_elem? s.views id ≡ some w → get_or s.words (m + i) 0 ≡ 0
       → (get_elem? s.homes i ≡ some (some None)) × HoldsBeside z m n (stepped s (m + i) 1 id [] (record { plain = w.plain; deeds = w.deeds; hand = some i; others = w.others }) (takes i None))
   gets_beside w i lt s H count long mine down =
       let w' : Beside T = record { plain = w.plain; deeds = w.deeds; hand = some i; others = w.others } in
@@ -322,14 +366,16 @@ module _ {T : Type 0} (z : Layout) (m n id : ℕ) where
           base = same_base s (record { words = words'; homes = homes'; views = set s.views id w' }) (take-set-le m s.words (m + i) 1 (omega arith)) same_views H.base;
           rides = record { deeds = r.deeds; q = r.q; pops = r.pops; shut = r.shut; leads = r.leads; runs = r.runs; matches = r.matches; slotted = got.1 };
           known = λ j o at. ⊎_elim
-              (λ (e : (j ≡ id) × (w' ≡ o)). subst (Begins r.deeds) e.1 (let f = H.known id w mine in let g : Begins r.deeds w' = record { rest = f.rest; begins = f.begins; matches = f.matches; pair = f.pair; others = f.others } in g))
+              (λ (e : (j ≡ id) × (w' ≡ o)). subst (Begins r.deeds) e.1 (let f = H.known id w mine in let g : Begins r.deeds w' =
+              record { rest = f.rest; begins = f.begins; matches = f.matches; pair = f.pair; others = f.others } in g))
               (λ (e : (j ≢ id) × (get_elem? s.views j ≡ some o)). H.known j o e.1)
               (at_set s.views id j w' o at);
         },
       )
 
   -- an empty slot is given back
-  pub frees_beside : (w : Beside T) (k : ℕ) → k < n → w.hand ≡ some k → (s : State (Option T) (Beside T)) (H : HoldsBeside z m n s) → length s.homes ≡ n → m + n ≤ length s.words → get_elem? s.views id ≡ some w
+  pub frees_beside : (w : Beside T) (k : ℕ) → k < n → w.hand ≡ some k → (s : State (Option T) (Beside T)) (H : HoldsBeside z m n s)
+      → length s.homes ≡ n → m + n ≤ length s.words → get_elem? s.views id ≡ some w
       → HoldsBeside z m n (stepped s (m + k) 0 id ((k, None) ∷ []) (record { plain = w.plain; deeds = w.deeds; hand = none; others = w.others }) gives)
   frees_beside w k lt hand s H count long mine =
       let w' : Beside T = record { plain = w.plain; deeds = w.deeds; hand = none; others = w.others } in
@@ -347,41 +393,60 @@ module _ {T : Type 0} (z : Layout) (m n id : ℕ) where
           leads = r.leads;
           runs = r.runs;
           matches = r.matches;
-          slotted = releases n (flag_at m s.words) (flag_at m words') (home_at s.homes) (home_at homes') (hand_at s.views) (hand_at (set s.views id w')) r.pops id k r.q r.slotted (ap hand_in mine ∙ hand)
+          slotted = releases n (flag_at m s.words) (flag_at m words') (home_at s.homes) (home_at homes') (hand_at s.views)
+              (hand_at (set s.views id w')) r.pops id k r.q r.slotted (ap hand_in mine ∙ hand)
               (get_or-set_same s.words (m + k) 0 0 (omega (arith, lt, long)), λ j ne. get_or-set_other s.words (m + k) (m + j) 0 0 (λ e. ne (omega (arith, e))))
               (set_here s.homes k (some None) (omega (arith, lt, count)), λ j ne. set_else s.homes k j (some None) ne)
               (ap hand_in (set_at s.views id w w' mine), λ j ne. ap hand_in (set_else s.views id j w' ne));
         };
         known = λ j o at. ⊎_elim
-            (λ (e : (j ≡ id) × (w' ≡ o)). subst (Begins r.deeds) e.1 (let f = H.known id w mine in let g : Begins r.deeds w' = record { rest = f.rest; begins = f.begins; matches = f.matches; pair = f.pair; others = f.others } in g))
+            (λ (e : (j ≡ id) × (w' ≡ o)). subst (Begins r.deeds) e.1 (let f = H.known id w mine in let g : Begins r.deeds w' =
+            record { rest = f.rest; begins = f.begins; matches = f.matches; pair = f.pair; others = f.others } in g))
             (λ (e : (j ≢ id) × (get_elem? s.views j ≡ some o)). H.known j o e.1)
             (at_set s.views id j w' o at);
       }
 
 -- a line whose step may push has its value ready
-ready_at : {T : Type 0} (z : Layout) (l : Line) (body : ℕ) (me : Me (Option T) (Beside T)) → LoadedAt l z body me → z.carries ≡ true → pushes_at l ≡ true → (y : T) × (me.1 ≡ (body, Some y) ∷ []) × (me.0.hand ≡ some body) × (body < z.setup.size)
+ready_at : {T : Type 0} (z : Layout) (l : Line) (body : ℕ) (me : Me (Option T) (Beside T)) → LoadedAt l z body me → z.carries ≡ true
+    → pushes_at l ≡ true → (y : T) × (me.1 ≡ (body, Some y) ∷ []) × (me.0.hand ≡ some body) × (body < z.setup.size)
 ready_at z E9 body me loaded carries e = loaded carries
 ready_at z A5 body me loaded carries e = loaded carries
 ready_at z l body me loaded carries e = cc
 
-module _ {T : Type 0} (z : Layout) (slots id : ℕ) (all : z.carries ≡ true → slots ≡ z.setup.size) (v : SeatView) (ds : List (Deed T)) (hd : maybe.Option ℕ) (os : List (List (Deed T))) (held : List (ℕ × Option T)) (prologue : Prologue) (l : Line) (x : WordStep) (role : Role)
+module _ {T : Type 0} (z : Layout) (slots id : ℕ) (all : z.carries ≡ true → slots ≡ z.setup.size) (v : SeatView) (ds : List (Deed T))
+    (hd : maybe.Option ℕ) (os : List (List (Deed T))) (held : List (ℕ × Option T)) (prologue : Prologue) (l : Line) (x : WordStep) (role : Role)
     (can : CanStart prologue v.actor) (line : (after_prologue z.setup v.number prologue v.actor).line ≡ Some l) (its : slice_get z.roles (v.number - 1) ≡ Some role) (permits : PermitsLine role l)
     (acts : word_step z.setup.bits (action z.setup v.number (after_prologue z.setup v.number prologue v.actor) l) ≡ x) (within : place (word_index x) < words_of z) where
   abbrev before : Me (Option T) (Beside T)
   before = (record { plain = seated v; deeds = ds; hand = hd; others = os }, held)
 
   -- where values are carried
-  carrying : z.carries ≡ true → LoadedAt l z (after_prologue z.setup v.number prologue v.actor).val.body before → Allows {S = Option T} (HoldsFor z) slots id before (place (word_index x)) (becomes x) (λ n m. TellsBeside z prologue before n m)
+  carrying : z.carries ≡ true → LoadedAt l z (after_prologue z.setup v.number prologue v.actor).val.body before
+      → Allows {S = Option T} (HoldsFor z) slots id before (place (word_index x)) (becomes x) (λ n m. TellsBeside z prologue before n m)
   carrying carries loaded s h count mine small =
-      let told_values : (w : Beside T) (act : Act (Option T)) (after : HoldsBeside z (words_of z) z.setup.size (stepped s (place (word_index x)) (becomes x (get_or s.words (place (word_index x)) 0)) id held w act)) → w.plain ≡ seated (knows w.plain) → get_elem? (set s.views id w) id ≡ some w → KnowsValues z (knows w.plain).seen w = λ w act after is there.
+      let told_values : (w : Beside T) (act : Act (Option T)) (after : HoldsBeside z (words_of z) z.setup.size
+      (stepped s (place (word_index x)) (becomes x (get_or s.words (place (word_index x)) 0)) id held w act)) → w.plain ≡ seated (knows w.plain)
+      → get_elem? (set s.views id w) id ≡ some w → KnowsValues z (knows w.plain).seen w = λ w act after is there.
       let fit = after.known id w there in
-      knows_values z (knows w.plain).seen w after.rides.deeds fit.rest (map item_of after.rides.q) after.rides.shut fit.begins after.rides.runs (fit.matches (knows w.plain) is) (λ i e. (after.rides.slotted.out id i (ap hand_in there ∙ e)).0) in
+      knows_values z (knows w.plain).seen w after.rides.deeds fit.rest (map item_of after.rides.q) after.rides.shut fit.begins after.rides.runs
+      (fit.matches (knows w.plain) is) (λ i e. (after.rides.slotted.out id i (ap hand_in there ∙ e)).0) in
       let c = subst (λ (b : Bool). CarriedBy b z h.base.trace.history s) carries h.values in
-      let q = goes_beside z (words_of z) z.setup.size s (record { base = h.base; rides = c.rides; known = c.known }) (count ∙ all carries) id v ds hd os mine prologue l can line role its permits x acts within held (ready_at z l _ before loaded carries) in (
+      let q = goes_beside z (words_of z) z.setup.size s (record { base = h.base; rides = c.rides; known = c.known }) (count ∙ all carries) id v ds hd
+      os mine prologue l can line role its permits x acts within held (ready_at z l _ before loaded carries) in (
         q.0,
         q.1,
         q.2,
-        record { base = q.3.base; values = subst (λ (b : Bool). CarriedBy b z q.3.base.trace.history (stepped s (place (word_index x)) (becomes x (get_or s.words (place (word_index x)) 0)) id held q.0 q.1)) (sym carries) (record { rides = q.3.rides; known = q.3.known; long = subst (λ (k : ℕ). words_of z + z.setup.size ≤ k) (sym (length-set s.words (place (word_index x)) (becomes x (get_or s.words (place (word_index x)) 0)))) c.long }) },
+        record {
+          base = q.3.base;
+          values = subst (λ (b : Bool). CarriedBy b z q.3.base.trace.history
+              (stepped s (place (word_index x)) (becomes x (get_or s.words (place (word_index x)) 0)) id held q.0 q.1)) (sym carries)
+              (record {
+                rides = q.3.rides;
+                known = q.3.known;
+                long = subst (λ (k : ℕ). words_of z + z.setup.size ≤ k)
+                    (sym (length-set s.words (place (word_index x)) (becomes x (get_or s.words (place (word_index x)) 0)))) c.long;
+              });
+        },
         (
           (ap (λ y. (y, [])) q.4.0.0, subst (λ (k : Line). Steps z prologue k (get_or s.words (place (word_index x)) 0) v (knows q.0.plain)) (sym (ap line_or_first line)) q.4.0.1),
           (q.4.1.0, q.4.1.1, subst (λ (b : Bool). EffectBy b v.number q.4.1.0 before (q.0, carried_after held q.1)) (sym carries) q.4.1.2),
@@ -392,15 +457,31 @@ module _ {T : Type 0} (z : Layout) (slots id : ℕ) (all : z.carries ≡ true �
   -- where none are
   plainly : z.carries ≡ false → Allows {S = Option T} (HoldsFor z) slots id before (place (word_index x)) (becomes x) (λ n m. TellsBeside z prologue before n m)
   plainly carries s h count mine small =
-      let q = lift_allows z slots id before.0 held (place (word_index x)) (becomes x) (λ n m. Tells z prologue (seated v, []) n m) within (allows_seated z id v prologue l x role can line its permits acts) s h.base count mine small in (
+      let q = lift_allows z slots id before.0 held (place (word_index x)) (becomes x) (λ n m. Tells z prologue (seated v, []) n m) within
+      (allows_seated z id v prologue l x role can line its permits acts) s h.base count mine small in (
         q.0,
         q.1,
         q.2,
-        record { base = q.3; values = subst (λ (b : Bool). CarriedBy b z q.3.trace.history (stepped s (place (word_index x)) (becomes x (get_or s.words (place (word_index x)) 0)) id held q.0 q.1)) (sym carries) tt },
-        (q.4.0, (_, q.4.0.1.mine, subst (λ (b : Bool). EffectBy b v.number (entries_at z.setup q.4.0.1.was v.number (after_prologue z.setup v.number prologue v.actor) (line_or_first (after_prologue z.setup v.number prologue v.actor).line)) before (q.0, carried_after held q.1)) (sym carries) q.4.1), subst (λ (b : Bool). KnowsBy b z (knows q.0.plain).seen q.0) (sym carries) tt),
+        record {
+          base = q.3;
+          values = subst (λ (b : Bool). CarriedBy b z q.3.trace.history
+              (stepped s (place (word_index x)) (becomes x (get_or s.words (place (word_index x)) 0)) id held q.0 q.1)) (sym carries) tt;
+        },
+        (
+          q.4.0,
+          (
+            _,
+            q.4.0.1.mine,
+            subst (λ (b : Bool). EffectBy b v.number (entries_at z.setup q.4.0.1.was v.number
+                (after_prologue z.setup v.number prologue v.actor) (line_or_first (after_prologue z.setup v.number prologue v.actor).line)) before
+                (q.0, carried_after held q.1)) (sym carries) q.4.1,
+          ),
+          subst (λ (b : Bool). KnowsBy b z (knows q.0.plain).seen q.0) (sym carries) tt,
+        ),
       )
 
-  pub allows_either : LoadedAt l z (after_prologue z.setup v.number prologue v.actor).val.body before → Allows {S = Option T} (HoldsFor z) slots id before (place (word_index x)) (becomes x) (λ n m. TellsBeside z prologue before n m)
+  pub allows_either : LoadedAt l z (after_prologue z.setup v.number prologue v.actor).val.body before
+      → Allows {S = Option T} (HoldsFor z) slots id before (place (word_index x)) (becomes x) (λ n m. TellsBeside z prologue before n m)
   allows_either loaded = go z.carries refl
     where
       go : (b : Bool) → z.carries ≡ b → Allows {S = Option T} (HoldsFor z) slots id before (place (word_index x)) (becomes x) (λ n m. TellsBeside z prologue before n m)
@@ -408,9 +489,13 @@ module _ {T : Type 0} (z : Layout) (slots id : ℕ) (all : z.carries ≡ true �
       go false e = plainly e
 
 -- the same at the names of a call: its table says the number of slots, and its seat the view
-pub allows_as : {T : Type 0} (z key : Layout) (slots id : ℕ) (me : Me (Option T) (Beside T)) (prologue : Prologue) (l : Line) (x : WordStep) (role : Role) → key ≡ z → slots ≡ slots_of z → me.0.plain ≡ seated (knows me.0.plain)
-    → CanStart prologue (knows me.0.plain).actor → (after_prologue z.setup (knows me.0.plain).number prologue (knows me.0.plain).actor).line ≡ Some l → slice_get z.roles ((knows me.0.plain).number - 1) ≡ Some role → PermitsLine role l
-    → word_step z.setup.bits (action z.setup (knows me.0.plain).number (after_prologue z.setup (knows me.0.plain).number prologue (knows me.0.plain).actor) l) ≡ x → place (word_index x) < words_of z → LoadedAt l z (after_prologue z.setup (knows me.0.plain).number prologue (knows me.0.plain).actor).val.body me
+pub allows_as : {T : Type 0} (z key : Layout) (slots id : ℕ) (me : Me (Option T) (Beside T)) (prologue : Prologue) (l : Line) (x : WordStep)
+    (role : Role) → key ≡ z → slots ≡ slots_of z → me.0.plain ≡ seated (knows me.0.plain)
+    → CanStart prologue (knows me.0.plain).actor → (after_prologue z.setup (knows me.0.plain).number prologue (knows me.0.plain).actor).line ≡ Some l
+    → slice_get z.roles ((knows me.0.plain).number - 1) ≡ Some role → PermitsLine role l
+    → word_step z.setup.bits (action z.setup (knows me.0.plain).number (after_prologue z.setup (knows me.0.plain).number prologue
+    (knows me.0.plain).actor) l) ≡ x → place (word_index x) < words_of z → LoadedAt l z
+    (after_prologue z.setup (knows me.0.plain).number prologue (knows me.0.plain).actor).val.body me
     → Allows {S = Option T} (HoldsFor key) slots id me (place (word_index x)) (becomes x) (λ n m. TellsBeside key prologue me n m)
 allows_as {T} z key slots id me prologue l x role same all is can line its permits acts within loaded =
     let v : SeatView = knows me.0.plain in

@@ -54,7 +54,8 @@ module _ {T : Type 0} where
   length-matches es ds h = absurd h
 
   -- before a pop its value stood at the front
-  pub runs_to_pop : (q : List (Item T)) (b : Bool) (ds es : List (Deed T)) (n : ℕ) (t : Item T) (q' : List (Item T)) (b' : Bool) → Runs q b (ds ++ popped n t ∷ es) q' b' → (rest : List (Item T)) × (c : Bool) × Runs q b ds (t ∷ rest) c
+  pub runs_to_pop : (q : List (Item T)) (b : Bool) (ds es : List (Deed T)) (n : ℕ) (t : Item T) (q' : List (Item T)) (b' : Bool)
+      → Runs q b (ds ++ popped n t ∷ es) q' b' → (rest : List (Item T)) × (c : Bool) × Runs q b ds (t ∷ rest) c
   runs_to_pop q b [] es n t q' b' h = (h.0, b, (h.1, refl))
   runs_to_pop q b (pushed m x ∷ ds) es n t q' b' h = let r = runs_to_pop (q ++ item m x ∷ []) b ds es n t q' b' h.1 in (r.0, r.1, (h.0, r.2))
   runs_to_pop q b (popped m u ∷ ds) es n t q' b' h = let r = runs_to_pop h.0 b ds es n t q' b' h.2 in (r.0, r.1, (h.0, h.1, r.2))
@@ -67,7 +68,8 @@ module _ {T : Type 0} where
 module _ {T : Type 0} (r : Arena) where
   -- a seat of an arena that carries values has seen as many deeds as entries
   pub length-deeds : (s : Seat T) → IsSeat r s → carries_of r ≡ true → length (deeds_of s) ≡ length (view s).seen
-  length-deeds s is carried = ∥∥₁_elim is.sits.valued (ℕ_set (length (deeds_of s)) (length (view s).seen)) (λ k. length-matches (view s).seen (deeds_of s) (subst (λ (b : Bool). KnowsBy b r.plan (view s).seen s.token.me.0) carried k).matches)
+  length-deeds s is carried = ∥∥₁_elim is.sits.valued (ℕ_set (length (deeds_of s)) (length (view s).seen))
+      (λ k. length-matches (view s).seen (deeds_of s) (subst (λ (b : Bool). KnowsBy b r.plan (view s).seen s.token.me.0) carried k).matches)
 
   -- where nothing more is seen of the queue, nothing more is seen of its values
   pub same_deeds : (s t : Seat T) → IsSeat r s → IsSeat r t → carries_of r ≡ true → KeepsSlots s t → (view t).seen ≡ (view s).seen → deeds_of t ≡ deeds_of s
@@ -87,7 +89,9 @@ module _ {T : Type 0} (r : Arena) where
   adds_then s t u d adds same = record { between = adds.between; deeds = same ∙ adds.deeds }
 
   -- a line that pushes gives the seat's slot
-  pub gives_slot : (s t : Seat T) (prologue : Prologue) (l : Line) (n : ℕ) (d : DidStep r s t prologue l n) (me body : ℕ) → entries_at r.plan.setup d.told.was (view s).number (after_prologue r.plan.setup (view s).number prologue (view s).actor) l ≡ Push me body ∷ [] → GivesSlot r body s t
+  pub gives_slot : (s t : Seat T) (prologue : Prologue) (l : Line) (n : ℕ) (d : DidStep r s t prologue l n) (me body : ℕ)
+      → entries_at r.plan.setup d.told.was (view s).number (after_prologue r.plan.setup (view s).number prologue (view s).actor) l ≡ Push me body ∷ []
+      → GivesSlot r body s t
   gives_slot s t prologue l n d me body pushes carried =
       let e = effect r s t prologue l n d carried (Push me body ∷ []) (d.told.mine ∙ ap (λ es. (view s).mine ++ es) pushes) in
       ((ap length e.2, ap slots_in e.3), (e.0, e.1, record { between = e.4.0; deeds = e.4.1 }))
@@ -103,7 +107,9 @@ module _ {T : Type 0} (r : Arena) where
       ((ap length k.same ∙ e.0.0, ap slots_in k.hand ∙ e.0.1), (e.1.0, e.1.1, adds_then s t u (pushed (view s).number e.1.0) e.1.2 (same_deeds t u it iu carried k same)))
 
   -- a line that pops takes the slot that its number names
-  pub takes_slot : (s t : Seat T) (prologue : Prologue) (l : Line) (n : ℕ) (d : DidStep r s t prologue l n) (me : ℕ) (v : Taken) → entries_at r.plan.setup d.told.was (view s).number (after_prologue r.plan.setup (view s).number prologue (view s).actor) l ≡ Pop me v ∷ [] → TakesSlot r v s t
+  pub takes_slot : (s t : Seat T) (prologue : Prologue) (l : Line) (n : ℕ) (d : DidStep r s t prologue l n) (me : ℕ) (v : Taken)
+      → entries_at r.plan.setup d.told.was (view s).number (after_prologue r.plan.setup (view s).number prologue (view s).actor) l ≡ Pop me v ∷ []
+      → TakesSlot r v s t
   takes_slot s t prologue l n d me v pops carried =
       let e = effect r s t prologue l n d carried (Pop me v ∷ []) (d.told.mine ∙ ap (λ es. (view s).mine ++ es) pops) in
       let known = subst (λ (b : Bool). KnowsBy b r.plan (view t).seen t.token.me.0) carried d.valued in
@@ -147,12 +153,20 @@ module _ {T : Type 0} (r : Arena) where
       (e.0, record { carries = carried; there = hand_there r t v.body it carried e.2; out = e.1 ∙ ap (λ held. (v.body, Some e.0) ∷ held) (none_held s.token.me.1 none_out.0); hand = e.2 }, e.3)
 
 -- a line that shuts the queue, or doesn't, moves none
-pub shut_slots : {T : Type 0} (r : Arena) (s t : Seat T) (prologue : Prologue) (l : Line) (n : ℕ) (d : DidStep r s t prologue l n) (me : ℕ) (won : Bool) → entries_at r.plan.setup d.told.was (view s).number (after_prologue r.plan.setup (view s).number prologue (view s).actor) l ≡ (if won then Shut me ∷ [] else []) → KeepsSlots s t
+pub shut_slots : {T : Type 0} (r : Arena) (s t : Seat T) (prologue : Prologue) (l : Line) (n : ℕ) (d : DidStep r s t prologue l n) (me : ℕ)
+    (won : Bool) → entries_at r.plan.setup d.told.was (view s).number (after_prologue r.plan.setup (view s).number prologue (view s).actor) l ≡
+    (if won then Shut me ∷ [] else []) → KeepsSlots s t
 shut_slots r s t prologue l n d me false adds = quiet_slots r s t prologue l n d adds
 shut_slots {T} r s t prologue l n d me true adds =
     let same : d.moves.0 ≡ Shut me ∷ [] = append_cancel_left (view s).mine d.moves.0 (Shut me ∷ []) (sym d.moves.1 ∙ (d.told.mine ∙ ap (λ es. (view s).mine ++ es) adds)) in
     go r.plan.carries (subst (λ (es : List Entry). EffectBy r.plan.carries (view s).number es s.token.me t.token.me) same d.moves.2)
   where
     go : (b : Bool) → EffectBy b (view s).number (Shut me ∷ []) s.token.me t.token.me → KeepsSlots s t
-    go true e = record { same = e.0; hand = e.1; number = d.told.number; more = record { between = e.2.0 ++ closed (view s).number ∷ []; deeds = e.2.1 ∙ append_assoc (deeds_of s) e.2.0 (closed (view s).number ∷ []) } }
+    go true e = record {
+      same = e.0;
+      hand = e.1;
+      number = d.told.number;
+      more =
+          record { between = e.2.0 ++ closed (view s).number ∷ []; deeds = e.2.1 ∙ append_assoc (deeds_of s) e.2.0 (closed (view s).number ∷ []) };
+    }
     go false e = record { same = e.0; hand = e.1; number = d.told.number; more = record { between = []; deeds = e.2 ∙ sym (append-nil (deeds_of s)) } }

@@ -1,5 +1,6 @@
 -- A look of a seat. No move of the world is made.
-use Rattle.std.proofs.Common.{Bool, true, false, append-nil, ◌≡◌, ◌≢◌, ℕ, ◌+◌, ◌-◌, ◌*◌, ◌<◌, List, [], ◌++◌, length, get_or, set, slice_index, Option, Some, None, IfSome, inl, sym, refl, ap, ◌∙◌, subst, ⊎_elim, arith}
+use Rattle.std.proofs.Common.{Bool, true, false, append-nil, ◌≡◌, ◌≢◌, ℕ, ◌+◌, ◌-◌, ◌*◌, ◌<◌, List, [], ◌++◌, length, get_or, set, slice_index}
+use Rattle.std.proofs.Common.{Option, Some, None, IfSome, inl, sym, refl, ap, ◌∙◌, subst, ⊎_elim, arith}
 use Rattle.std.proofs.lemmas.List.{set-get_or}
 use mathlib.Core.Option.{some}
 use lib.ListN.{get_elem?}
@@ -64,7 +65,8 @@ abbrev pub LooksBeside : {T : Type 0} → Layout → (p : ℕ) → Me (Option T)
 LooksBeside z p me n me' = LooksTold z p me.0.plain n me'.0.plain × (me'.1 ≡ me.1) × (me'.0.hand ≡ me.0.hand) × KnowsNow z me'.0 × GrowsBy z.carries me.0 me'.0
 
 -- a load of a place by a seat that may rest: it has then seen the whole history
-looks : (z : Layout) (es : List Entry) (id p : ℕ) (v : SeatView) → (at_rest v.actor).line ≡ None → Allows {S = ℕ} (HoldsWith z es) 0 id (seated v, []) p (λ n. n) (λ n m. LooksTold z p (seated v) n m.0 × Learns es m.0)
+looks : (z : Layout) (es : List Entry) (id p : ℕ) (v : SeatView) → (at_rest v.actor).line ≡ None
+    → Allows {S = ℕ} (HoldsWith z es) 0 id (seated v, []) p (λ n. n) (λ n m. LooksTold z p (seated v) n m.0 × Learns es m.0)
 looks z es id p v free s hs none at_id fit =
     let h : Holds z s = hs.0 in
     let t : Traced = h.trace in
@@ -77,7 +79,8 @@ looks z es id p v free s hs none at_id fit =
       tt,
       views_now z es s hs (set s.words p (get_or s.words p 0)) (set s.views id (seated v')) h.owner (set-get_or s.words p 0)
           (λ j i x o a b. ⊎_elim
-          (λ (q : (j ≡ id) × (seated v' ≡ x)). let y = one_of v' o i (ap (λ (y : View). get_elem? (members y) i) q.1 ∙ b) in subst (λ (x : ℕ × ℕ × SeatView). P x.0 x.1 x.2) (λ c. (sym q.0 c, sym y.0 c, y.1 c)) mine)
+          (λ (q : (j ≡ id) × (seated v' ≡ x)). let y = one_of v' o i (ap (λ (y : View). get_elem? (members y) i) q.1 ∙ b) in subst
+          (λ (x : ℕ × ℕ × SeatView). P x.0 x.1 x.2) (λ c. (sym q.0 c, sym y.0 c, y.1 c)) mine)
           (λ (q : (j ≢ id) × (get_elem? s.views j ≡ some x)). let k = h.owned j i x o q.1 b in (h.fits j i x o q.1 b, k.0, k.1))
           (at_set s.views id j (seated v') x a))
           (λ j n a. ⊎_elim (λ (q : (j ≡ id) × (seated v' ≡ keeper n)). let e = q.1 in cc) (λ (q : (j ≢ id) × (get_elem? s.views j ≡ some (keeper n))). h.kept j n q.1)
@@ -104,18 +107,21 @@ looks z es id p v free s hs none at_id fit =
     )
 
 -- the same at the names of a call
-looks_at : {T : Type 0} (key : Layout) (slots id p : ℕ) (me : Me (Option T) (Beside T)) → p < words_of key → me.0.plain ≡ seated (knows me.0.plain) → (at_rest (knows me.0.plain).actor).line ≡ None → Allows {S = Option T} (HoldsFor key) slots id me p (λ n. n) (λ n m. LooksBeside key p me n m)
+looks_at : {T : Type 0} (key : Layout) (slots id p : ℕ) (me : Me (Option T) (Beside T)) → p < words_of key → me.0.plain ≡ seated (knows me.0.plain)
+    → (at_rest (knows me.0.plain).actor).line ≡ None → Allows {S = Option T} (HoldsFor key) slots id me p (λ n. n) (λ n m. LooksBeside key p me n m)
 looks_at key slots id p me within is free =
     lift_learns key slots id me.0 me.1 p (LooksTold key p me.0.plain) within
     (λ es. subst (λ (y : View). Allows {S = ℕ} (HoldsWith key es) 0 id (y, []) p (λ n. n) (λ n o. LooksTold key p y n o.0 × Learns es o.0)) (sym is) (looks key es id p (knows me.0.plain) free))
 
 -- what a look asks of the table
 pub asks_look : {T : Type 0} (r : Arena) (s : Seat T) (word : ℕ) → IsReady r s → word < 6 + 2 * r.plan.setup.size
-    → (s.token.table_id ≡ r.id) × (place word < r.id.words) × Allows {S = Option T} (HoldsFor r.key) r.id.slots s.token.id s.token.me (place word) (λ n. n) (λ n m. LooksBeside r.key (place word) s.token.me n m)
+    → (s.token.table_id ≡ r.id) × (place word < r.id.words) × Allows {S = Option T} (HoldsFor r.key) r.id.slots s.token.id s.token.me (place word)
+    (λ n. n) (λ n m. LooksBeside r.key (place word) s.token.me n m)
 asks_look r s word i less = (
   i.seat.sits.table,
   place_there r.id.words word (omega (arith, i.seat.arena.words, less)),
-  looks_at r.key r.id.slots s.token.id (place word) s.token.me (subst (λ (z : Layout). place word < words_of z) (sym i.seat.arena.key) (place_there (words_of r.plan) word (omega (arith, less)))) i.seat.sits.seat i.free,
+  looks_at r.key r.id.slots s.token.id (place word) s.token.me (subst (λ (z : Layout). place word < words_of z) (sym i.seat.arena.key)
+      (place_there (words_of r.plan) word (omega (arith, less)))) i.seat.sits.seat i.free,
 )
 
 -- what is seen of values goes on, whether values are carried or not
@@ -124,11 +130,16 @@ sees_more s t true g = record { between = g.0.0; deeds = g.0.1 }
 sees_more s t false g = record { between = []; deeds = g ∙ sym (append-nil (deeds_of s)) }
 
 -- what it answers
-pub looked : {T : Type 0} (r : Arena) (s : Seat T) (t : Token (Option T) (Beside T)) (word p n : ℕ) → IsReady r s → word < 6 + 2 * r.plan.setup.size → p ≡ place word → (t.table_id ≡ s.token.table_id) × (t.id ≡ s.token.id) × LooksBeside r.key p s.token.me n t.me → Looks r s (record s { token = t }) word n
+pub looked : {T : Type 0} (r : Arena) (s : Seat T) (t : Token (Option T) (Beside T)) (word p n : ℕ) → IsReady r s → word < 6 + 2 * r.plan.setup.size
+    → p ≡ place word → (t.table_id ≡ s.token.table_id) × (t.id ≡ s.token.id) × LooksBeside r.key p s.token.me n t.me
+    → Looks r s (record s { token = t }) word n
 looked r s t word p n i less at h =
     let told : LooksIn r.plan p n (view s) (knows t.me.0.plain) = subst (λ (z : Layout). LooksIn z p n (view s) (knows t.me.0.plain)) i.seat.arena.key h.2.0.1 in
     record {
-      ready = sits_so r s t (knows t.me.0.plain) i (h.0 ∙ i.seat.sits.table) h.2.0.0 (λ c. let before = i.seat.sits.none_out c in (ap length h.2.1 ∙ before.0, ap slots_in h.2.2 ∙ before.1)) ∣ subst (λ (z : Layout). KnowsNow z t.me.0) i.seat.arena.key h.2.3 ∣₁ (ap (λ (v : SeatView). v.number) told.knows) (ap (λ (v : SeatView). v.actor) told.knows) (ap (λ (v : SeatView). v.mine) told.knows) told.fits;
+      ready = sits_so r s t (knows t.me.0.plain) i (h.0 ∙ i.seat.sits.table) h.2.0.0
+          (λ c. let before = i.seat.sits.none_out c in (ap length h.2.1 ∙ before.0, ap slots_in h.2.2 ∙ before.1)) ∣ subst
+          (λ (z : Layout). KnowsNow z t.me.0) i.seat.arena.key h.2.3 ∣₁ (ap (λ (v : SeatView). v.number) told.knows)
+          (ap (λ (v : SeatView). v.actor) told.knows) (ap (λ (v : SeatView). v.mine) told.knows) told.fits;
       stored = record { number = refl; role = refl; keeps = refl; pocket = refl; failed = refl };
       told = record { was = told.was; reached = told.reached; setup = told.setup; held = told.held word (sym at) less; rest = told.rest; begins = told.begins; knows = told.knows; since = told.since };
       slots = record { same = h.2.1; hand = h.2.2; number = ap (λ (v : SeatView). v.number) told.knows; more = sees_more s (record s { token = t }) r.key.carries h.2.4 };

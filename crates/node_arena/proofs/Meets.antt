@@ -1,5 +1,6 @@
 -- Seats that meet. No move of the world is made.
-use Rattle.std.proofs.Common.{◌≡◌, ◌≢◌, ℕ, ◌+◌, ◌<◌, Bool, true, false, take, None, List, [], ◌∷◌, ◌++◌, Option, zero, suc, length, map, get_or, set, sym, refl, ap, ◌∙◌, subst, ⊎_elim, ◌⊎◌, inl, inr, arith, append-nil, nat_lt}
+use Rattle.std.proofs.Common.{◌≡◌, ◌≢◌, ℕ, ◌+◌, ◌<◌, Bool, true, false, take, None, List, [], ◌∷◌, ◌++◌, Option, zero, suc, length, map, get_or, set}
+use Rattle.std.proofs.Common.{sym, refl, ap, ◌∙◌, subst, ⊎_elim, ◌⊎◌, inl, inr, arith, append-nil, nat_lt}
 use Rattle.std.proofs.lemmas.List.{set-get_or, length-set}
 use mathlib.Core.Option.{some, none, some-injective, some-ne-none}
 use lib.ListN.{get_elem?}
@@ -20,7 +21,9 @@ use Rattle.node_arena.specs.Rule.{Fits, Holds, Fitted, Met}
 use Rattle.std.specs.List.{All, count_by}
 use Rattle.std.proofs.lemmas.List.Elements.{All-weaker}
 use Rattle.atomic_table.specs.declared.shared.Seat.{Seat as Token}
-use Rattle.node_arena.specs.Beside.{Beside, plain_me, words_of, HoldsFor, plain_of, plain_state, Begins, Carried, CarriedBy, left_as_it_is, knows_nothing, both_beside, first_beside_of, second_beside_of, MeetsBeside, HasNone, KnowsBy, KnowsNow, GrowsBy, hand_in, slots_in}
+use Rattle.node_arena.specs.Beside.{Beside, plain_me, words_of, HoldsFor, plain_of, plain_state, Begins, Carried, CarriedBy, left_as_it_is}
+use Rattle.node_arena.specs.Beside.{knows_nothing, both_beside, first_beside_of, second_beside_of, MeetsBeside, HasNone, KnowsBy, KnowsNow, GrowsBy}
+use Rattle.node_arena.specs.Beside.{hand_in, slots_in}
 use Rattle.node_arena.specs.Arenas.{Arena}
 use Rattle.node_arena.specs.declared.seats.Seat.{Seat}
 use Rattle.node_arena.specs.Prologues.{at_rest}
@@ -109,14 +112,17 @@ parts z es id v w s hs at_id =
     views_now z es s hs s.words (set s.views id (seated v) ++ seated w ∷ []) own refl
     (λ j i u o a b. ⊎_elim
     (λ (t : get_elem? (set s.views id (seated v)) j ≡ some u). ⊎_elim
-    (λ (q : (j ≡ id) × (seated v ≡ u)). let y = one_of v o i (ap (λ (y : View). get_elem? (members y) i) q.1 ∙ b) in subst (λ (x : ℕ × ℕ × SeatView). P x.0 x.1 x.2) (λ c. (sym q.0 c, sym y.0 c, y.1 c)) first)
+    (λ (q : (j ≡ id) × (seated v ≡ u)). let y = one_of v o i (ap (λ (y : View). get_elem? (members y) i) q.1 ∙ b) in subst
+    (λ (x : ℕ × ℕ × SeatView). P x.0 x.1 x.2) (λ c. (sym q.0 c, sym y.0 c, y.1 c)) first)
     (λ (q : (j ≢ id) × (get_elem? s.views j ≡ some u)). let k = h.owned j i u o q.1 b in
     (h.fits j i u o q.1 b, changed_else h.owner w.number (l, 0) o.number (λ e. q.0 (ap (λ (y : ℕ × ℕ). y.0) (sym k.0 ∙ (ap h.owner e ∙ ow.0)))) ∙ k.0, k.1))
     (at_set s.views id j (seated v) u t))
-    (λ (t : (j ≡ l) × (seated w ≡ u)). let y = one_of w o i (ap (λ (y : View). get_elem? (members y) i) t.1 ∙ b) in subst (λ (x : ℕ × ℕ × SeatView). P x.0 x.1 x.2) (λ c. (sym t.0 c, sym y.0 c, y.1 c)) second)
+    (λ (t : (j ≡ l) × (seated w ≡ u)). let y = one_of w o i (ap (λ (y : View). get_elem? (members y) i) t.1 ∙ b) in subst
+    (λ (x : ℕ × ℕ × SeatView). P x.0 x.1 x.2) (λ c. (sym t.0 c, sym y.0 c, y.1 c)) second)
     (at_end (set s.views id (seated v)) (seated w) u j a))
     (λ j n a. ⊎_elim
-    (λ (t : get_elem? (set s.views id (seated v)) j ≡ some (keeper n)). ⊎_elim (λ (q : (j ≡ id) × (seated v ≡ keeper n)). let e = q.1 in cc) (λ (q : (j ≢ id) × (get_elem? s.views j ≡ some (keeper n))). h.kept j n q.1)
+    (λ (t : get_elem? (set s.views id (seated v)) j ≡ some (keeper n)). ⊎_elim (λ (q : (j ≡ id) × (seated v ≡ keeper n)). let e = q.1 in cc)
+    (λ (q : (j ≢ id) × (get_elem? s.views j ≡ some (keeper n))). h.kept j n q.1)
     (at_set s.views id j (seated v) (keeper n) t))
     (λ (t : (j ≡ l) × (seated w ≡ keeper n)). let e = t.1 in cc)
     (at_end (set s.views id (seated v)) (seated w) (keeper n) j a))
@@ -156,7 +162,8 @@ learns t v free f =
     }
 
 -- a load of the word 0 by two seats that are one: both have seen the whole history
-pub meets : (z : Layout) (es : List Entry) (id : ℕ) (v w : SeatView) → (at_rest v.actor).line ≡ None → (at_rest w.actor).line ≡ None → Allows {S = ℕ} (HoldsWith z es) 0 id (paired v w, []) 0 (λ n. n) (λ n m. (k : Met z v w m) × (k.all ≡ es))
+pub meets : (z : Layout) (es : List Entry) (id : ℕ) (v w : SeatView) → (at_rest v.actor).line ≡ None → (at_rest w.actor).line ≡ None
+    → Allows {S = ℕ} (HoldsWith z es) 0 id (paired v w, []) 0 (λ n. n) (λ n m. (k : Met z v w m) × (k.all ≡ es))
 meets z es id v w vf wf s hs empty at_id fit =
     let h : Holds z s = hs.0 in
     let u : Traced = h.trace in
@@ -180,7 +187,21 @@ meets z es id v w vf wf s hs empty at_id fit =
           (at_set s.views id j (paired v' w') x a))
           (λ j n a. ⊎_elim (λ (q : (j ≡ id) × (paired v' w' ≡ keeper n)). let e = q.1 in cc) (λ (q : (j ≢ id) × (get_elem? s.views j ≡ some (keeper n))). h.kept j n q.1)
           (at_set s.views id j (paired v' w') (keeper n) a)),
-      (record { all = u.history; first_rest = fv.rest; second_rest = fw.rest; seats = refl; first = fv.begins; second = fw.begins; first_fits = record { trace = u; reached = h.reached; setup = h.setup; permitted = h.permitted; fits = first.0 }; second_fits = record { trace = u; reached = h.reached; setup = h.setup; permitted = h.permitted; fits = second.0 } }, hs.1),
+      (
+        record {
+          all = u.history;
+          first_rest = fv.rest;
+          second_rest = fw.rest;
+          seats = refl;
+          first = fv.begins;
+          second = fw.begins;
+          first_fits =
+              record { trace = u; reached = h.reached; setup = h.setup; permitted = h.permitted; fits = first.0 };
+          second_fits =
+              record { trace = u; reached = h.reached; setup = h.setup; permitted = h.permitted; fits = second.0 };
+        },
+        hs.1,
+      ),
     )
 
 two_not_one : (v w u : SeatView) → paired v w ≡ seated u → ⊥
@@ -206,10 +227,13 @@ module _ {T : Type 0} (key : Layout) (id : ℕ) (me : Me (Option T) (Beside T)) 
       lift_splits key id me.0 (left_as_it_is me.0) knows_nothing (λ es. subst (λ (y : View). Splits {S = ℕ} (HoldsWith key es) id y y spent) (sym is) (spares key es id v)) refl refl
       (λ ds b. (record { rest = b.rest; begins = b.begins; matches = b.matches; pair = b.pair; others = b.others }, spent_begins ds))
 
-  pub pairs_at : (other : ℕ) (him : Me (Option T) (Beside T)) → me.0.plain ≡ seated v → him.0.plain ≡ seated w → him.0.hand ≡ none → Joins {S = Option T} (HoldsFor key) id me.0 other him.0 (both_beside me.0 him.0) knows_nothing
+  pub pairs_at : (other : ℕ) (him : Me (Option T) (Beside T)) → me.0.plain ≡ seated v → him.0.plain ≡ seated w → him.0.hand ≡ none
+      → Joins {S = Option T} (HoldsFor key) id me.0 other him.0 (both_beside me.0 him.0) knows_nothing
   pairs_at other him is his none_out =
       let two : both_of me.0.plain him.0.plain ≡ paired v w = (λ i. both_of (is i) (his i)) in
-      lift_joins key id other me.0 him.0 (both_beside me.0 him.0) knows_nothing (λ es. subst (λ (y : View × View). Joins {S = ℕ} (HoldsWith key es) id y.0 other y.1 (both_of y.0 y.1) spent) (λ i. (sym is i, sym his i)) (pairs key es id other v w)) refl (sym none_out)
+      lift_joins key id other me.0 him.0 (both_beside me.0 him.0) knows_nothing
+      (λ es. subst (λ (y : View × View). Joins {S = ℕ} (HoldsWith key es) id y.0 other y.1 (both_of y.0 y.1) spent) (λ i. (sym is i, sym his i))
+      (pairs key es id other v w)) refl (sym none_out)
       (λ ds b his_own. (
         record {
           rest = b.rest;
@@ -221,12 +245,15 @@ module _ {T : Type 0} (key : Layout) (id : ℕ) (me : Me (Option T) (Beside T)) 
         spent_begins ds,
       ))
 
-  pub meets_at : (slots : ℕ) → (at_rest v.actor).line ≡ None → (at_rest w.actor).line ≡ None → me.0.plain ≡ paired v w → Allows {S = Option T} (HoldsFor key) slots id me 0 (λ n. n) (λ n m. MeetsBeside key me m)
+  pub meets_at : (slots : ℕ) → (at_rest v.actor).line ≡ None → (at_rest w.actor).line ≡ None → me.0.plain ≡ paired v w
+      → Allows {S = Option T} (HoldsFor key) slots id me 0 (λ n. n) (λ n m. MeetsBeside key me m)
   meets_at slots vf wf is s h count mine small =
       let m : ℕ = words_of key in
       let es : List Entry = h.base.trace.history in
       let same : get_or (take m s.words) 0 0 ≡ get_or s.words 0 0 = get_or-take m s.words 0 0 (omega arith) in
-      let q = subst (λ (y : View). Allows {S = ℕ} (HoldsWith key es) 0 id (y, []) 0 (λ n. n) (λ n o. (k : Met key (knows y) (knows_second y) o) × (k.all ≡ es))) (sym is) (meets key es id v w vf wf) (plain_state m s) (h.base, refl) refl (at_map plain_of s.views id me.0 mine) (subst (λ (k : ℕ). k < 18446744073709551616) (sym same) small) in
+      let q = subst (λ (y : View). Allows {S = ℕ} (HoldsWith key es) 0 id (y, []) 0 (λ n. n) (λ n o. (k : Met key (knows y) (knows_second y) o)
+      × (k.all ≡ es))) (sym is) (meets key es id v w vf wf) (plain_state m s) (h.base, refl) refl (at_map plain_of s.views id me.0 mine)
+      (subst (λ (k : ℕ). k < 18446744073709551616) (sym same) small) in
       let words : List ℕ = set s.words 0 (get_or s.words 0 0) in
       let after : List (Deed T) → Beside T = λ ds. record { plain = q.0; deeds = ds; hand = me.0.hand; others = [] } in
       let base : (ds : List (Deed T)) → HoldsWith key es (plain_state m (record { words = words; homes = s.homes; views = set s.views id (after ds) })) = λ ds. (
@@ -234,13 +261,24 @@ module _ {T : Type 0} (key : Layout) (id : ℕ) (me : Me (Option T) (Beside T)) 
             (take-set-lt m s.words 0 (get_or s.words 0 0) (omega arith) ∙ ap (λ (k : ℕ). set (take m s.words) 0 k) (sym same)) (map_set plain_of s.views id (after ds)),
         q.3.1,
       ) in
-      let told : (ds : List (Deed T)) → KnowsNow key (after ds) → GrowsBy key.carries me.0 (after ds) → MeetsBeside key me (after ds, me.1) = λ ds known grown. (subst (λ (c : List (ℕ × ℕ)). Met key (knows me.0.plain) (knows_second me.0.plain) (q.0, c)) (none_moved q.1 q.2).0 q.4.0, refl, refl, known, grown) in
+      let told : (ds : List (Deed T)) → KnowsNow key (after ds) → GrowsBy key.carries me.0 (after ds) → MeetsBeside key me (after ds, me.1) =
+      λ ds known grown. (
+        subst (λ (c : List (ℕ × ℕ)). Met key (knows me.0.plain) (knows_second me.0.plain) (q.0, c)) (none_moved q.1 q.2).0 q.4.0,
+        refl,
+        refl,
+        known,
+        grown,
+      ) in
       let Out : Type 0 = (w' : Beside T) × (a : Act (Option T)) × Valid s.homes me.1 a × HoldsFor key (stepped s 0 (get_or s.words 0 0) id me.1 w' a) × MeetsBeside key me (w', carried_after me.1 a) in
       let plainly : key.carries ≡ false → Out = λ e. (
         after me.0.deeds,
         keeps,
         tt,
-        record { base = (base me.0.deeds).0; values = subst (λ (b : Bool). CarriedBy b key (base me.0.deeds).0.trace.history (stepped s 0 (get_or s.words 0 0) id me.1 (after me.0.deeds) keeps)) (sym e) tt },
+        record {
+          base = (base me.0.deeds).0;
+          values = subst (λ (b : Bool). CarriedBy b key (base me.0.deeds).0.trace.history
+              (stepped s 0 (get_or s.words 0 0) id me.1 (after me.0.deeds) keeps)) (sym e) tt;
+        },
         told me.0.deeds (subst (λ (b : Bool). KnowsBy b key (knows q.0).seen (after me.0.deeds)) (sym e) tt) (subst (λ (b : Bool). GrowsBy b me.0 (after me.0.deeds)) (sym e) refl),
       ) in
       let carrying : key.carries ≡ true → Out = λ e.
@@ -260,13 +298,17 @@ module _ {T : Type 0} (key : Layout) (id : ℕ) (me : Me (Option T) (Beside T)) 
           base = (base ds).0;
           values = subst (λ (b : Bool). CarriedBy b key (base ds).0.trace.history (stepped s 0 (get_or s.words 0 0) id me.1 (after ds) keeps)) (sym e)
               (subst (λ (x : List Entry). Carried key x (record { words = words; homes = s.homes; views = set s.views id (after ds) })) (sym (base ds).1)
-              (recarried key es s words (set s.views id (after ds)) c (λ i. ap (λ (ws : List ℕ). get_or ws (m + i) 0) (sym (set-get_or s.words 0 0))) (λ j. hand_set s.views id me.0 (after ds) mine refl j)
-              (λ j o got. ⊎_elim (λ (k : (j ≡ id) × (after ds ≡ o)). subst (Begins ds) k.1 new) (λ (k : (j ≢ id) × (get_elem? s.views j ≡ some o)). c.known j o k.1) (at_set s.views id j (after ds) o got))
+              (recarried key es s words (set s.views id (after ds)) c (λ i. ap (λ (ws : List ℕ). get_or ws (m + i) 0) (sym (set-get_or s.words 0 0)))
+              (λ j. hand_set s.views id me.0 (after ds) mine refl j)
+              (λ j o got. ⊎_elim (λ (k : (j ≡ id) × (after ds ≡ o)). subst (Begins ds) k.1 new)
+              (λ (k : (j ≢ id) × (get_elem? s.views j ≡ some o)). c.known j o k.1) (at_set s.views id j (after ds) o got))
               (length-set s.words 0 (get_or s.words 0 0))));
         },
         told ds
             (subst (λ (b : Bool). KnowsBy b key (knows q.0).seen (after ds)) (sym e)
-            (knows_values key (knows q.0).seen (after ds) ds [] (map item_of c.rides.q) c.rides.shut (sym (append-nil ds)) c.rides.runs (subst (λ (x : List Entry). Matches x ds) (sym q.4.1 ∙ ap (λ (x : View). (knows x).seen) (sym (ap (λ (y : Me ℕ View). y.0) q.4.0.seats))) c.rides.matches)
+            (knows_values key (knows q.0).seen (after ds) ds [] (map item_of c.rides.q) c.rides.shut (sym (append-nil ds)) c.rides.runs
+            (subst (λ (x : List Entry). Matches x ds) (sym q.4.1 ∙ ap (λ (x : View). (knows x).seen)
+            (sym (ap (λ (y : Me ℕ View). y.0) q.4.0.seats))) c.rides.matches)
             (λ i k. (c.rides.slotted.out id i (ap hand_in mine ∙ k)).0)))
             (subst (λ (b : Bool). GrowsBy b me.0 (after ds)) (sym e) (let f = c.known id me.0 mine in ((f.rest, f.begins), f.others))),
       ) in
@@ -281,10 +323,26 @@ module _ {T : Type 0} (key : Layout) (id : ℕ) (me : Me (Option T) (Beside T)) 
 
   pub parts_at : me.0.plain ≡ paired v w → v.seen ≡ w.seen → me.0.hand ≡ none → Splits {S = Option T} (HoldsFor key) id me.0 (first_beside_of me.0) (second_beside_of me.0)
   parts_at is met none_out =
-      lift_splits key id me.0 (first_beside_of me.0) (second_beside_of me.0) (λ es. subst (λ (y : View). Splits {S = ℕ} (HoldsWith key es) id y (first_of y) (second_of y)) (sym is) (parts key es id v w)) refl refl
+      lift_splits key id me.0 (first_beside_of me.0) (second_beside_of me.0) (λ es. subst
+      (λ (y : View). Splits {S = ℕ} (HoldsWith key es) id y (first_of y) (second_of y)) (sym is) (parts key es id v w)) refl refl
       (λ ds b. (
-        record { rest = b.rest; begins = b.begins; matches = λ o e. subst (λ (k : SeatView). Matches k.seen me.0.deeds) (ap knows (ap first_of (sym is) ∙ e)) (b.pair v w is met); pair = λ o u e y. absurd (one_not_two v o u (ap first_of (sym is) ∙ e)); others = b.others },
-        record { rest = b.rest; begins = b.begins; matches = λ o e. subst (λ (k : SeatView). Matches k.seen me.0.deeds) (ap knows (ap second_of (sym is) ∙ e)) (subst (λ (x : List Entry). Matches x me.0.deeds) met (b.pair v w is met)); pair = λ o u e y. absurd (one_not_two w o u (ap second_of (sym is) ∙ e)); others = tt },
+        record {
+          rest = b.rest;
+          begins = b.begins;
+          matches = λ o e. subst (λ (k : SeatView). Matches k.seen me.0.deeds)
+              (ap knows (ap first_of (sym is) ∙ e)) (b.pair v w is met);
+          pair = λ o u e y. absurd (one_not_two v o u (ap first_of (sym is) ∙ e));
+          others = b.others;
+        },
+        record {
+          rest = b.rest;
+          begins = b.begins;
+          matches = λ o e. subst (λ (k : SeatView). Matches k.seen me.0.deeds)
+              (ap knows (ap second_of (sym is) ∙ e)) (subst (λ (x : List Entry). Matches x me.0.deeds) met (b.pair v w is met));
+          pair =
+              λ o u e y. absurd (one_not_two w o u (ap second_of (sym is) ∙ e));
+          others = tt;
+        },
       ))
 
 -- the token that two others joined into
@@ -296,7 +354,9 @@ pub met_there : (z : Layout) (j : View) (m : Me ℕ View) (v w : SeatView) → j
 met_there z j m v w is h = subst (λ (y : View). Met z (knows y) (knows_second y) m) is h
 
 -- a seat with another token of its own, which knows the same but for what it has seen
-pub sits_so : {T : Type 0} (r : Arena) (s : Seat T) (t : Token (Option T) (Beside T)) (v : SeatView) → IsReady r s → t.table_id ≡ r.id → t.me.0.plain ≡ seated v → (r.plan.carries ≡ false → HasNone t.me) → ∥ KnowsNow r.plan t.me.0 ∥₁ → v.number ≡ (view s).number → v.actor ≡ (view s).actor → v.mine ≡ (view s).mine → Fitted r.plan v → IsReady r (record s { token = t })
+pub sits_so : {T : Type 0} (r : Arena) (s : Seat T) (t : Token (Option T) (Beside T)) (v : SeatView) → IsReady r s → t.table_id ≡ r.id
+    → t.me.0.plain ≡ seated v → (r.plan.carries ≡ false → HasNone t.me) → ∥ KnowsNow r.plan t.me.0 ∥₁ → v.number ≡ (view s).number
+    → v.actor ≡ (view s).actor → v.mine ≡ (view s).mine → Fitted r.plan v → IsReady r (record s { token = t })
 sits_so r s t v i here me none_out valued number actor mine fitted =
     let is : knows t.me.0.plain ≡ v = ap knows me in
     record {
@@ -320,15 +380,23 @@ sits_so r s t v i here me none_out valued number actor mine fitted =
     }
 
 -- the seats after they met
-pub meeting : {T : Type 0} (r : Arena) (s o : Seat T) (k a b : Token (Option T) (Beside T)) → IsReady r s → IsReady r o → Met r.plan (view s) (view o) (plain_me k.me) → HasNone k.me → KnowsNow r.plan k.me.0 → GrowsBy r.plan.carries (both_beside s.token.me.0 o.token.me.0) k.me.0 → a.me ≡ (first_beside_of k.me.0, k.me.1) → b.me ≡ (second_beside_of k.me.0, []) → a.table_id ≡ r.id → b.table_id ≡ r.id
+pub meeting : {T : Type 0} (r : Arena) (s o : Seat T) (k a b : Token (Option T) (Beside T)) → IsReady r s → IsReady r o
+    → Met r.plan (view s) (view o) (plain_me k.me) → HasNone k.me → KnowsNow r.plan k.me.0
+    → GrowsBy r.plan.carries (both_beside s.token.me.0 o.token.me.0) k.me.0 → a.me ≡ (first_beside_of k.me.0, k.me.1)
+    → b.me ≡ (second_beside_of k.me.0, []) → a.table_id ≡ r.id → b.table_id ≡ r.id
     → Meets r s o (record s { token = a }) (record o { token = b })
 meeting r s o k a b i j h none_out valued grown left right here there =
     let parted = knows_parted r.plan k.me.0 (record (view s) { seen = h.all }) (record (view o) { seen = h.all }) (ap (λ (y : Me ℕ View). y.0) h.seats) refl valued in
     let one : a.me.0.plain ≡ seated (record (view s) { seen = h.all }) = ap (λ y. y.0.plain) left ∙ ap (λ (y : Me ℕ View). first_of y.0) h.seats in
     let two : b.me.0.plain ≡ seated (record (view o) { seen = h.all }) = ap (λ y. y.0.plain) right ∙ ap (λ (y : Me ℕ View). second_of y.0) h.seats in
     record {
-      one = sits_so r s a (record (view s) { seen = h.all }) i here one (λ c. (ap (λ y. length y.1) left ∙ none_out.0, ap (λ y. slots_in y.0.hand) left ∙ none_out.1)) ∣ subst (λ (y : Beside _). KnowsNow r.plan y) (ap (λ y. y.0) (sym left)) parted.0 ∣₁ refl refl refl h.first_fits;
-      other = sits_so r o b (record (view o) { seen = h.all }) j there two (λ c. (ap (λ y. length y.1) right, ap (λ y. slots_in y.0.hand) right)) ∣ subst (λ (y : Beside _). KnowsNow r.plan y) (ap (λ y. y.0) (sym right)) parted.1 ∣₁ refl refl refl h.second_fits;
+      one = sits_so r s a (record (view s) { seen = h.all }) i here one (λ c. (
+        ap (λ y. length y.1) left ∙ none_out.0,
+        ap (λ y. slots_in y.0.hand) left ∙ none_out.1,
+      )) ∣ subst (λ (y : Beside _). KnowsNow r.plan y) (ap (λ y. y.0) (sym left)) parted.0 ∣₁ refl
+          refl refl h.first_fits;
+      other = sits_so r o b (record (view o) { seen = h.all }) j there two (λ c. (ap (λ y. length y.1) right, ap (λ y. slots_in y.0.hand) right)) ∣
+          subst (λ (y : Beside _). KnowsNow r.plan y) (ap (λ y. y.0) (sym right)) parted.1 ∣₁ refl refl refl h.second_fits;
       all = h.all;
       first = record { stored = record { number = refl; role = refl; keeps = refl; pocket = refl; failed = refl }; knows = ap knows one; more = h.first_rest; begins = h.first };
       second = record { stored = record { number = refl; role = refl; keeps = refl; pocket = refl; failed = refl }; knows = ap knows two; more = h.second_rest; begins = h.second };

@@ -63,14 +63,32 @@ module _ {T : Type 0} (r : Arena) (s t : Seat T) (prologue : Prologue) (l : Line
   -- a pop took the slot of its value's number, with the value that was pushed
   pub moved_pop : (me : ℕ) (v : Taken) → (view t).mine ≡ (view s).mine ++ Pop me v ∷ [] → HasNoSlot s → (x : T) × HasSlot r t v.body (Some x) × AddsOwn s t (popped (view s).number (item v.from x))
   moved_pop me v is none_out =
-      let e = effect (Pop me v ∷ []) is in
-      (e.0, record { carries = carries; there = hand_there r t v.body did.seat carries e.2; out = e.1 ∙ ap (λ held. (v.body, Some e.0) ∷ held) (none_held s.token.me.1 none_out.0); hand = e.2 }, record { between = e.3.0; deeds = e.3.1 })
+      let e = effect (Pop me v ∷ []) is in (
+        e.0,
+        record {
+          carries = carries;
+          there = hand_there r t v.body did.seat carries e.2;
+          out = e.1 ∙ ap (λ held. (v.body, Some e.0) ∷ held)
+              (none_held s.token.me.1 none_out.0);
+          hand = e.2;
+        },
+        record { between = e.3.0; deeds = e.3.1 },
+      )
 
   -- a shut moved no slot
   pub moved_shut : (me : ℕ) → (view t).mine ≡ (view s).mine ++ Shut me ∷ [] → KeepsSlots s t × AddsOwn s t (closed (view s).number)
   moved_shut me is =
       let e = effect (Shut me ∷ []) is in (
-        record { same = e.0; hand = e.1; number = did.told.number; more = record { between = e.2.0 ++ closed (view s).number ∷ []; deeds = e.2.1 ∙ append_assoc (deeds_of s) e.2.0 (closed (view s).number ∷ []) } },
+        record {
+          same = e.0;
+          hand = e.1;
+          number = did.told.number;
+          more = record {
+            between = e.2.0 ++ closed (view s).number ∷ [];
+            deeds =
+                e.2.1 ∙ append_assoc (deeds_of s) e.2.0 (closed (view s).number ∷ []);
+          };
+        },
         record { between = e.2.0; deeds = e.2.1 },
       )
 
@@ -80,27 +98,33 @@ module _ {T : Type 0} (r : Arena) (s t : Seat T) (prologue : Prologue) where
   led = after_prologue r.plan.setup (view s).number prologue (view s).actor
 
   -- one that is won at E9 is a push
-  pub won_push : (p old new n : ℕ) → led.line ≡ Some E9 → word_step r.plan.setup.bits (action r.plan.setup (view s).number led E9) ≡ exchange_at p old new → DidStep r s t prologue E9 n → n ≡ old → (view t).mine ≡ (view s).mine ++ Push (view s).number led.val.body ∷ []
+  pub won_push : (p old new n : ℕ) → led.line ≡ Some E9 → word_step r.plan.setup.bits (action r.plan.setup (view s).number led E9) ≡ exchange_at p old
+      new → DidStep r s t prologue E9 n → n ≡ old → (view t).mine ≡ (view s).mine ++ Push (view s).number led.val.body ∷ []
   won_push p old new n line access did won =
       let told = did.told in
       told.mine ∙ ap (λ es. (view s).mine ++ es)
-      (subst (λ z. word_step z.bits (action z (view s).number led E9) ≡ exchange_at p old new → number_at z told.was (view s).number led E9 ≡ old → entries_at z told.was (view s).number led E9 ≡ Push (view s).number led.val.body ∷ []) told.setup
+      (subst (λ z. word_step z.bits (action z (view s).number led E9) ≡ exchange_at p old new → number_at z told.was (view s).number led E9 ≡ old
+      → entries_at z told.was (view s).number led E9 ≡ Push (view s).number led.val.body ∷ []) told.setup
       (wins_push told.was (view s).number led p old new told.reached told.before line) access (sym told.found ∙ won))
 
   -- one that is won at D13 is a pop
-  pub won_pop : (p old new n : ℕ) → led.line ≡ Some D13 → word_step r.plan.setup.bits (action r.plan.setup (view s).number led D13) ≡ exchange_at p old new → DidStep r s t prologue D13 n → n ≡ old → (view t).mine ≡ (view s).mine ++ Pop (view s).number led.val ∷ []
+  pub won_pop : (p old new n : ℕ) → led.line ≡ Some D13 → word_step r.plan.setup.bits (action r.plan.setup (view s).number led D13) ≡ exchange_at p
+      old new → DidStep r s t prologue D13 n → n ≡ old → (view t).mine ≡ (view s).mine ++ Pop (view s).number led.val ∷ []
   won_pop p old new n line access did won =
       let told = did.told in
       told.mine ∙ ap (λ es. (view s).mine ++ es)
-      (subst (λ z. word_step z.bits (action z (view s).number led D13) ≡ exchange_at p old new → number_at z told.was (view s).number led D13 ≡ old → entries_at z told.was (view s).number led D13 ≡ Pop (view s).number led.val ∷ []) told.setup
+      (subst (λ z. word_step z.bits (action z (view s).number led D13) ≡ exchange_at p old new → number_at z told.was (view s).number led D13 ≡ old
+      → entries_at z told.was (view s).number led D13 ≡ Pop (view s).number led.val ∷ []) told.setup
       (wins_pop told.was (view s).number led p old new told.reached told.before line) access (sym told.found ∙ won))
 
   -- one that is lost adds nothing
-  pub lost_adds : (l : Line) (p old new n : ℕ) → led.line ≡ Some l → word_step r.plan.setup.bits (action r.plan.setup (view s).number led l) ≡ exchange_at p old new → DidStep r s t prologue l n → n ≢ old → (view t).mine ≡ (view s).mine ++ []
+  pub lost_adds : (l : Line) (p old new n : ℕ) → led.line ≡ Some l → word_step r.plan.setup.bits (action r.plan.setup (view s).number led l) ≡
+      exchange_at p old new → DidStep r s t prologue l n → n ≢ old → (view t).mine ≡ (view s).mine ++ []
   lost_adds l p old new n line access did lost =
       let told = did.told in
       told.mine ∙ ap (λ es. (view s).mine ++ es)
-      (subst (λ z. word_step z.bits (action z (view s).number led l) ≡ exchange_at p old new → number_at z told.was (view s).number led l ≢ old → entries_at z told.was (view s).number led l ≡ []) told.setup
+      (subst (λ z. word_step z.bits (action z (view s).number led l) ≡ exchange_at p old new → number_at z told.was (view s).number led l ≢ old
+      → entries_at z told.was (view s).number led l ≡ []) told.setup
       (loses_nothing told.was (view s).number led p old new told.reached told.before l line) access (λ e. lost (told.found ∙ e)))
 
 -- a slot with a value in it is loaded for a line that pushes its number

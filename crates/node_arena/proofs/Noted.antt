@@ -24,7 +24,8 @@ module _ (t : Traced) (r : IsTraced t) where
   -- where what follows Head's node is null, the history leaves the empty queue
   pub leaves_nothing : (node_at t.world.shared t.world.shared.head.node).next.node ≡ 0 → Plays empty t.history empty
   leaves_nothing none =
-      subst (Plays empty t.history) (empty_behind t.world.setup.bits t.world.shared p.front p.rest (few_nodes t.world (traced_reached t r)) chain (ap (next_in t.world.shared.nodes) (sym chain.0) ∙ none))
+      subst (Plays empty t.history) (empty_behind t.world.setup.bits t.world.shared p.front p.rest (few_nodes t.world (traced_reached t r)) chain
+      (ap (next_in t.world.shared.nodes) (sym chain.0) ∙ none))
       (history_plays t r (p.front ∷ p.rest) chain)
 
   -- where it is a closed end, the history leaves it empty and shut

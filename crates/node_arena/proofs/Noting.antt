@@ -85,14 +85,16 @@ open_silent true x y e h = absurd (let f : true ≡ false = e in cc)
 open_silent false x y e h = h
 
 pub silent : (s : Setup) (now me : ℕ) (a : Actor) (l : Line) (c : Found (action s me a l)) → AnswersSilently s.bits a l → Silent (outcome s now me a l c)
-silent s now me a N2 c h = both (is_null c) _ _ (both (nat_lt a.f s.size) _ _ record { reply = tt } record { reply = tt }) (both (nat_eq c.count s.limit) _ _ record { reply = tt } record { reply = tt })
+silent s now me a N2 c h = both (is_null c) _ _ (both (nat_lt a.f s.size) _ _ record { reply = tt } record { reply = tt })
+    (both (nat_eq c.count s.limit) _ _ record { reply = tt } record { reply = tt })
 silent s now me a N4 c h = both (same_ref c a.top) _ _ record { reply = tt } record { reply = tt }
 silent s now me a N5 c h = both (nat_eq c a.f) _ _ record { reply = tt } record { reply = tt }
 silent s now me a F1 c h = both (nat_eq c.count s.limit) _ _ (aside_silent s.kind now a.due (record a { top = c }) h) record { reply = tt }
 silent s now me a F3 c h = both (same_ref c a.top) _ _ (freed_silent s.kind now a.due (empties_hand a) h) record { reply = tt }
 silent s now me a E3 c h = both (nat_eq c.count s.limit) _ _ record { reply = tt } record { reply = tt }
 silent s now me a E7 c h =
-    both (same_ref c a.tail) _ _ (both (is_null a.next) _ _ record { reply = tt } (open_silent (is_shut s.bits a.next) _ _ h (both (nat_eq a.tail.count s.limit) _ _ record { reply = tt } record { reply = tt })))
+    both (same_ref c a.tail) _ _ (both (is_null a.next) _ _ record { reply = tt }
+    (open_silent (is_shut s.bits a.next) _ _ h (both (nat_eq a.tail.count s.limit) _ _ record { reply = tt } record { reply = tt })))
     record { reply = tt }
 silent s now me a E9 c h = won (same_ref c a.next)
   where
@@ -100,7 +102,8 @@ silent s now me a E9 c h = won (same_ref c a.next)
     linked true = record { reply = tt }
     linked false = record { reply = tt }
 
-    won : (b : Bool) → Silent (if b then effect now (if nat_eq a.tail.count s.limit then ends now Done (empties_hand (record a { due = Some Done })) else goes E17 (empties_hand (record a { due = Some Done }))) else goes E5 a)
+    won : (b : Bool) → Silent (if b then effect now (if nat_eq a.tail.count s.limit then ends now Done (empties_hand (record a { due = Some Done }))
+        else goes E17 (empties_hand (record a { due = Some Done }))) else goes E5 a)
     won true = linked (nat_eq a.tail.count s.limit)
     won false = record { reply = tt }
 silent s now me a D5 c h = absurd h
@@ -114,7 +117,8 @@ silent s now me a B6 c h = unlocked_silent now a.due a h
 silent s now me a A5 c h = both (same_ref c null) _ _ record { reply = tt } record { reply = tt }
 silent s now me a A7 c h = left_with_node_silent now a.due a h
 silent s now me a S3 c h =
-    both (same_ref c a.tail) _ _ (both (is_null a.next) _ _ record { reply = tt } (open_silent (is_shut s.bits a.next) _ _ h (both (nat_eq a.tail.count s.limit) _ _ record { reply = tt } record { reply = tt })))
+    both (same_ref c a.tail) _ _ (both (is_null a.next) _ _ record { reply = tt }
+    (open_silent (is_shut s.bits a.next) _ _ h (both (nat_eq a.tail.count s.limit) _ _ record { reply = tt } record { reply = tt })))
     record { reply = tt }
 silent s now me a S4 c h = both (same_ref c a.next) _ _ record { reply = tt } record { reply = tt }
 silent s now me a S6 c h = both (nat_eq c 0) _ _ record { reply = tt } record { reply = tt }

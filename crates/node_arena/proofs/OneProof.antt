@@ -42,7 +42,15 @@ TableId-set = Coded-set table_id_coded
 
 -- what a seat knows is of a set, as views are
 SeatView-set : IsSet SeatView
-SeatView-set = hlevel (props, Line-set, Held-set, Coded-set {A = Entry} entry.the_row.coded, Coded-set {A = Op} op.the_row.coded, Coded-set {A = Reply} reply.the_row.coded, Coded-set {A = Taken} taken.the_row.coded)
+SeatView-set = hlevel (
+  props,
+  Line-set,
+  Held-set,
+  Coded-set {A = Entry} entry.the_row.coded,
+  Coded-set {A = Op} op.the_row.coded,
+  Coded-set {A = Reply} reply.the_row.coded,
+  Coded-set {A = Taken} taken.the_row.coded,
+)
 
 View-set : IsSet View
 View-set = hlevel (props, SeatView-set)

@@ -111,7 +111,8 @@ nothing_added : (xs es : List Entry) → xs ++ es ≡ xs → es ≡ []
 nothing_added xs [] e = refl
 nothing_added xs (y ∷ ys) e = let long = ap length e in absurd (omega (arith, long, length-append xs (y ∷ ys)))
 
-pub quiet_slots : {T : Type 0} (r : Arena) (s t : Seat T) (prologue : Prologue) (l : Line) (n : ℕ) (d : DidStep r s t prologue l n) → entries_at r.plan.setup d.told.was (view s).number (after_prologue r.plan.setup (view s).number prologue (view s).actor) l ≡ [] → KeepsSlots s t
+pub quiet_slots : {T : Type 0} (r : Arena) (s t : Seat T) (prologue : Prologue) (l : Line) (n : ℕ) (d : DidStep r s t prologue l n)
+    → entries_at r.plan.setup d.told.was (view s).number (after_prologue r.plan.setup (view s).number prologue (view s).actor) l ≡ [] → KeepsSlots s t
 quiet_slots {T} r s t prologue l n d none =
     let same : (view s).mine ++ d.moves.0 ≡ (view s).mine = sym d.moves.1 ∙ (d.told.mine ∙ (ap (λ es. (view s).mine ++ es) none ∙ append-nil (view s).mine)) in
     go r.plan.carries (subst (λ (es : List Entry). EffectBy r.plan.carries (view s).number es s.token.me t.token.me) (nothing_added (view s).mine d.moves.0 same) d.moves.2)
@@ -155,12 +156,14 @@ ended_behind r s t es fs P w h =
       held = h.held;
     }
 
-pub stopped_behind : {T : Type 0} (r : Arena) (s t : Seat T) (es fs : List Event) (refusal : Refusal) → ExtendsPath (view s) (view t) es → EndedAt r t fs (IsRefusedAt r.plan.setup (view t).number refusal) → EndedAt r s (es ++ fs) (IsRefusedAt r.plan.setup (view s).number refusal)
+pub stopped_behind : {T : Type 0} (r : Arena) (s t : Seat T) (es fs : List Event) (refusal : Refusal) → ExtendsPath (view s) (view t) es
+    → EndedAt r t fs (IsRefusedAt r.plan.setup (view t).number refusal) → EndedAt r s (es ++ fs) (IsRefusedAt r.plan.setup (view s).number refusal)
 stopped_behind r s t es fs refusal w h =
     ended_behind r s t es fs (IsRefusedAt r.plan.setup (view s).number refusal) w (subst (λ me. EndedAt r t fs (IsRefusedAt r.plan.setup me refusal)) w.number h)
 
 -- a cause that a call met behind other lines
-pub met_behind : {T : Type 0} (r : Arena) (s t u : Seat T) (es : List Event) (refusal : Refusal) → ExtendsPath (view s) (view t) es → added s u ≡ es ++ added t u → MetCause r t u refusal → MetCause r s u refusal
+pub met_behind : {T : Type 0} (r : Arena) (s t u : Seat T) (es : List Event) (refusal : Refusal) → ExtendsPath (view s) (view t) es
+    → added s u ≡ es ++ added t u → MetCause r t u refusal → MetCause r s u refusal
 met_behind r s t u es refusal w e h = last_held r s u (es ++ added t u) (IsRefusedAt r.plan.setup (view s).number refusal) e (stopped_behind r s t es (added t u) refusal w h)
 
 pub failed_behind : (es fs : List Event) → FailedAt fs → FailedAt (es ++ fs)
@@ -171,7 +174,23 @@ failed-append es fs = sum_by-append (λ e. failed_at e.line e.to) es fs
 
 -- a seat that keeps another pocket is still the arena's
 pub kept_seat : {T : Type 0} (r : Arena) (t : Seat T) (p : Option Held) (n : ℕ) → IsSeat r t → IsSeat r (keeping t p n)
-kept_seat r t p n h = record { arena = h.arena; sits = record { table = h.sits.table; seat = h.sits.seat; none_out = h.sits.none_out; number = h.sits.number; role = h.sits.role; pushes = h.sits.pushes; pops = h.sits.pops; shut = h.sits.shut; fitted = h.sits.fitted; valued = h.sits.valued } }
+kept_seat r t p n h = record {
+  arena = h.arena;
+  sits = record {
+    table = h.sits.table;
+    seat = h.sits.seat;
+    none_out = h.sits.none_out;
+    number =
+        h.sits.number;
+    role = h.sits.role;
+    pushes = h.sits.pushes;
+    pops = h.sits.pops;
+    shut = h.sits.shut;
+    fitted = h.sits.fitted;
+    valued =
+        h.sits.valued;
+  };
+}
 
 pub now_kept : {T : Type 0} (r : Arena) (t : Seat T) (p : Option Held) (n : ℕ) (P : World → Type 0) → NowHolds r t P → NowHolds r (keeping t p n) P
 now_kept r t p n P h = record { now = h.now; reached = h.reached; setup = h.setup; peopled = h.peopled; actor = h.actor; path = h.path; holds = h.holds }
@@ -202,7 +221,8 @@ module _ {T : Type 0} (r : Arena) (s t : Seat T) (prologue : Prologue) (l : Line
   goes_on o e k line = record { seat = d.seat; can = tt; line = settled o e (λ a. a.line ≡ Some k) (λ x. line) }
 
   -- it added no entry and noted nothing
-  pub walk_one : entries_at r.plan.setup d.told.was (view s).number b l ≡ [] → notes_of (outcome_at r.plan.setup d.told.was (view s).number b l).reply (view t).seen ≡ [] → ExtendsPath (view s) (view t) (event ∷ [])
+  pub walk_one : entries_at r.plan.setup d.told.was (view s).number b l ≡ [] → notes_of (outcome_at r.plan.setup d.told.was (view s).number b l).reply
+      (view t).seen ≡ [] → ExtendsPath (view s) (view t) (event ∷ [])
   walk_one none quiet =
       record {
         number = d.told.number;
@@ -219,14 +239,16 @@ module _ {T : Type 0} (r : Arena) (s t : Seat T) (prologue : Prologue) (l : Line
 
   -- and at a line where the call doesn't answer so
   pub walk_on : entries_at r.plan.setup d.told.was (view s).number b l ≡ [] → AnswersSilently r.plan.setup.bits b l → ExtendsPath (view s) (view t) (event ∷ [])
-  walk_on none other = walk_one none (notes_nothing r.plan.setup (d.told.was.world.steps + 1) (view s).number b l (found (action r.plan.setup (view s).number b l) d.told.was.world.shared) (view t).seen other)
+  walk_on none other = walk_one none (notes_nothing r.plan.setup (d.told.was.world.steps + 1) (view s).number b l
+      (found (action r.plan.setup (view s).number b l) d.told.was.world.shared) (view t).seen other)
 
   -- and where the seat sees nothing
   pub pass_on : entries_at r.plan.setup d.told.was (view s).number b l ≡ [] → AnswersSilently r.plan.setup.bits b l → sees l ≡ false → Passes (view s) (view t) (event ∷ [])
   pass_on none other blind = record { walks = walk_on none other; same = d.told.stays blind }
 
   -- it noted that the queue was found shut
-  pub shut_on : entries_at r.plan.setup d.told.was (view s).number b l ≡ [] → (outcome_at r.plan.setup d.told.was (view s).number b l).reply ≡ Some (Refused Closed) → FindsShut (view s) (view t) (event ∷ [])
+  pub shut_on : entries_at r.plan.setup d.told.was (view s).number b l ≡ [] → (outcome_at r.plan.setup d.told.was (view s).number b l).reply ≡ Some
+      (Refused Closed) → FindsShut (view s) (view t) (event ∷ [])
   shut_on none closed =
       record {
         path = d.told.path;
@@ -241,7 +263,9 @@ module _ {T : Type 0} (r : Arena) (s t : Seat T) (prologue : Prologue) (l : Line
       }
 
   -- or shut and empty, at a line that says so
-  pub shut_empty_on : entries_at r.plan.setup d.told.was (view s).number b l ≡ [] → (outcome_at r.plan.setup d.told.was (view s).number b l).reply ≡ Some (Refused Closed) → (FoundClosedAt l (view t).seen → Leads (view t).seen true []) → FindsShutEmpty (view s) (view t) (event ∷ [])
+  pub shut_empty_on : entries_at r.plan.setup d.told.was (view s).number b l ≡ []
+      → (outcome_at r.plan.setup d.told.was (view s).number b l).reply ≡ Some (Refused Closed)
+      → (FoundClosedAt l (view t).seen → Leads (view t).seen true []) → FindsShutEmpty (view s) (view t) (event ∷ [])
   shut_empty_on none closed empty =
       record {
         path = d.told.path;
@@ -265,7 +289,8 @@ module _ {T : Type 0} (r : Arena) (s t : Seat T) (prologue : Prologue) (l : Line
           between = d.told.rest;
           seen = d.told.seen ∙ ap (λ es. ((view s).seen ++ d.told.rest) ++ es) one;
           mine = d.told.mine ∙ ap (λ es. (view s).mine ++ es) one;
-          notes = d.told.notes ∙ ap (λ ks. (view s).notes ++ ks) (notes_nothing r.plan.setup (d.told.was.world.steps + 1) (view s).number b l (found (action r.plan.setup (view s).number b l) d.told.was.world.shared) (view t).seen other) ∙ append-nil (view s).notes;
+          notes = d.told.notes ∙ ap (λ ks. (view s).notes ++ ks) (notes_nothing r.plan.setup (d.told.was.world.steps + 1) (view s).number b l
+              (found (action r.plan.setup (view s).number b l) d.told.was.world.shared) (view t).seen other) ∙ append-nil (view s).notes;
         };
       }
 
@@ -292,7 +317,9 @@ module _ {T : Type 0} (r : Arena) (s t : Seat T) (prologue : Prologue) (l : Line
       }
 
   -- it was refused
-  pub stopped_at : (o : Seat T) (before : List Event) (refusal : Refusal) → ExtendsPath (view o) (view s) before → (outcome_at r.plan.setup d.told.was (view s).number b l).reply ≡ Some (Refused refusal) → EndedAt r o (before ++ event ∷ []) (IsRefusedAt r.plan.setup (view o).number refusal)
+  pub stopped_at : (o : Seat T) (before : List Event) (refusal : Refusal) → ExtendsPath (view o) (view s) before
+      → (outcome_at r.plan.setup d.told.was (view s).number b l).reply ≡ Some (Refused refusal)
+      → EndedAt r o (before ++ event ∷ []) (IsRefusedAt r.plan.setup (view o).number refusal)
   stopped_at o before refusal w e =
       ended_at o before (IsRefusedAt r.plan.setup (view o).number refusal) w
       (subst (λ me. IsRefusedAt r.plan.setup me refusal d.told.was b l) w.number (e, has_own_cause r.plan prologue l n (view s) (view t) d.told refusal e))

@@ -21,7 +21,8 @@ abbrev index_at : ℕ → ℕ
 index_at p = if nat_lt p 42 then get_or (0 ∷ 1 ∷ replicate 14 0 ++ 2 ∷ 5 ∷ replicate 14 0 ++ 3 ∷ 4 ∷ []) p 0 else p - 42
 
 later : (i : ℕ) → index_at (i + 42) ≡ i
-later i = ap (λ b. if b then get_or (0 ∷ 1 ∷ replicate 14 0 ++ 2 ∷ 5 ∷ replicate 14 0 ++ 3 ∷ 4 ∷ []) (i + 42) 0 else i + 42 - 42) (le-ltb (i + 42) 42 (omega arith)) ∙ (let h : i + 42 - 42 ≡ i = omega arith in h)
+later i = ap (λ b. if b then get_or (0 ∷ 1 ∷ replicate 14 0 ++ 2 ∷ 5 ∷ replicate 14 0 ++ 3 ∷ 4 ∷ []) (i + 42) 0 else i + 42 - 42)
+    (le-ltb (i + 42) 42 (omega arith)) ∙ (let h : i + 42 - 42 ≡ i = omega arith in h)
 
 index_at-place : (i : ℕ) → index_at (place i) ≡ i
 index_at-place zero = refl
@@ -45,7 +46,8 @@ get_or-shared_words table i h = get_or-map-range_with_len (λ j. get_or table (p
 
 -- and written there, which leaves the others as they are
 pub shared_words-set : (table : List ℕ) (i v : ℕ) → i < length table - 42 → shared_words (set table (place i) v) ≡ set (shared_words table) i v
-shared_words-set table i v there = ext_get_or 0 (shared_words after) (set (shared_words table) i v) (now ∙ sym (length-set (shared_words table) i v ∙ length-shared_words table)) (λ j h. at j (nat_eq j i) refl (omega (arith, h, now)))
+shared_words-set table i v there = ext_get_or 0 (shared_words after) (set (shared_words table) i v)
+    (now ∙ sym (length-set (shared_words table) i v ∙ length-shared_words table)) (λ j h. at j (nat_eq j i) refl (omega (arith, h, now)))
   where
     after : List ℕ
     after = set table (place i) v

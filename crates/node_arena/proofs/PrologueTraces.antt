@@ -4,7 +4,9 @@ use Rattle.std.proofs.Math.ListN.{length-set}
 use Rattle.std.proofs.lemmas.Option.{none-some}
 use Rattle.line_table.specs.declared.lines.Kind.{Kind}
 use Rattle.line_table.specs.declared.lines.Line.{Line}
-use Rattle.line_table.specs.declared.lines.Line.TheVariants.{N1, N2, N3, N4, N5, F1, F2, F3, E2, E3, E5, E6, E7, E9, E13, E17, D2, D3, D4, D5, D10, D12, D13, A1, A2, A3, A4, A5, A6, A7, B1, B2, B3, B4, B5, B6, S1, S2, S3, S4, S5, S6, S7, S8, S9}
+use Rattle.line_table.specs.declared.lines.Line.TheVariants.{N1, N2, N3, N4, N5, F1, F2, F3, E2, E3, E5, E6, E7, E9, E13, E17, D2, D3, D4, D5, D10}
+use Rattle.line_table.specs.declared.lines.Line.TheVariants.{D12, D13, A1, A2, A3, A4, A5, A6, A7, B1, B2, B3, B4, B5, B6, S1, S2, S3, S4, S5, S6, S7}
+use Rattle.line_table.specs.declared.lines.Line.TheVariants.{S8, S9}
 use Rattle.history.specs.declared.refusals.Refusal.TheVariants.{Busy as IsBusy}
 use Rattle.history.specs.declared.operations.Op.{Op}
 use Rattle.history.specs.declared.operations.Op.TheVariants.{Enq, Deq, Shut}
@@ -96,7 +98,8 @@ begun_afresh kind me Deq a entry = refl
 begun_afresh kind me Shut a entry = refl
 
 -- one actor has another state
-led_one : (t : Traced) (w : World) (me : ℕ) (a b : Actor) → actor_of t.world me ≡ Some a → w.shared ≡ t.world.shared → w.setup ≡ t.world.setup → w.actors ≡ set t.world.actors (me - 1) b → Led t (record t { world = w }) me b
+led_one : (t : Traced) (w : World) (me : ℕ) (a b : Actor) → actor_of t.world me ≡ Some a → w.shared ≡ t.world.shared → w.setup ≡ t.world.setup
+    → w.actors ≡ set t.world.actors (me - 1) b → Led t (record t { world = w }) me b
 led_one t w me a b at shared setup actors =
     record {
       shared = shared;
@@ -136,12 +139,14 @@ then_begin t u me op a b f r none call is =
     let g = begin_led u me op a r f.here none call in
     (g.0, g.1, led_twice t u g.0 me a b f (subst (Led u g.0 me) (ap (λ s. begun s.kind me op a) f.setup ∙ is) g.2))
 
-rest_led : (t : Traced) (me : ℕ) (op : Op) (a : Actor) (l : Line) → IsTraced t → actor_of t.world me ≡ Some a → a.line ≡ Some l → may_rest l ≡ true → is_call op ≡ true → LeadsTo t me (begun t.world.setup.kind me op (rested a))
+rest_led : (t : Traced) (me : ℕ) (op : Op) (a : Actor) (l : Line) → IsTraced t → actor_of t.world me ≡ Some a → a.line ≡ Some l → may_rest l ≡ true
+    → is_call op ≡ true → LeadsTo t me (begun t.world.setup.kind me op (rested a))
 rest_led t me op a l r at here may call =
     let w : World = with_actor t.world me (rested a) in
     then_begin t (record t { world = w }) me op (rested a) _ (led_one t w me a (rested a) at refl refl refl) (traced_moves t (Rest me) w r (rest_move t.world me a l at here may)) refl call refl
 
-give_led : (t : Traced) (me : ℕ) (op : Op) (a : Actor) (l : Line) → IsTraced t → actor_of t.world me ≡ Some a → a.line ≡ Some l → (gave_up a (gives_up 0 a l)).line ≡ None → is_call op ≡ true → LeadsTo t me (begun t.world.setup.kind me op (gave_up a (gives_up 0 a l)))
+give_led : (t : Traced) (me : ℕ) (op : Op) (a : Actor) (l : Line) → IsTraced t → actor_of t.world me ≡ Some a → a.line ≡ Some l
+    → (gave_up a (gives_up 0 a l)).line ≡ None → is_call op ≡ true → LeadsTo t me (begun t.world.setup.kind me op (gave_up a (gives_up 0 a l)))
 give_led t me op a l r at here none call =
     let g = given (t.world.steps + 1) a l here none in
     let e : Option ℕ = Some (entry_or a.entry (length t.world.operations)) in
@@ -153,7 +158,8 @@ give_led t me op a l r at here none call =
     (begun_afresh t.world.setup.kind me op g.0.actor e ∙ ap (begun t.world.setup.kind me op) g.2)
 
 -- before its step an actor goes on, or gives up or rests and begins a call: moves lead there
-pub prologue_traced : (t : Traced) (me : ℕ) (a : Actor) (prologue : Prologue) → IsTraced t → actor_of t.world me ≡ Some a → CanStart prologue a → LeadsTo t me (after_prologue t.world.setup me prologue a)
+pub prologue_traced : (t : Traced) (me : ℕ) (a : Actor) (prologue : Prologue) → IsTraced t → actor_of t.world me ≡ Some a → CanStart prologue a
+    → LeadsTo t me (after_prologue t.world.setup me prologue a)
 prologue_traced t me a continues r at can = (t, r, record { shared = refl; setup = refl; count = refl; paths = refl; history = refl; here = at; others = λ n ne. refl })
 prologue_traced t me a (begins op) r at can = go a.line refl can.1
   where
@@ -161,6 +167,7 @@ prologue_traced t me a (begins op) r at can = go a.line refl can.1
     go None e h = begin_led t me op a r at e can.0
     go (Some l) e h = at_line (may_rest l) refl h
       where
-        at_line : (b : Bool) → may_rest l ≡ b → (if b then rested a else gave_up a (gives_up 0 a l)).line ≡ None → LeadsTo t me (begun t.world.setup.kind me op (if b then rested a else gave_up a (gives_up 0 a l)))
+        at_line : (b : Bool) → may_rest l ≡ b → (if b then rested a else gave_up a (gives_up 0 a l)).line ≡ None
+            → LeadsTo t me (begun t.world.setup.kind me op (if b then rested a else gave_up a (gives_up 0 a l)))
         at_line true f h = rest_led t me op a l r at e f can.0
         at_line false f h = give_led t me op a l r at e h can.0

@@ -102,7 +102,8 @@ module _ {T : Type 0} where
 
   module _ (history : List Entry) (n : ℕ) (flag flag' : ℕ → ℕ) (home home' : ℕ → Home T) (hand hand' : ℕ → maybe.Option ℕ) (id me : ℕ) where
     -- a push of the slot that is out with the seat
-    pub rides_push : (r : Rides history n flag home hand) (b : ℕ) (x : T) → hand id ≡ some b → IsQueueRun (history ++ Push me b ∷ []) → ((i : ℕ) → flag' i ≡ flag i) → Changes home home' b (some (some (Some x))) → Changes hand hand' id none
+    pub rides_push : (r : Rides history n flag home hand) (b : ℕ) (x : T) → hand id ≡ some b → IsQueueRun (history ++ Push me b ∷ [])
+        → ((i : ℕ) → flag' i ≡ flag i) → Changes home home' b (some (some (Some x))) → Changes hand hand' id none
         → (r' : Rides (history ++ Push me b ∷ []) n flag' home' hand') × (r'.deeds ≡ r.deeds ++ pushed me x ∷ [])
     rides_push r b x mine run flags homes hands =
         let vs = map number_of r.q in
@@ -116,7 +117,8 @@ module _ {T : Type 0} where
             q = r.q ++ new ∷ [];
             pops = r.pops;
             shut = false;
-            leads = subst (Leads (history ++ Push me b ∷ []) false) (sym (map-append number_of r.q (new ∷ []))) (plays_then empty (queue_of vs false) (queue_of (vs ++ number_of new ∷ []) false) history (Push me b ∷ []) leads (refl, refl));
+            leads = subst (Leads (history ++ Push me b ∷ []) false) (sym (map-append number_of r.q (new ∷ [])))
+                (plays_then empty (queue_of vs false) (queue_of (vs ++ number_of new ∷ []) false) history (Push me b ∷ []) leads (refl, refl));
             runs = subst (λ y. Runs [] false (r.deeds ++ pushed me x ∷ []) y false) (sym (map-append item_of r.q (new ∷ []))) (runs_push [] false r.deeds (map item_of r.q) me x runs);
             matches = matches_on history (Push me b ∷ []) r.deeds (pushed me x ∷ []) r.matches (refl, tt);
             slotted = pushes n flag flag' home home' hand hand' r.pops id b r.q me x r.slotted mine flags homes hands;
@@ -146,7 +148,8 @@ module _ {T : Type 0} where
         )
 
   -- a pop: the slot at the front goes to the seat, with the value of the push that stands there
-  pub rides_pop : (history : List Entry) (n : ℕ) (flag : ℕ → ℕ) (home : ℕ → Home T) (hand : ℕ → maybe.Option ℕ) (me : ℕ) (r : Rides history n flag home hand) (t : Taken) → IsQueueRun (history ++ Pop me t ∷ [])
+  pub rides_pop : (history : List Entry) (n : ℕ) (flag : ℕ → ℕ) (home : ℕ → Home T) (hand : ℕ → maybe.Option ℕ) (me : ℕ)
+      (r : Rides history n flag home hand) (t : Taken) → IsQueueRun (history ++ Pop me t ∷ [])
       → (x : T) × (t.body < n) × (home t.body ≡ some (some (Some x)))
       × ((flag' : ℕ → ℕ) (home' : ℕ → Home T) (hand' : ℕ → maybe.Option ℕ) (id : ℕ) → ((i : ℕ) → flag' i ≡ flag i) → Changes home home' t.body (some none) → Changes hand hand' id (some t.body)
       → (r' : Rides (history ++ Pop me t ∷ []) n flag' home' hand') × (r'.deeds ≡ r.deeds ++ popped me (item t.from x) ∷ []))
@@ -183,7 +186,8 @@ module _ {T : Type 0} where
       )
 
   -- flags and hands that are the same at each number
-  pub rides_same : (history : List Entry) (n : ℕ) (flag flag' : ℕ → ℕ) (home : ℕ → Home T) (hand hand' : ℕ → maybe.Option ℕ) (r : Rides history n flag home hand) → ((i : ℕ) → flag i ≡ flag' i) → ((j : ℕ) → hand j ≡ hand' j)
+  pub rides_same : (history : List Entry) (n : ℕ) (flag flag' : ℕ → ℕ) (home : ℕ → Home T) (hand hand' : ℕ → maybe.Option ℕ)
+      (r : Rides history n flag home hand) → ((i : ℕ) → flag i ≡ flag' i) → ((j : ℕ) → hand j ≡ hand' j)
       → (r' : Rides history n flag' home hand') × (r'.deeds ≡ r.deeds)
   rides_same history n flag flag' home hand hand' r flags hands = (
     record {

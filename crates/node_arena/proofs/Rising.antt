@@ -94,7 +94,8 @@ head_rises t me a B5 r is here =
 head_rises t me a l r is here = inl (head_kept (action t.world.setup me a l) t.world.shared tt)
 
 -- and Tail, in the queue that counts it
-tail_rises : (t : Traced) (me : ℕ) (a : Actor) (l : Line) → IsTraced t → actor_of t.world me ≡ Some a → a.line ≡ Some l → t.world.setup.kind ≡ NonBlocking → Rises t.world.shared.tail (step_at t me a l).world.shared.tail
+tail_rises : (t : Traced) (me : ℕ) (a : Actor) (l : Line) → IsTraced t → actor_of t.world me ≡ Some a → a.line ≡ Some l
+    → t.world.setup.kind ≡ NonBlocking → Rises t.world.shared.tail (step_at t me a l).world.shared.tail
 tail_rises t me a E13 r is here k = tail_won t.world.setup t.world.shared a.tail a.next.node
 tail_rises t me a E17 r is here k = tail_won t.world.setup t.world.shared a.tail a.node
 tail_rises t me a D10 r is here k = tail_won t.world.setup t.world.shared a.tail a.next.node

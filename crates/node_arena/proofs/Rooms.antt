@@ -48,13 +48,34 @@ has_room r s t seat = room
     pops : s.pops + 1 < 2 ^ 64
     pops =
         ∥∥₁_elim seat.sits.fitted le_prop (λ f.
-        omega (arith, own_fewer r.plan (view s) f is_pop, (history_few f.trace f.reached).0, ap (λ z. z.limit) f.setup, seat.sits.pops, seat.arena.sized.counted, count_span_most r.plan.setup.bits seat.arena.sized.split, span_most r.plan.setup.bits seat.arena.sized.split))
+        omega (
+          arith,
+          own_fewer r.plan (view s) f is_pop,
+          (history_few f.trace f.reached).0,
+          ap (λ z. z.limit) f.setup,
+          seat.sits.pops,
+          seat.arena.sized.counted,
+          count_span_most r.plan.setup.bits seat.arena.sized.split,
+          span_most r.plan.setup.bits seat.arena.sized.split,
+        ))
 
     pushes : s.pushes + 1 < 2 ^ 64
     pushes =
         ∥∥₁_elim seat.sits.fitted le_prop (λ f.
         let few = history_few f.trace f.reached in
-        omega (arith, own_fewer r.plan (view s) f is_push, few.0, few.1, ap (λ z. z.limit) f.setup, ap (λ z. z.size) f.setup, seat.sits.pushes, seat.arena.sized.counted, seat.arena.sized.numbered, count_span_most r.plan.setup.bits seat.arena.sized.split, span_most r.plan.setup.bits seat.arena.sized.split))
+        omega (
+          arith,
+          own_fewer r.plan (view s) f is_push,
+          few.0,
+          few.1,
+          ap (λ z. z.limit) f.setup,
+          ap (λ z. z.size) f.setup,
+          seat.sits.pushes,
+          seat.arena.sized.counted,
+          seat.arena.sized.numbered,
+          count_span_most r.plan.setup.bits seat.arena.sized.split,
+          span_most r.plan.setup.bits seat.arena.sized.split,
+        ))
 
     room : (l : Line) → HasRoom (record s { token = t }) l
     room E9 = pushes

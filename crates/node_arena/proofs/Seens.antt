@@ -63,7 +63,8 @@ module _ (old more es history : List Entry) (is : history ≡ (old ++ more) ++ e
   stays_by true e = absurd (let f : true ≡ false = e in cc)
   stays_by false e = refl
 
-  pub known_by : (me : ℕ) (mine : List Entry) (b : Bool) → (b ≡ false → es ≡ []) → own_entries me history ≡ mine ++ es → own_entries me old ≡ mine → own_entries me (if b then history else old) ≡ mine ++ es
+  pub known_by : (me : ℕ) (mine : List Entry) (b : Bool) → (b ≡ false → es ≡ []) → own_entries me history ≡ mine ++ es → own_entries me old ≡ mine
+      → own_entries me (if b then history else old) ≡ mine ++ es
   known_by me mine true none all known = all
   known_by me mine false none all known = known ∙ sym (append-nil mine) ∙ ap (λ xs. mine ++ xs) (sym (none refl))
 

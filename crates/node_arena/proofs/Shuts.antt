@@ -49,7 +49,8 @@ shut_by_cause t r c =
     (queue_values t.world.shared c.0, subst (λ b. Plays empty t.history (record { values = queue_values t.world.shared c.0; shut = b })) c.2 (history_plays t r c.0 c.1))
 
 -- and a step that answers it has the cause
-pub shut_by_reply : (t : Traced) (me : ℕ) (a : Actor) (l : Line) → IsTraced t → actor_of t.world me ≡ Some a → a.line ≡ Some l → (outcome_at t.world.setup t me a l).reply ≡ Some (Refused Closed) → LeadsToShut t.history
+pub shut_by_reply : (t : Traced) (me : ℕ) (a : Actor) (l : Line) → IsTraced t → actor_of t.world me ≡ Some a → a.line ≡ Some l
+    → (outcome_at t.world.setup t me a l).reply ≡ Some (Refused Closed) → LeadsToShut t.history
 shut_by_reply t me a l r is here e = shut_by_cause t r (go t.world.setup.kind refl)
   where
     go : (k : Kind) → t.world.setup.kind ≡ k → HasCause t.world Closed

@@ -112,14 +112,16 @@ module _ {T : Type 0} (n : ℕ) (flag flag' : ℕ → ℕ) (home home' : ℕ →
       record {
         place = to.to;
         stands = stand q s free to flags.1 homes.1 (flags.0, homes.0);
-        lies = λ m l at. let t = s.lies m l at in let ne : ¬ (l.slot ≡ k) = λ e. queued_held (pops + m) id (sym t.1 ∙ (ap s.place e ∙ was.1)) in (t.0, to.aside l.slot ne ∙ t.1, homes.1 l.slot ne ∙ t.2);
+        lies = λ m l at. let t = s.lies m l at in let ne : ¬ (l.slot ≡ k) = λ e. queued_held (pops + m) id (sym t.1 ∙ (ap s.place e ∙ was.1)) in
+            (t.0, to.aside l.slot ne ∙ t.1, homes.1 l.slot ne ∙ t.2);
         out = λ j i e. split j id
             (λ same. absurd (some-ne-none i (sym e ∙ (ap hand' same ∙ hands.0))))
             (λ ne. let t = s.out j i (sym (hands.1 j ne) ∙ e) in (t.0, to.aside i (λ same. ne (held_same j id (sym t.1 ∙ (ap s.place same ∙ was.1)))) ∙ t.1));
       }
 
   -- a push: the seat's slot, with the value, comes home and lies at the back
-  pub pushes : (q : List (Lying T)) → (from : ℕ) (x : T) → Slotted n flag home hand pops q → hand id ≡ some k → ((i : ℕ) → flag' i ≡ flag i) → Changes home home' k (some (some (Some x))) → Changes hand hand' id none
+  pub pushes : (q : List (Lying T)) → (from : ℕ) (x : T) → Slotted n flag home hand pops q → hand id ≡ some k → ((i : ℕ) → flag' i ≡ flag i)
+      → Changes home home' k (some (some (Some x))) → Changes hand hand' id none
       → Slotted n flag' home' hand' pops (q ++ record { from = from; slot = k; value = x } ∷ [])
   pushes q from x s mine flags homes hands =
       let was = s.out id k mine in
@@ -132,7 +134,8 @@ module _ {T : Type 0} (n : ℕ) (flag flag' : ℕ → ℕ) (home home' : ℕ →
         place = to.to;
         stands = stand q s (queued back) to (λ i ne. flags i) homes.1 up;
         lies = λ m l at. ⊎_elim
-            (λ here. let t = s.lies m l here in let ne : ¬ (l.slot ≡ k) = λ e. queued_held (pops + m) id (sym t.1 ∙ (ap s.place e ∙ was.1)) in let r : R m l = (t.0, to.aside l.slot ne ∙ t.1, homes.1 l.slot ne ∙ t.2) in r)
+            (λ here. let t = s.lies m l here in let ne : ¬ (l.slot ≡ k) = λ e. queued_held (pops + m) id (sym t.1 ∙ (ap s.place e ∙ was.1)) in let r :
+            R m l = (t.0, to.aside l.slot ne ∙ t.1, homes.1 l.slot ne ∙ t.2) in r)
             (λ (e : (m ≡ length q) × (new ≡ l)). let r : R (length q) new = (was.0, to.here, homes.0) in subst (λ (y : ℕ × Lying T). R y.0 y.1) (λ d. (sym e.0 d, e.1 d)) r)
             (at_back q new l m at);
         out = λ j i e. split j id
@@ -141,7 +144,8 @@ module _ {T : Type 0} (n : ℕ) (flag flag' : ℕ → ℕ) (home home' : ℕ →
       }
 
   -- a pop: the slot at the front goes to the seat, with the value that was pushed
-  pub pops_front : (q : List (Lying T)) (from : ℕ) (x : T) → Slotted n flag home hand pops (record { from = from; slot = k; value = x } ∷ q) → ((i : ℕ) → flag' i ≡ flag i) → Changes home home' k (some none) → Changes hand hand' id (some k)
+  pub pops_front : (q : List (Lying T)) (from : ℕ) (x : T) → Slotted n flag home hand pops (record { from = from; slot = k; value = x } ∷ q)
+      → ((i : ℕ) → flag' i ≡ flag i) → Changes home home' k (some none) → Changes hand hand' id (some k)
       → (k < n) × (home k ≡ some (some (Some x))) × Slotted n flag' home' hand' (suc pops) q
   pops_front q from x s flags homes hands =
       let front : Lying T = record { from = from; slot = k; value = x } in
@@ -153,7 +157,8 @@ module _ {T : Type 0} (n : ℕ) (flag flag' : ℕ → ℕ) (home home' : ℕ →
         record {
           place = to.to;
           stands = stand (front ∷ q) s (held id) to (λ i ne. flags i) homes.1 up;
-          lies = λ m l at. let t = s.lies (suc m) l at in let ne : ¬ (l.slot ≡ k) = λ e. (let same = queued_same (pops + suc m) (pops + 0) (sym t.1 ∙ (ap s.place e ∙ was.1)) in absurd (omega (arith, same))) in
+          lies = λ m l at. let t = s.lies (suc m) l at in let ne : ¬ (l.slot ≡ k) =
+              λ e. (let same = queued_same (pops + suc m) (pops + 0) (sym t.1 ∙ (ap s.place e ∙ was.1)) in absurd (omega (arith, same))) in
               (t.0, to.aside l.slot ne ∙ (t.1 ∙ ap queued (let e : pops + suc m ≡ suc pops + m = omega arith in e)), homes.1 l.slot ne ∙ t.2);
           out = λ j i e. split j id
               (λ same. let it : k ≡ i = some-injective k i (sym hands.0 ∙ (sym (ap hand' same) ∙ e)) in (subst (λ (y : ℕ). y < n) it was.0, ap to.to (sym it) ∙ (to.here ∙ ap held (sym same))))

@@ -1,5 +1,6 @@
 -- Each step of a seat at a line keeps the rule: one lemma for all lines and all forms of access.
-use Rattle.std.proofs.Common.{◌≡◌, ◌≢◌, ℕ, ◌-◌, ◌<◌, ◌≤◌, Bool, true, false, if◌then◌else◌, nat_eq, bit_and, Option, Some, IfSome, List, [], ◌∷◌, ◌++◌, zero, suc, length, get_or, set, slice_get, sym, refl, ap, ◌∙◌, subst, ⊎_elim, arith, append-nil, append_assoc}
+use Rattle.std.proofs.Common.{◌≡◌, ◌≢◌, ℕ, ◌-◌, ◌<◌, ◌≤◌, Bool, true, false, if◌then◌else◌, nat_eq, bit_and, Option, Some, IfSome, List, [], ◌∷◌}
+use Rattle.std.proofs.Common.{◌++◌, zero, suc, length, get_or, set, slice_get, sym, refl, ap, ◌∙◌, subst, ⊎_elim, arith, append-nil, append_assoc}
 use Rattle.std.specs.List.{All, count_by}
 use Rattle.std.proofs.lemmas.List.{set-get_or}
 use Rattle.std.proofs.lemmas.List.Elements.{All-append, All-weaker, filter-append}
@@ -104,13 +105,15 @@ one_seat z s h id v v' words t mine g =
       owner = h.owner;
       fits = λ j i u o a b. (all j i u o a b).0;
       owned = λ j i u o a b. let q = all j i u o a b in (q.1, q.2);
-      kept = λ j n there. ⊎_elim (λ (q : (j ≡ id) × (seated v' ≡ keeper n)). cc) (λ (q : (j ≢ id) × (get_elem? s.views j ≡ some (keeper n))). h.kept j n q.1) (at_set s.views id j (seated v') (keeper n) there);
+      kept = λ j n there. ⊎_elim (λ (q : (j ≡ id) × (seated v' ≡ keeper n)). cc)
+          (λ (q : (j ≢ id) × (get_elem? s.views j ≡ some (keeper n))). h.kept j n q.1) (at_set s.views id j (seated v') (keeper n) there);
       undealt = λ n over within. g.new n (λ e. let lt = (h.owned id 0 (seated v) v mine refl).1 in omega arith) (h.undealt n over within);
     }
 
 -- the seat's step at a line, where its actor is led there
 module _ (z : Layout) (s : State ℕ View) (h : Holds z s) (id : ℕ) (v : SeatView) (mine : get_elem? s.views id ≡ some (seated v)) (prologue : Prologue) (l : Line)
-    (can : CanStart prologue v.actor) (line : (after_prologue z.setup v.number prologue v.actor).line ≡ Some l) (role : Role) (its : slice_get z.roles (v.number - 1) ≡ Some role) (permits : PermitsLine role l) where
+    (can : CanStart prologue v.actor) (line : (after_prologue z.setup v.number prologue v.actor).line ≡ Some l) (role : Role)
+    (its : slice_get z.roles (v.number - 1) ≡ Some role) (permits : PermitsLine role l) where
   abbrev pub a : Actor
   a = after_prologue z.setup v.number prologue v.actor
 
@@ -118,7 +121,8 @@ module _ (z : Layout) (s : State ℕ View) (h : Holds z s) (id : ℕ) (v : SeatV
   fit = h.fits id 0 (seated v) v mine refl
 
   abbrev pub led_there : (u : Traced) × IsTraced u × Led h.trace u v.number a
-  led_there = let g = prologue_traced h.trace v.number v.actor prologue h.reached fit.actor can in (g.0, g.1, subst (λ x. Led h.trace g.0 v.number (after_prologue x v.number prologue v.actor)) h.setup g.2)
+  led_there = let g = prologue_traced h.trace v.number v.actor prologue h.reached fit.actor can in
+      (g.0, g.1, subst (λ x. Led h.trace g.0 v.number (after_prologue x v.number prologue v.actor)) h.setup g.2)
 
   abbrev pub u : Traced
   u = led_there.0
@@ -139,7 +143,17 @@ module _ (z : Layout) (s : State ℕ View) (h : Holds z s) (id : ℕ) (v : SeatV
   history_is = (λ i. f.history i ++ entries_at (setup i) u v.number a l)
 
   abbrev pub v' : SeatView
-  v' = record { number = v.number; actor = actor_at z.setup u v.number a l; path = v.path ++ event_at z.setup u v.number a l ∷ []; seen = if sees l then t.history else v.seen; mine = v.mine ++ es; notes = v.notes ++ notes_of (outcome_at z.setup u v.number a l).reply (if sees l then t.history else v.seen); looked = v.looked }
+  v' = record {
+    number = v.number;
+    actor = actor_at z.setup u v.number a l;
+    path = v.path ++ event_at z.setup u v.number a l ∷ [];
+    seen =
+        if sees l then t.history else v.seen;
+    mine = v.mine ++ es;
+    notes = v.notes ++ notes_of (outcome_at z.setup u v.number a l).reply
+        (if sees l then t.history else v.seen);
+    looked = v.looked;
+  }
 
   pub reached : IsTraced t
   reached = step_traced u v.number a l led_there.1 f.here line
@@ -170,7 +184,8 @@ module _ (z : Layout) (s : State ℕ View) (h : Holds z s) (id : ℕ) (v : SeatV
 
   -- what the actor found before its step, in what its seat has seen after it
   pub saw : sees l ≡ false → SawAt u v'.seen a (Some l) a.due
-  saw e = subst (λ (y : List Entry × Option Line). SawAt u y.0 a y.1 a.due) (λ i. (sym (stays e) i, line i)) (saw_led h.trace u v.seen z.setup v.number prologue v.actor (let c = ap (λ m. m.head.count) f.shared in omega arith) f.setup fit.saw)
+  saw e = subst (λ (y : List Entry × Option Line). SawAt u y.0 a y.1 a.due) (λ i. (sym (stays e) i, line i))
+      (saw_led h.trace u v.seen z.setup v.number prologue v.actor (let c = ap (λ m. m.head.count) f.shared in omega arith) f.setup fit.saw)
 
   -- what its reply says of the queue
   pub says : SaysOfSeen l (outcome_at u.world.setup u v.number a l).reply v'.seen
@@ -195,7 +210,8 @@ module _ (z : Layout) (s : State ℕ View) (h : Holds z s) (id : ℕ) (v : SeatV
     own = own;
     known = known_by v.seen fit.rest es t.history parts v.number v.mine (sees l) quiet own fit.known;
     noted = noted;
-    saw = subst (λ s. SawAt t v'.seen (actor_at s u v.number a l) (actor_at s u v.number a l).line (actor_at s u v.number a l).due) setup (saw_after u v.number a l led_there.1 f.here line v'.seen whole);
+    saw = subst (λ s. SawAt t v'.seen (actor_at s u v.number a l) (actor_at s u v.number a l).line (actor_at s u v.number a l).due) setup
+        (saw_after u v.number a l led_there.1 f.here line v'.seen whole);
     looked = looked v.looked fit.looked;
   }
 
@@ -209,7 +225,9 @@ module _ (z : Layout) (s : State ℕ View) (h : Holds z s) (id : ℕ) (v : SeatV
     path = changed_else u.paths v.number _ o.number ne ∙ (ap (λ p. p o.number) f.paths ∙ g.path);
     rest = g.rest ++ es;
     begins = history_is ∙ (ap (λ hs. hs ++ es) g.begins ∙ append_assoc o.seen g.rest es);
-    own = ap (own_entries o.number) history_is ∙ (filter-append (λ e. nat_eq (seat_of e) o.number) h.trace.history es ∙ (ap (λ ys. own_entries o.number h.trace.history ++ ys) (none_added z.setup u v.number o.number a l ne) ∙ (append-nil (own_entries o.number h.trace.history) ∙ g.own)));
+    own = ap (own_entries o.number) history_is ∙ (filter-append (λ e. nat_eq (seat_of e) o.number) h.trace.history es ∙
+        (ap (λ ys. own_entries o.number h.trace.history ++ ys) (none_added z.setup u v.number o.number a l ne) ∙
+        (append-nil (own_entries o.number h.trace.history) ∙ g.own)));
     known = g.known;
     noted = g.noted;
     saw = saw_later h.trace t o.seen o.actor o.actor.line o.actor.due rises f.setup g.saw;
@@ -224,12 +242,15 @@ module _ (z : Layout) (s : State ℕ View) (h : Holds z s) (id : ℕ) (v : SeatV
   }
 
   pub permitted : All (RolesPermit z.roles) t.history
-  permitted = subst (All (RolesPermit z.roles)) (sym history_is) (All-append (RolesPermit z.roles) h.trace.history es h.permitted (permitted_added z.setup z.roles u v.number a l role (mover_in_range u.world v.number a f.here).0 its permits))
+  permitted = subst (All (RolesPermit z.roles)) (sym history_is) (All-append (RolesPermit z.roles) h.trace.history es h.permitted
+      (permitted_added z.setup z.roles u v.number a l role (mover_in_range u.world v.number a f.here).0 its permits))
 
   pub same_words : memory_words z.setup.bits u.world.shared ≡ shared_words s.words
   same_words = ap (memory_words z.setup.bits) f.shared ∙ sym h.words
 
-  pub words_after : (x : WordStep) → word_step z.setup.bits (action z.setup v.number a l) ≡ x → memory_words z.setup.bits t.world.shared ≡ set (shared_words s.words) (word_index x) (becomes x (get_or (shared_words s.words) (word_index x) 0))
+  pub words_after : (x : WordStep) → word_step z.setup.bits (action z.setup v.number a l) ≡ x
+      → memory_words z.setup.bits t.world.shared ≡ set (shared_words s.words) (word_index x)
+      (becomes x (get_or (shared_words s.words) (word_index x) 0))
   words_after x is =
       ap (λ (y : Setup). memory_words y.bits t.world.shared) (sym setup) ∙
       accesses_are_one_step u.world (traced_reached u led_there.1) (each_access_names_a_word u.world (traced_reached u led_there.1)) v.number a l f.here line ∙
@@ -246,7 +267,9 @@ module _ (z : Layout) (s : State ℕ View) (h : Holds z s) (id : ℕ) (v : SeatV
   pub read : (x : WordStep) → word_step z.setup.bits (action z.setup v.number a l) ≡ x → get_or (shared_words s.words) (word_index x) 0 ≡ get_or s.words (place (word_index x)) 0
   read x is = get_or-shared_words s.words (word_index x) (in_table x is)
 
-  pub written : (x : WordStep) → word_step z.setup.bits (action z.setup v.number a l) ≡ x → shared_words (set s.words (place (word_index x)) (becomes x (get_or s.words (place (word_index x)) 0))) ≡ memory_words z.setup.bits t.world.shared
+  pub written : (x : WordStep) → word_step z.setup.bits (action z.setup v.number a l) ≡ x
+      → shared_words (set s.words (place (word_index x)) (becomes x (get_or s.words (place (word_index x)) 0))) ≡ memory_words z.setup.bits
+      t.world.shared
   written x is =
       shared_words-set s.words (word_index x) _ (in_table x is) ∙
       (ap (λ n. set (shared_words s.words) (word_index x) (becomes x n)) (sym (read x is)) ∙
@@ -271,7 +294,8 @@ module _ (z : Layout) (s : State ℕ View) (h : Holds z s) (id : ℕ) (v : SeatV
       sym (read x is) ∙
       (λ i. get_or (sym same_words i) (word_index (sym is i)) 0) ∙
       ap (λ p. get_or (memory_words z.setup.bits u.world.shared) p 0) (place-word_step z.setup.bits (action z.setup v.number a l)) ∙
-      reading z.setup.bits u.world.shared (word (action z.setup v.number a l)) (subst (λ y. IsWord u.world.shared (word (action y v.number a l))) setup (each_access_names_a_word u.world (traced_reached u led_there.1) v.number a l f.here line))
+      reading z.setup.bits u.world.shared (word (action z.setup v.number a l)) (subst (λ y. IsWord u.world.shared (word (action y v.number a l)))
+      setup (each_access_names_a_word u.world (traced_reached u led_there.1) v.number a l f.here line))
 
   pub steps_told : (x : WordStep) → word_step z.setup.bits (action z.setup v.number a l) ≡ x → Steps z prologue l (get_or s.words (place (word_index x)) 0) v v'
   steps_told x is = record {
@@ -302,12 +326,21 @@ module _ (z : Layout) (s : State ℕ View) (h : Holds z s) (id : ℕ) (v : SeatV
   }
 
 -- every line and every form of access at once
-pub allows_seated : (z : Layout) (id : ℕ) (v : SeatView) (prologue : Prologue) (l : Line) (x : WordStep) (role : Role) → CanStart prologue v.actor → (after_prologue z.setup v.number prologue v.actor).line ≡ Some l → slice_get z.roles (v.number - 1) ≡ Some role → PermitsLine role l → word_step z.setup.bits (action z.setup v.number (after_prologue z.setup v.number prologue v.actor) l) ≡ x
+pub allows_seated : (z : Layout) (id : ℕ) (v : SeatView) (prologue : Prologue) (l : Line) (x : WordStep) (role : Role) → CanStart prologue v.actor
+    → (after_prologue z.setup v.number prologue v.actor).line ≡ Some l → slice_get z.roles (v.number - 1) ≡ Some role → PermitsLine role l
+    → word_step z.setup.bits (action z.setup v.number (after_prologue z.setup v.number prologue v.actor) l) ≡ x
     → Allows {S = ℕ} (Holds z) 0 id (seated v, []) (place (word_index x)) (becomes x) (λ n m. Tells z prologue (seated v, []) n m)
 allows_seated z id v prologue l x role can line its permits is s h empty mine small = (
   seated (v' z s h id v mine prologue l can line role its permits),
   keeps,
   tt,
-  one_seat z s h id v (v' z s h id v mine prologue l can line role its permits) (set s.words (place (word_index x)) (becomes x (get_or s.words (place (word_index x)) 0))) (t z s h id v mine prologue l can line role its permits) mine (goes z s h id v mine prologue l can line role its permits x is),
-  (refl, subst (λ (k : Line). Steps z prologue k (get_or s.words (place (word_index x)) 0) v (v' z s h id v mine prologue l can line role its permits)) (sym (ap line_or_first line)) (steps_told z s h id v mine prologue l can line role its permits x is)),
+  one_seat z s h id v (v' z s h id v mine prologue l can line role its permits)
+      (set s.words (place (word_index x)) (becomes x (get_or s.words (place (word_index x)) 0)))
+      (t z s h id v mine prologue l can line role its permits) mine (goes z s h id v mine prologue l can line role its permits x is),
+  (
+    refl,
+    subst (λ (k : Line). Steps z prologue k (get_or s.words (place (word_index x)) 0) v
+        (v' z s h id v mine prologue l can line role its permits)) (sym (ap line_or_first line))
+        (steps_told z s h id v mine prologue l can line role its permits x is),
+  ),
 )

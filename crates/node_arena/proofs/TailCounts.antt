@@ -78,7 +78,8 @@ module _ (t : Traced) (r : IsTraced t) (k : t.world.setup.kind ≡ NonBlocking) 
   not_behind = (tail_is_not_behind t.world reached k).0
 
 -- a look at Head, at Tail, at what follows its node, at Tail again, and at Head again
-module _ (z : Layout) (kind : z.setup.kind ≡ NonBlocking) (word n1 n2 n3 n4 n5 : ℕ) (v0 v1 v2 v3 v4 v5 : SeatView) (a : LooksAt z 2 n1 v0 v1) (b : LooksAt z 3 n2 v1 v2) (c : LooksAt z word n3 v2 v3) (d : LooksAt z 3 n4 v3 v4) (e : LooksAt z 2 n5 v4 v5)
+module _ (z : Layout) (kind : z.setup.kind ≡ NonBlocking) (word n1 n2 n3 n4 n5 : ℕ) (v0 v1 v2 v3 v4 v5 : SeatView) (a : LooksAt z 2 n1 v0 v1)
+    (b : LooksAt z 3 n2 v1 v2) (c : LooksAt z word n3 v2 v3) (d : LooksAt z 3 n4 v3 v4) (e : LooksAt z 2 n5 v4 v5)
     (at : word ≡ 4 + 2 * (ref_of z.setup.bits n2).node) where
   abbrev bits : ℕ
   bits = z.setup.bits
@@ -131,8 +132,10 @@ module _ (z : Layout) (kind : z.setup.kind ≡ NonBlocking) (word n1 n2 n3 n4 n5
   first_below = omega (arith, first_is, end_is, up_ab, not_behind b.was b.reached (kind_of b.was b.setup))
 
   -- bounds that hold at one of the looks, by what stands behind Tail there
-  bounds : (t : Traced) → WasMeanwhile (known_by v0) t.history (known_by v5) → (l : IsLong t) → a.was.world.shared.head.count ≤ t.world.shared.head.count → t.world.shared.head.count ≤ e.was.world.shared.head.count
-      → t.world.shared.tail.count ≡ end → (few many : ℕ) → few ≤ l.behind → l.behind ≤ many → many ≤ few + 1 → WasSoLong (known_by v0) (record { least = end + few - last; most = end + many - first }) (known_by v5)
+  bounds : (t : Traced) → WasMeanwhile (known_by v0) t.history (known_by v5) → (l : IsLong t)
+      → a.was.world.shared.head.count ≤ t.world.shared.head.count → t.world.shared.head.count ≤ e.was.world.shared.head.count
+      → t.world.shared.tail.count ≡ end → (few many : ℕ) → few ≤ l.behind → l.behind ≤ many → many ≤ few + 1
+      → WasSoLong (known_by v0) (record { least = end + few - last; most = end + many - first }) (known_by v5)
   bounds t meanwhile l low high tail few many least most near =
       record {
         now = t.history;
@@ -152,7 +155,9 @@ module _ (z : Layout) (kind : z.setup.kind ≡ NonBlocking) (word n1 n2 n3 n4 n5
   moved : WasSoLong (known_by v0) (record { least = end + 0 - last; most = end + 1 - first }) (known_by v5)
   moved =
       let l : IsLong b.was = is_long b.was b.reached (kind_of b.was b.setup) in
-      bounds b.was (was_meanwhile z 3 n2 v1 v2 b v0 v5 (sees_there z 2 n1 v0 v1 a) (sees_then (known_by v2) (known_by v3) (known_by v5) (sees_there z word n3 v2 v3 c) sees_de)) l up_ab (omega (arith, up_bc, up_ce)) (sym end_is) 0 1 (omega arith) l.by_one (omega arith)
+      bounds b.was (was_meanwhile z 3 n2 v1 v2 b v0 v5 (sees_there z 2 n1 v0 v1 a)
+      (sees_then (known_by v2) (known_by v3) (known_by v5) (sees_there z word n3 v2 v3 c) sees_de)) l up_ab (omega (arith, up_bc, up_ce))
+      (sym end_is) 0 1 (omega arith) l.by_one (omega arith)
 
   -- where it didn't, they hold at the look at what follows its node
   module _ (same : n4 ≡ n2) where
@@ -174,7 +179,8 @@ module _ (z : Layout) (kind : z.setup.kind ≡ NonBlocking) (word n1 n2 n3 n4 n5
 
     stayed_bounds : (few many : ℕ) → few ≤ l.behind → l.behind ≤ many → many ≤ few + 1 → WasSoLong (known_by v0) (record { least = end + few - last; most = end + many - first }) (known_by v5)
     stayed_bounds =
-        bounds c.was (was_meanwhile z word n3 v2 v3 c v0 v5 (sees_then (known_by v0) (known_by v1) (known_by v2) (sees_there z 2 n1 v0 v1 a) (sees_there z 3 n2 v1 v2 b)) sees_de) l (omega (arith, up_ab, up_bc)) up_ce
+        bounds c.was (was_meanwhile z word n3 v2 v3 c v0 v5 (sees_then (known_by v0) (known_by v1) (known_by v2) (sees_there z 2 n1 v0 v1 a)
+        (sees_there z 3 n2 v1 v2 b)) sees_de) l (omega (arith, up_ab, up_bc)) up_ce
         (ap (λ (r : Ref). r.count) stayed ∙ sym end_is)
 
     ended : IsEnd bits (ref_of bits n3).node → WasSoLong (known_by v0) (record { least = end + 0 - last; most = end + 0 - first }) (known_by v5)
@@ -182,7 +188,8 @@ module _ (z : Layout) (kind : z.setup.kind ≡ NonBlocking) (word n1 n2 n3 n4 n5
 
     goes_on : (IsEnd bits (ref_of bits n3).node → ⊥) → WasSoLong (known_by v0) (record { least = end + 1 - last; most = end + 1 - first }) (known_by v5)
     goes_on h =
-        let one : l.behind ≡ 1 = l.goes_on (λ g. h (subst (λ (r : Ref). IsEnd bits r.node) (sym behind) (subst (λ (s : Setup). IsEnd s.bits (node_at c.was.world.shared c.was.world.shared.tail.node).next.node) c.setup g))) in
+        let one : l.behind ≡ 1 = l.goes_on (λ g. h (subst (λ (r : Ref). IsEnd bits r.node) (sym behind)
+        (subst (λ (s : Setup). IsEnd s.bits (node_at c.was.world.shared c.was.world.shared.tail.node).next.node) c.setup g))) in
         stayed_bounds 1 1 (omega arith) (omega arith) (omega arith)
 
   long_by : (stays none shut : Bool) → (stays ≡ true → n4 ≡ n2) → is_null (ref_of bits n3) ≡ none → is_shut bits (ref_of bits n3) ≡ shut
@@ -193,7 +200,8 @@ module _ (z : Layout) (kind : z.setup.kind ≡ NonBlocking) (word n1 n2 n3 n4 n5
   long_by true false false same null closed = goes_on (same refl) (λ h. ⊎_elim (eqb-false (ref_of bits n3).node 0 null) (eqb-false (ref_of bits n3).node (reserved_node bits) closed) h)
 
   -- the same at the names of a call
-  pub was_so_long : (stays none shut : Bool) (behind : ℕ × ℕ) (least most : ℕ) → (stays ≡ true → n4 ≡ n2) → is_null (ref_of bits n3) ≡ none → is_shut bits (ref_of bits n3) ≡ shut → behind ≡ behind_tail stays none shut
+  pub was_so_long : (stays none shut : Bool) (behind : ℕ × ℕ) (least most : ℕ) → (stays ≡ true → n4 ≡ n2) → is_null (ref_of bits n3) ≡ none
+      → is_shut bits (ref_of bits n3) ≡ shut → behind ≡ behind_tail stays none shut
       → least ≡ end + behind.0 - last → most ≡ end + behind.1 - first → WasSoLong (known_by v0) (record { least = least; most = most }) (known_by v5)
   was_so_long stays none shut q least most same null closed is low high =
       let P : ℕ × ℕ → Type 0 = λ q. WasSoLong (known_by v0) (record { least = q.0; most = q.1 }) (known_by v5) in

@@ -50,7 +50,8 @@ pub record Stood (z : Layout) (me : ℕ) (a : Actor) (l : Line) : Type 0 where
   pub here : actor_of trace.world me ≡ Some a
   pub line : a.line ≡ Some l
 
-pub stood : (z : Layout) (v : SeatView) (prologue : Prologue) (l : Line) → Fitted z v → CanStart prologue v.actor → (after_prologue z.setup v.number prologue v.actor).line ≡ Some l → Stood z v.number (after_prologue z.setup v.number prologue v.actor) l
+pub stood : (z : Layout) (v : SeatView) (prologue : Prologue) (l : Line) → Fitted z v → CanStart prologue v.actor
+    → (after_prologue z.setup v.number prologue v.actor).line ≡ Some l → Stood z v.number (after_prologue z.setup v.number prologue v.actor) l
 stood z v prologue l f can line =
     let g = prologue_traced f.trace v.number v.actor prologue f.reached f.fits.actor can in
     let d : Led f.trace g.0 v.number (after_prologue z.setup v.number prologue v.actor) = subst (λ x. Led f.trace g.0 v.number (after_prologue x v.number prologue v.actor)) f.setup g.2 in

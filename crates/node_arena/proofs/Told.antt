@@ -1,5 +1,6 @@
 -- What a step tells of the world that it was made in.
-use Rattle.std.proofs.Common.{◌≡◌, ◌≢◌, ℕ, zero, suc, ◌+◌, ◌-◌, ◌<◌, ◌≤◌, true, if◌then◌else◌, nat_eq, Some, IsSomeAnd, List, [], ◌∷◌, slice_index_or, length, Contains, inl, inr, refl, sym, ap, subst, ◌∙◌, arith}
+use Rattle.std.proofs.Common.{◌≡◌, ◌≢◌, ℕ, zero, suc, ◌+◌, ◌-◌, ◌<◌, ◌≤◌, true, if◌then◌else◌, nat_eq, Some, IsSomeAnd, List, [], ◌∷◌, slice_index_or}
+use Rattle.std.proofs.Common.{length, Contains, inl, inr, refl, sym, ap, subst, ◌∙◌, arith}
 use Rattle.std.specs.List.{All}
 use Rattle.std.proofs.lemmas.Bool.Decides.{leb_tells}
 use Rattle.std.proofs.lemmas.List.Elements.{All-head, All-tail}
@@ -53,12 +54,20 @@ module _ (z : Layout) (prologue : Prologue) (l : Line) (n : ℕ) (v v' : SeatVie
   actor_was_in_range = actor_in_range h.was.world v.number (after_prologue z.setup v.number prologue v.actor) was_in_range h.before
 
 -- a step that is refused has its cause in that world, in either queue
-pub has_cause : (z : Layout) (prologue : Prologue) (l : Line) (n : ℕ) (v v' : SeatView) (h : Steps z prologue l n v v') (refusal : Refusal) → (outcome_at z.setup h.was v.number (after_prologue z.setup v.number prologue v.actor) l).reply ≡ Some (Refused refusal) → HasCause h.was.world refusal
-has_cause z prologue l n v v' h refusal e = go h.was.world.setup.kind refl (ap (λ s. (outcome s (h.was.world.steps + 1) v.number (after_prologue z.setup v.number prologue v.actor) l (found (action s v.number (after_prologue z.setup v.number prologue v.actor) l) h.was.world.shared)).reply) h.setup ∙ e)
+pub has_cause : (z : Layout) (prologue : Prologue) (l : Line) (n : ℕ) (v v' : SeatView) (h : Steps z prologue l n v v') (refusal : Refusal)
+    → (outcome_at z.setup h.was v.number (after_prologue z.setup v.number prologue v.actor) l).reply ≡ Some (Refused refusal)
+    → HasCause h.was.world refusal
+has_cause z prologue l n v v' h refusal e = go h.was.world.setup.kind refl (ap
+    (λ s. (outcome s (h.was.world.steps + 1) v.number (after_prologue z.setup v.number prologue v.actor) l
+    (found (action s v.number (after_prologue z.setup v.number prologue v.actor) l) h.was.world.shared)).reply) h.setup ∙ e)
   where
-    go : (k : Kind) → h.was.world.setup.kind ≡ k → (outcome h.was.world.setup (h.was.world.steps + 1) v.number (after_prologue z.setup v.number prologue v.actor) l (found (action h.was.world.setup v.number (after_prologue z.setup v.number prologue v.actor) l) h.was.world.shared)).reply ≡ Some (Refused refusal) → HasCause h.was.world refusal
-    go TwoLock k reply = subst (HasCauseFor h.was.world) reply (two_lock.refuse_with_cause h.was.world (traced_reached h.was h.reached) k v.number (after_prologue z.setup v.number prologue v.actor) l h.before h.line)
-    go NonBlocking k reply = subst (HasCauseFor h.was.world) reply (non_blocking.refuse_with_cause h.was.world (traced_reached h.was h.reached) k v.number (after_prologue z.setup v.number prologue v.actor) l h.before h.line)
+    go : (k : Kind) → h.was.world.setup.kind ≡ k → (outcome h.was.world.setup (h.was.world.steps + 1) v.number
+        (after_prologue z.setup v.number prologue v.actor) l (found (action h.was.world.setup v.number
+        (after_prologue z.setup v.number prologue v.actor) l) h.was.world.shared)).reply ≡ Some (Refused refusal) → HasCause h.was.world refusal
+    go TwoLock k reply = subst (HasCauseFor h.was.world) reply (two_lock.refuse_with_cause h.was.world (traced_reached h.was h.reached) k v.number
+        (after_prologue z.setup v.number prologue v.actor) l h.before h.line)
+    go NonBlocking k reply = subst (HasCauseFor h.was.world) reply (non_blocking.refuse_with_cause h.was.world (traced_reached h.was h.reached) k
+        v.number (after_prologue z.setup v.number prologue v.actor) l h.before h.line)
 
 -- no `next` of the queue with locks has a count
 none_counted : (nodes : List Node) (i : ℕ) → All (λ n. n.next.count ≡ 0) nodes → (slice_index_or nodes i blank).next.count ≡ 0
@@ -67,7 +76,9 @@ none_counted (n ∷ ns) zero h = All-head (λ (x : Node). x.next.count ≡ 0) n 
 none_counted (n ∷ ns) (suc i) h = none_counted ns i (All-tail (λ (x : Node). x.next.count ≡ 0) n ns h)
 
 -- and where a `next` is worn out, it is that of the actor's own node
-pub has_own_cause : (z : Layout) (prologue : Prologue) (l : Line) (n : ℕ) (v v' : SeatView) (h : Steps z prologue l n v v') (refusal : Refusal) → (outcome_at z.setup h.was v.number (after_prologue z.setup v.number prologue v.actor) l).reply ≡ Some (Refused refusal) → HasOwnCause h.was.world v.number refusal
+pub has_own_cause : (z : Layout) (prologue : Prologue) (l : Line) (n : ℕ) (v v' : SeatView) (h : Steps z prologue l n v v') (refusal : Refusal)
+    → (outcome_at z.setup h.was v.number (after_prologue z.setup v.number prologue v.actor) l).reply ≡ Some (Refused refusal)
+    → HasOwnCause h.was.world v.number refusal
 has_own_cause z prologue l n v v' h refusal e = by_cause refusal e (has_cause z prologue l n v v' h refusal e)
   where
     a : Actor
@@ -76,12 +87,15 @@ has_own_cause z prologue l n v v' h refusal e = by_cause refusal e (has_cause z 
     w : World
     w = h.was.world
 
-    worn : (k : Kind) → w.setup.kind ≡ k → (outcome w.setup (w.steps + 1) v.number a l (found (action w.setup v.number a l) w.shared)).reply ≡ Some (Refused (WornOut OfNext)) → HasCause w (WornOut OfNext) → (node_at w.shared a.node).next.count ≡ w.setup.limit
-    worn TwoLock k f c = absurd (let x = none_counted w.shared.nodes (c.0 - 1) (count_nothing w (traced_reached h.was h.reached) k).1 in let y = (reached_in_range w (traced_reached h.was h.reached)).sized.counts in let q = c.1 in omega arith)
+    worn : (k : Kind) → w.setup.kind ≡ k → (outcome w.setup (w.steps + 1) v.number a l (found (action w.setup v.number a l) w.shared)).reply ≡ Some
+        (Refused (WornOut OfNext)) → HasCause w (WornOut OfNext) → (node_at w.shared a.node).next.count ≡ w.setup.limit
+    worn TwoLock k f c = absurd (let x = none_counted w.shared.nodes (c.0 - 1) (count_nothing w (traced_reached h.was h.reached) k).1 in let y =
+        (reached_in_range w (traced_reached h.was h.reached)).sized.counts in let q = c.1 in omega arith)
     worn NonBlocking k f c = non_blocking.own_next_is_worn w (traced_reached h.was h.reached) k v.number a l h.before h.line f
 
     by_cause : (refusal : Refusal) → (outcome_at z.setup h.was v.number a l).reply ≡ Some (Refused refusal) → HasCause w refusal → HasOwnCause w v.number refusal
-    by_cause (WornOut OfNext) f c = subst (λ o. IsSomeAnd o (λ b. (node_at w.shared b.node).next.count ≡ w.setup.limit)) (sym h.before) (worn w.setup.kind refl (ap (λ s. (outcome s (w.steps + 1) v.number a l (found (action s v.number a l) w.shared)).reply) h.setup ∙ f) c)
+    by_cause (WornOut OfNext) f c = subst (λ o. IsSomeAnd o (λ b. (node_at w.shared b.node).next.count ≡ w.setup.limit)) (sym h.before)
+        (worn w.setup.kind refl (ap (λ s. (outcome s (w.steps + 1) v.number a l (found (action s v.number a l) w.shared)).reply) h.setup ∙ f) c)
     by_cause (WornOut OfFree) f c = c
     by_cause (WornOut OfTail) f c = c
     by_cause (WornOut OfHead) f c = c
@@ -120,7 +134,10 @@ pub raised_names : (w : World) (x : Ref) (to : ℕ) → WorldInRange w → to �
 raised_names w x to h low = raised_node w.setup x to (below_closed w to h low)
 
 -- no step of the non-blocking queue is refused since Head is worn out
-pub head_is_not_worn : (z : Layout) (prologue : Prologue) (l : Line) (n : ℕ) (v v' : SeatView) → z.setup.kind ≡ NonBlocking → (h : Steps z prologue l n v v') → (outcome_at z.setup h.was v.number (after_prologue z.setup v.number prologue v.actor) l).reply ≢ Some (Refused (WornOut OfHead))
+pub head_is_not_worn : (z : Layout) (prologue : Prologue) (l : Line) (n : ℕ) (v v' : SeatView) → z.setup.kind ≡ NonBlocking
+    → (h : Steps z prologue l n v v') → (outcome_at z.setup h.was v.number (after_prologue z.setup v.number prologue v.actor) l).reply ≢ Some
+    (Refused (WornOut OfHead))
 head_is_not_worn z prologue l n v v' kind h worn =
     non_blocking.head_is_never_worn h.was.world (traced_reached h.was h.reached) (ap (λ s. s.kind) h.setup ∙ kind) v.number (after_prologue z.setup v.number prologue v.actor) l h.before h.line
-    (ap (λ s. (outcome s (h.was.world.steps + 1) v.number (after_prologue z.setup v.number prologue v.actor) l (found (action s v.number (after_prologue z.setup v.number prologue v.actor) l) h.was.world.shared)).reply) h.setup ∙ worn)
+    (ap (λ s. (outcome s (h.was.world.steps + 1) v.number (after_prologue z.setup v.number prologue v.actor) l
+    (found (action s v.number (after_prologue z.setup v.number prologue v.actor) l) h.was.world.shared)).reply) h.setup ∙ worn)

@@ -50,7 +50,8 @@ trace_more [] m t = last (traced_next t m (next_any t.world m))
     last (Some v) = refl
 trace_more (k ∷ ks) m t = along (traced_next t k (next_any t.world k)) (trace_more ks m)
   where
-    along : (o : Option Traced) → ((v : Traced) → trace (ks ++ m ∷ []) v ≡ traced_on (λ u. traced_next u m (next_any u.world m)) (trace ks v)) → traced_on (trace (ks ++ m ∷ [])) o ≡ traced_on (λ u. traced_next u m (next_any u.world m)) (traced_on (trace ks) o)
+    along : (o : Option Traced) → ((v : Traced) → trace (ks ++ m ∷ []) v ≡ traced_on (λ u. traced_next u m (next_any u.world m)) (trace ks v))
+        → traced_on (trace (ks ++ m ∷ [])) o ≡ traced_on (λ u. traced_next u m (next_any u.world m)) (traced_on (trace ks) o)
     along None each = refl
     along (Some v) each = each v
 

@@ -23,7 +23,8 @@ module _ (T : Type 0) (z : Layout) where
   empties (suc n) (suc i) lt = empties n i (omega arith)
 
   one_view : (j : ℕ) (w : Beside T) → get_elem? (first_beside z ∷ []) j ≡ some w → Begins {T = T} [] w
-  one_view zero w e = subst (Begins {T = T} []) (some-injective (first_beside z) w e) (record { rest = []; begins = refl; matches = λ v is. absurd (not_seated v is); pair = λ v u is same. absurd (not_paired v u is); others = tt })
+  one_view zero w e = subst (Begins {T = T} []) (some-injective (first_beside z) w e)
+      (record { rest = []; begins = refl; matches = λ v is. absurd (not_seated v is); pair = λ v u is same. absurd (not_paired v u is); others = tt })
     where
       not_seated : (v : SeatView) → keeper 1 ≡ seated v → ⊥
       not_seated v is = cc
@@ -33,10 +34,13 @@ module _ (T : Type 0) (z : Layout) where
   one_view (suc j) w e = absurd (some-ne-none w (sym e))
 
 -- nothing was done in it, of which these words and slots are the first
-pub lift_vacant : (T : Type 0) (z : Layout) (words : List ℕ) → z.carries ≡ true → length words ≡ words_of z + z.setup.size → ((i : ℕ) → flag_at (words_of z) words i ≡ 0) → (h : Holds z (opening {S = ℕ} (take (words_of z) words) [] (first_view z))) → h.trace.history ≡ []
+pub lift_vacant : (T : Type 0) (z : Layout) (words : List ℕ) → z.carries ≡ true → length words ≡ words_of z + z.setup.size
+    → ((i : ℕ) → flag_at (words_of z) words i ≡ 0) → (h : Holds z (opening {S = ℕ} (take (words_of z) words) [] (first_view z)))
+    → h.trace.history ≡ []
     → HoldsFor z (opening {S = Option T} words (replicate {A = Option T} z.setup.size None) (first_beside z))
 lift_vacant T z words carries long down h nothing = record {
-  base = moved z (opening {S = ℕ} (take (words_of z) words) [] (first_view z)) (plain_state (words_of z) (opening {S = Option T} words (replicate {A = Option T} z.setup.size None) (first_beside z))) h refl refl;
+  base = moved z (opening {S = ℕ} (take (words_of z) words) [] (first_view z))
+      (plain_state (words_of z) (opening {S = Option T} words (replicate {A = Option T} z.setup.size None) (first_beside z))) h refl refl;
   values = subst (λ (b : Bool). CarriedBy b z h.trace.history (opening {S = Option T} words (replicate {A = Option T} z.setup.size None) (first_beside z))) (sym carries) (record {
     rides = record {
       deeds = [];

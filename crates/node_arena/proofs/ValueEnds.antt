@@ -56,7 +56,8 @@ pop_of : Place → ℕ
 pop_of (queued p) = p
 pop_of place = 0
 
-values_end : {T : Type 0} (z : Layout) (seats : List (Seat T)) (id : ℕ) (w : Beside T) (words : List ℕ) (slots : List (Option T)) → z.carries ≡ true → w.plain ≡ gathered (map view seats) → Final {S = Option T} (Seen (HoldsFor z) id w) words slots → ValuesEnd z seats words slots w
+values_end : {T : Type 0} (z : Layout) (seats : List (Seat T)) (id : ℕ) (w : Beside T) (words : List ℕ) (slots : List (Option T)) → z.carries ≡ true
+    → w.plain ≡ gathered (map view seats) → Final {S = Option T} (Seen (HoldsFor z) id w) words slots → ValuesEnd z seats words slots w
 unfolding pop_of
 values_end {T} z seats id w words slots carries is f =
     let s = f.0 in
@@ -81,8 +82,11 @@ values_end {T} z seats id w words slots carries is f =
     }
 
 -- the same at the names of a call
-pub values_end_as : {T : Type 0} (z key : Layout) (seats : List (Seat T)) (id : ℕ) (w : Beside T) (words : List ℕ) (slots : List (Option T)) → key ≡ z → z.carries ≡ true → w.plain ≡ gathered (map view seats) → Final {S = Option T} (Seen (HoldsFor key) id w) words slots → ValuesEnd z seats words slots w
-values_end_as z key seats id w words slots same carries is f = subst (λ (y : Layout). ValuesEnd y seats words slots w) same (values_end key seats id w words slots (ap (λ (y : Layout). y.carries) same ∙ carries) is f)
+pub values_end_as : {T : Type 0} (z key : Layout) (seats : List (Seat T)) (id : ℕ) (w : Beside T) (words : List ℕ) (slots : List (Option T)) → key ≡ z
+    → z.carries ≡ true → w.plain ≡ gathered (map view seats) → Final {S = Option T} (Seen (HoldsFor key) id w) words slots
+    → ValuesEnd z seats words slots w
+values_end_as z key seats id w words slots same carries is f = subst (λ (y : Layout). ValuesEnd y seats words slots w) same
+    (values_end key seats id w words slots (ap (λ (y : Layout). y.carries) same ∙ carries) is f)
 
 -- a history leads to one list of values, shut or not
 leads_one : (es : List Entry) (s t : Bool) (us vs : List Taken) → Leads es s us → Leads es t vs → (us ≡ vs) × (s ≡ t)
@@ -99,12 +103,15 @@ module _ {T : Type 0} (z : Layout) (seats : List (Seat T)) (words : List ℕ) (s
   queue_with_flags most room = queue_up z.setup.bits _ _ (shared_first (words_of z) words) most (queue_at_end z seats _ most room e.ends)
 
   -- what is told by all words is so by those of the queue
-  rests_then : (pushes pops : ℕ) (shut : Bool) (rest : Rest) → Rests z.setup.bits (shared_words words) pushes pops shut rest → Rests z.setup.bits (shared_words (take (words_of z) words)) pushes pops shut rest
-  rests_then pushes pops shut rest h = rests_down z.setup.bits _ _ (shared_first (words_of z) words) z.setup.size (queue_at_end z seats _ z.setup.size (omega arith) e.ends) split_then pushes pops shut rest h
+  rests_then : (pushes pops : ℕ) (shut : Bool) (rest : Rest) → Rests z.setup.bits (shared_words words) pushes pops shut rest
+      → Rests z.setup.bits (shared_words (take (words_of z) words)) pushes pops shut rest
+  rests_then pushes pops shut rest h = rests_down z.setup.bits _ _ (shared_first (words_of z) words) z.setup.size
+      (queue_at_end z seats _ z.setup.size (omega arith) e.ends) split_then pushes pops shut rest h
 
   -- the numbers left are those of the slots in which the values lie
   numbers_then : (pushes pops : ℕ) (shut : Bool) (rest : Rest) → Rests z.setup.bits (shared_words words) pushes pops shut rest → (map number_of e.q ≡ left_of rest) × (e.shut ≡ was_shut_of rest)
-  numbers_then pushes pops shut rest h = leads_one e.ends.trace.history e.shut (was_shut_of rest) (map number_of e.q) (left_of rest) e.leads (leads_at_end z seats _ rest e.ends (rests_then pushes pops shut rest h).left).0
+  numbers_then pushes pops shut rest h = leads_one e.ends.trace.history e.shut (was_shut_of rest) (map number_of e.q) (left_of rest) e.leads
+      (leads_at_end z seats _ rest e.ends (rests_then pushes pops shut rest h).left).0
 
   pub all_lie_then : (pushes pops : ℕ) (shut : Bool) (rest : Rest) → Rests z.setup.bits (shared_words words) pushes pops shut rest → IsTrue (all_lie slots (left_of rest))
   all_lie_then pushes pops shut rest h = subst (λ (ts : List Taken). IsTrue (all_lie slots ts)) (numbers_then pushes pops shut rest h).0 (all_lie-number_of slots e.q e.lie e.apart)
@@ -125,7 +132,11 @@ module _ {T : Type 0} (z : Layout) (seats : List (Seat T)) (words : List ℕ) (s
       omega (arith, ap length values, length-map e.q item_of, length-map e.q number_of, ap length numbers, few)
 
 -- an arena that carries values is closed by seats, where that is told of its end
-pub closes_values : {T : Type 0} (r : Arena) (seats : List (Seat T)) (words : List ℕ) (slots : List (Option T)) (w : Beside T) (e : ValuesEnd r.plan seats words slots w) (pushes pops : ℕ) (shut : Bool) (rest : Rest) (left : LeftValues T) → ((ds : List (Deed T)) → AllBegin w.others ds → EachBegins seats ds) → pushes ≡ pushes_of (map known_of seats) → pops ≡ pops_of (map known_of seats) → shut ≡ nat_lt 0 (shuts_of (map known_of seats)) → Rests r.plan.setup.bits (shared_words words) pushes pops shut rest → rest_in left ≡ rest → slots_in left ≡ slots → ClosesValues r seats left
+pub closes_values : {T : Type 0} (r : Arena) (seats : List (Seat T)) (words : List ℕ) (slots : List (Option T)) (w : Beside T)
+    (e : ValuesEnd r.plan seats words slots w) (pushes pops : ℕ) (shut : Bool) (rest : Rest) (left : LeftValues T)
+    → ((ds : List (Deed T)) → AllBegin w.others ds → EachBegins seats ds) → pushes ≡ pushes_of (map known_of seats)
+    → pops ≡ pops_of (map known_of seats) → shut ≡ nat_lt 0 (shuts_of (map known_of seats))
+    → Rests r.plan.setup.bits (shared_words words) pushes pops shut rest → rest_in left ≡ rest → slots_in left ≡ slots → ClosesValues r seats left
 closes_values {T} r seats words slots w e pushes pops shut rest left begin pushed popped shuts h is lies =
     let told : Rests r.plan.setup.bits (shared_words words) pushes pops shut (rest_in left) = subst (Rests r.plan.setup.bits (shared_words words) pushes pops shut) (sym is) h in
     let c = closes_at_end r seats _ pushes pops shut (rest_in left) e.ends pushed popped shuts (rests_then r.plan seats words slots w e pushes pops shut (rest_in left) told) in
@@ -133,9 +144,11 @@ closes_values {T} r seats words slots w e pushes pops shut rest left begin pushe
       closes = c.0;
       deeds = e.deeds;
       matches = subst (λ (es : List Entry). Matches es e.deeds) (sym c.1) e.matches;
-      runs = subst (λ (xs : List (Option T)). Runs [] false e.deeds (values_of xs (left_of (rest_in left))) (was_shut_of (rest_in left))) (sym lies) (runs_then r.plan seats words slots w e pushes pops shut (rest_in left) told);
+      runs = subst (λ (xs : List (Option T)). Runs [] false e.deeds (values_of xs (left_of (rest_in left))) (was_shut_of (rest_in left))) (sym lies)
+          (runs_then r.plan seats words slots w e pushes pops shut (rest_in left) told);
       begins = begin e.deeds e.others;
-      few = subst (λ (xs : List (Option T)). length (values_of xs (left_of (rest_in left))) ≤ r.plan.setup.size) (sym lies) (few_then r.plan seats words slots w e pushes pops shut (rest_in left) told);
+      few = subst (λ (xs : List (Option T)). length (values_of xs (left_of (rest_in left))) ≤ r.plan.setup.size) (sym lies)
+          (few_then r.plan seats words slots w e pushes pops shut (rest_in left) told);
     }
 
 -- a table with a slot a node has no more slots than that

@@ -161,8 +161,10 @@ module _ {T : Type 0} where
   -- what became of the slots and of the history of values, by the entries that a step added
   abbrev pub Effect : (me : ℕ) (es : List Entry) (w : Beside T) (held : List (ℕ × Option T)) (w' : Beside T) (held' : List (ℕ × Option T)) → Type 0
   Effect me [] w held w' held' = (held' ≡ held) × (w'.hand ≡ w.hand) × ((between : List (Deed T)) × (w'.deeds ≡ w.deeds ++ between))
-  Effect me (Push n b ∷ es) w held w' held' = (x : T) × (held ≡ (b, Some x) ∷ []) × (held' ≡ []) × (w'.hand ≡ none) × ((between : List (Deed T)) × (w'.deeds ≡ (w.deeds ++ between) ++ pushed me x ∷ []))
-  Effect me (Pop n t ∷ es) w held w' held' = (x : T) × (held' ≡ (t.body, Some x) ∷ held) × (w'.hand ≡ some t.body) × ((between : List (Deed T)) × (w'.deeds ≡ (w.deeds ++ between) ++ popped me (item t.from x) ∷ []))
+  Effect me (Push n b ∷ es) w held w' held' = (x : T) × (held ≡ (b, Some x) ∷ []) × (held' ≡ []) × (w'.hand ≡ none)
+      × ((between : List (Deed T)) × (w'.deeds ≡ (w.deeds ++ between) ++ pushed me x ∷ []))
+  Effect me (Pop n t ∷ es) w held w' held' = (x : T) × (held' ≡ (t.body, Some x) ∷ held) × (w'.hand ≡ some t.body)
+      × ((between : List (Deed T)) × (w'.deeds ≡ (w.deeds ++ between) ++ popped me (item t.from x) ∷ []))
   Effect me (Shut n ∷ es) w held w' held' = (held' ≡ held) × (w'.hand ≡ w.hand) × ((between : List (Deed T)) × (w'.deeds ≡ (w.deeds ++ between) ++ closed me ∷ []))
 
   -- the same, where no values are carried too: no slot then moves, and nothing is seen of values

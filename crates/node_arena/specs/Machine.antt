@@ -3,8 +3,11 @@ pub use Rattle.line_steps.specs.declared.actors.Setup.{Setup}
 pub use Rattle.line_steps.specs.declared.actors.Held.{Held}
 pub use Rattle.line_steps.specs.Actors.{Actor}
 pub use Rattle.line_steps.specs.Outcomes.{Outcome}
-pub use Rattle.line_steps.specs.Memory.{Fresh as WordFresh, Free as WordFree, Head as WordHead, Tail as WordTail, Tail_lock as WordTailLock, Head_lock as WordHeadLock, Next as WordNext, Value_of as WordValue, Shared, Word, Content, node_at, found, word}
-pub use Rattle.line_steps.specs.Lines.{action, outcome, raised, raised_end, with_node, dequeues, shuts, goes, worn, closed, left, left_with_node, fills_hand, empties_hand, freed, sets_aside, unlocked, gives_up, ends, to_pocket, busy_or}
+pub use Rattle.line_steps.specs.Memory.{Fresh as WordFresh, Free as WordFree, Head as WordHead, Tail as WordTail, Tail_lock as WordTailLock}
+pub use Rattle.line_steps.specs.Memory.{Head_lock as WordHeadLock, Next as WordNext, Value_of as WordValue, Shared, Word, Content, node_at, found}
+pub use Rattle.line_steps.specs.Memory.{word}
+pub use Rattle.line_steps.specs.Lines.{action, outcome, raised, raised_end, with_node, dequeues, shuts, goes, worn, closed, left, left_with_node}
+pub use Rattle.line_steps.specs.Lines.{fills_hand, empties_hand, freed, sets_aside, unlocked, gives_up, ends, to_pocket, busy_or}
 pub use Rattle.line_steps.specs.Calling.{from_pocket}
 pub use Rattle.line_steps.specs.Rooms.{aside_after}
 pub use Rattle.line_steps.specs.Words.{value_of}

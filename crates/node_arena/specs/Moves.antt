@@ -30,7 +30,8 @@ PushesGiveTheirSlot T = (r : Arena) (s t : Seat T) (me body : ℕ) (value : T) �
 
 -- the step that pops takes the slot whose number it pops, and pops the value that lies in it
 abbrev pub PopsTakeTheirSlot : Type 0 → Type 0
-PopsTakeTheirSlot T = (r : Arena) (s t : Seat T) (me : ℕ) (taken : Taken) → Did r s t (Pop me taken ∷ []) → HasNoSlot s → (value : T) × HasSlot r t taken.body (Some value) × AddsOwn s t (popped (view s).number (item taken.from value))
+PopsTakeTheirSlot T = (r : Arena) (s t : Seat T) (me : ℕ) (taken : Taken) → Did r s t (Pop me taken ∷ []) → HasNoSlot s → (value : T)
+    × HasSlot r t taken.body (Some value) × AddsOwn s t (popped (view s).number (item taken.from value))
 
 -- the step that shuts moves no slot
 abbrev pub ShutsMoveNone : Type 0 → Type 0

@@ -38,11 +38,14 @@ module _ {T : Type 0} (r : Arena) (s t : Seat T) (prologue : Prologue) (n : ℕ)
   out_at l d = outcome_at r.plan.setup d.told.was (view s).number b l
 
   -- a step with this outcome leads on to a line
-  leads : (l : Line) (d : DidStep r s t prologue l n) (o : MachineOutcome) → out_at l d ≡ o → (k : Line) (c : Running) → o.actor.line ≡ Some k → ((x : Option ℕ) → AgreesAt k (record o.actor { entry = x }) c) → CallIsAt r t continues k c
+  leads : (l : Line) (d : DidStep r s t prologue l n) (o : MachineOutcome) → out_at l d ≡ o → (k : Line) (c : Running) → o.actor.line ≡ Some k
+      → ((x : Option ℕ) → AgreesAt k (record o.actor { entry = x }) c) → CallIsAt r t continues k c
   leads l d o e k c line knows = record { before = goes_on r s t prologue l n d o e k line; knows = settled r s t prologue l n d o e (λ x. AgreesAt k x c) knows }
 
   -- a call that ends has an empty pocket, where its outcome keeps that of its actor
-  over : (l : Line) → CallIsAt r s prologue l a → (after_prologue r.plan.setup (view s).number prologue (view s).actor).pocket ≡ None → (d : DidStep r s t prologue l n) (o : MachineOutcome) → out_at l d ≡ o → o.actor.line ≡ None → o.actor.pocket ≡ b.pocket → ((view t).actor.line ≡ None) × ((view t).actor.pocket ≡ None)
+  over : (l : Line) → CallIsAt r s prologue l a → (after_prologue r.plan.setup (view s).number prologue (view s).actor).pocket ≡ None
+      → (d : DidStep r s t prologue l n) (o : MachineOutcome) → out_at l d ≡ o → o.actor.line ≡ None → o.actor.pocket ≡ b.pocket
+      → ((view t).actor.line ≡ None) × ((view t).actor.pocket ≡ None)
   over l h none d o e line pocket = settled r s t prologue l n d o e (λ x. (x.line ≡ None) × (x.pocket ≡ None)) (λ x. (line, pocket ∙ none))
 
   pub after_d2 : CallIsAt r s prologue D2 a → DidStep r s t prologue D2 n → CallIsAt r t continues D3 (record a { head = ref_of r.plan.setup.bits n })
@@ -102,18 +105,25 @@ module _ {T : Type 0} (r : Arena) (s t : Seat T) (prologue : Prologue) (n : ℕ)
       else Goes D2 a
 
   module _ (h : CallIsAt r s prologue D5 a) (d : DidStep r s t prologue D5 n) where
-    fifth_is : (p q u c w : Bool) → same_ref (ref_of r.plan.setup.bits n) a.head ≡ p → nat_eq a.head.node a.tail.node ≡ q → is_null a.next ≡ u → is_shut r.plan.setup.bits a.next ≡ c → nat_eq a.tail.count r.plan.setup.limit ≡ w → out_at D5 d ≡ fifth_outcome (d.told.was.world.steps + 1) p q u c w
+    fifth_is : (p q u c w : Bool) → same_ref (ref_of r.plan.setup.bits n) a.head ≡ p → nat_eq a.head.node a.tail.node ≡ q → is_null a.next ≡ u
+        → is_shut r.plan.setup.bits a.next ≡ c → nat_eq a.tail.count r.plan.setup.limit ≡ w
+        → out_at D5 d ≡ fifth_outcome (d.told.was.world.steps + 1) p q u c w
     fifth_is p q u c w e f g m k =
-        (λ i. fifth_outcome (d.told.was.world.steps + 1) (same_ref (sym (ref_d5 r s t prologue n d) i) (h.knows.0 i)) (nat_eq (h.knows.0 i).node (h.knows.1 i).node) (is_null (h.knows.2 i)) (is_shut r.plan.setup.bits (h.knows.2 i)) (nat_eq (h.knows.1 i).count r.plan.setup.limit)) ∙
+        (λ i. fifth_outcome (d.told.was.world.steps + 1) (same_ref (sym (ref_d5 r s t prologue n d) i) (h.knows.0 i))
+        (nat_eq (h.knows.0 i).node (h.knows.1 i).node) (is_null (h.knows.2 i)) (is_shut r.plan.setup.bits (h.knows.2 i))
+        (nat_eq (h.knows.1 i).count r.plan.setup.limit)) ∙
         (λ i. fifth_outcome (d.told.was.world.steps + 1) (e i) (f i) (g i) (m i) (k i))
 
-    pub after_d5 : Fifth d (fifth (same_ref (ref_of r.plan.setup.bits n) a.head) (nat_eq a.head.node a.tail.node) (is_null a.next) (is_shut r.plan.setup.bits a.next) (nat_eq a.tail.count r.plan.setup.limit))
-    after_d5 = go (same_ref (ref_of r.plan.setup.bits n) a.head) (nat_eq a.head.node a.tail.node) (is_null a.next) (is_shut r.plan.setup.bits a.next) (nat_eq a.tail.count r.plan.setup.limit) refl refl refl refl refl
+    pub after_d5 : Fifth d (fifth (same_ref (ref_of r.plan.setup.bits n) a.head) (nat_eq a.head.node a.tail.node) (is_null a.next)
+        (is_shut r.plan.setup.bits a.next) (nat_eq a.tail.count r.plan.setup.limit))
+    after_d5 = go (same_ref (ref_of r.plan.setup.bits n) a.head) (nat_eq a.head.node a.tail.node) (is_null a.next) (is_shut r.plan.setup.bits a.next)
+        (nat_eq a.tail.count r.plan.setup.limit) refl refl refl refl refl
       where
         now : ℕ
         now = d.told.was.world.steps + 1
 
-        go : (p q u c w : Bool) → same_ref (ref_of r.plan.setup.bits n) a.head ≡ p → nat_eq a.head.node a.tail.node ≡ q → is_null a.next ≡ u → is_shut r.plan.setup.bits a.next ≡ c → nat_eq a.tail.count r.plan.setup.limit ≡ w → Fifth d (fifth p q u c w)
+        go : (p q u c w : Bool) → same_ref (ref_of r.plan.setup.bits n) a.head ≡ p → nat_eq a.head.node a.tail.node ≡ q → is_null a.next ≡ u
+            → is_shut r.plan.setup.bits a.next ≡ c → nat_eq a.tail.count r.plan.setup.limit ≡ w → Fifth d (fifth p q u c w)
         go false q u c w e f g m k =
             let is = fifth_is false q u c w e f g m k in
             record { stands = leads D5 d (fifth_outcome now false q u c w) is D2 a refl (λ x. tt); same = refl; quiet = ap (λ x. x.reply) is }
@@ -180,7 +190,14 @@ module _ {T : Type 0} (r : Arena) (s t : Seat T) (prologue : Prologue) (n : ℕ)
     won_d13 e =
         record {
           has = settled r s t prologue D13 n d (thirteenth true) (ap thirteenth (same true e)) HasTaken
-              (λ x. record { over = refl; empty = empty_before r s prologue D13 h.before; due = ap (λ v. Some (reply.Value v)) h.knows.2; node = ap (λ (y : Ref). y.node) h.knows.0; mark = ap (λ (y : Ref). y.count) h.knows.1 });
+              (λ x. record {
+                over = refl;
+                empty = empty_before r s prologue D13 h.before;
+                due = ap (λ v. Some (reply.Value v)) h.knows.2;
+                node =
+                    ap (λ (y : Ref). y.node) h.knows.0;
+                mark = ap (λ (y : Ref). y.count) h.knows.1;
+              });
           adds = ap (λ p. if p then Pop (view s).number b.val ∷ [] else []) (same true e);
         }
 

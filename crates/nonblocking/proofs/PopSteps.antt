@@ -38,14 +38,19 @@ module _ {T : Type 0} (r : Arena) (s t : Seat T) (prologue : Prologue) (n : ℕ)
   ref_d3 d = read_back r.plan.setup.bits d.told.sized.split d.told.was.world.shared.tail n (was_fits r.plan prologue D3 n (view s) (view t) d.told WordTail) d.told.found
 
   pub ref_d4 : (d : DidStep r s t prologue D4 n) → ref_of r.plan.setup.bits n ≡ (node_at d.told.was.world.shared (after_prologue r.plan.setup (view s).number prologue (view s).actor).head.node).next
-  ref_d4 d = read_back r.plan.setup.bits d.told.sized.split (node_at d.told.was.world.shared (after_prologue r.plan.setup (view s).number prologue (view s).actor).head.node).next n (was_fits r.plan prologue D4 n (view s) (view t) d.told (WordNext (after_prologue r.plan.setup (view s).number prologue (view s).actor).head.node)) d.told.found
+  ref_d4 d = read_back r.plan.setup.bits d.told.sized.split (node_at d.told.was.world.shared
+      (after_prologue r.plan.setup (view s).number prologue (view s).actor).head.node).next n
+      (was_fits r.plan prologue D4 n (view s) (view t) d.told (WordNext (after_prologue r.plan.setup (view s).number prologue
+      (view s).actor).head.node)) d.told.found
 
   pub ref_d5 : (d : DidStep r s t prologue D5 n) → ref_of r.plan.setup.bits n ≡ d.told.was.world.shared.head
   ref_d5 d = read_back r.plan.setup.bits d.told.sized.split d.told.was.world.shared.head n (was_fits r.plan prologue D5 n (view s) (view t) d.told WordHead) d.told.found
 
   pub value_d12 : (d : DidStep r s t prologue D12 n) → (node_at d.told.was.world.shared (after_prologue r.plan.setup (view s).number prologue (view s).actor).next.node).value ≡ value_of n
   value_d12 d =
-      let parts = value_parts (node_at d.told.was.world.shared (after_prologue r.plan.setup (view s).number prologue (view s).actor).next.node).value n (was_fits r.plan prologue D12 n (view s) (view t) d.told (WordValue (after_prologue r.plan.setup (view s).number prologue (view s).actor).next.node)) d.told.found in
+      let parts = value_parts (node_at d.told.was.world.shared (after_prologue r.plan.setup (view s).number prologue (view s).actor).next.node).value
+      n (was_fits r.plan prologue D12 n (view s) (view t) d.told (WordValue (after_prologue r.plan.setup (view s).number prologue
+      (view s).actor).next.node)) d.told.found in
       (λ i. record { from = parts.0 i; body = parts.1 i })
 
   pub ref_d13 : (d : DidStep r s t prologue D13 n) → ref_of r.plan.setup.bits n ≡ d.told.was.world.shared.head

@@ -22,7 +22,8 @@ use Rattle.node_arena.proofs.Loads.{takes_slot, then_takes}
 use Rattle.node_arena.specs.Turns.{failed_at, failed_turns}
 use Rattle.node_arena.specs.Paths.{ExtendsPath}
 use Rattle.node_arena.proofs.Known.{empty_before}
-use Rattle.node_arena.proofs.Paths.{then_shut_empty, shut_empty_on, no_walk, walk_then, then_act, then_stored, then_slots, quiet_slots, sees_on, stopped_behind, failed_behind, failed-append, event, walk_one, walk_on, act_on, stopped_at}
+use Rattle.node_arena.proofs.Paths.{then_shut_empty, shut_empty_on, no_walk, walk_then, then_act, then_stored, then_slots, quiet_slots, sees_on}
+use Rattle.node_arena.proofs.Paths.{stopped_behind, failed_behind, failed-append, event, walk_one, walk_on, act_on, stopped_at}
 use Rattle.nonblocking.specs.Values.{IsNonBlocking}
 use Rattle.node_arena.specs.Machine.{value_of}
 use Rattle.arena_lines.specs.declared.outcomes.Outcome.{Outcome}
@@ -37,7 +38,8 @@ use Rattle.nonblocking.proofs.PopStands.{stands_d2, after_d2, after_d3, after_d4
 
 -- after D2, D3 and D4
 pub to_d3 : {T : Type 0} (r : Arena) (s t : Seat T) (prologue : Prologue) (l : Line) (a b : Running) → IsBefore r s prologue D2 → Follows r s t prologue D2 a (Goes l b) → CallIsAt r t continues D3 b
-to_d3 r s t prologue l a b h f = subst (CallIsAt r t continues D3) (sym (same_registers l D3 b (record a { head = ref_of r.plan.setup.bits f.found }) f.leads_to)) (after_d2 r s t prologue f.found a (stands_d2 r s prologue a h) f.did)
+to_d3 r s t prologue l a b h f = subst (CallIsAt r t continues D3) (sym (same_registers l D3 b (record a { head = ref_of r.plan.setup.bits f.found })
+    f.leads_to)) (after_d2 r s t prologue f.found a (stands_d2 r s prologue a h) f.did)
 
 pub to_d4 : {T : Type 0} (r : Arena) (s t : Seat T) (l : Line) (a b : Running) → CallIsAt r s continues D3 a → Follows r s t continues D3 a (Goes l b) → CallIsAt r t continues D4 b
 to_d4 r s t l a b h f = subst (CallIsAt r t continues D4) (sym (same_registers l D4 b (record a { tail = ref_of r.plan.setup.bits f.found }) f.leads_to)) (after_d3 r s t continues f.found a h f.did)
@@ -46,7 +48,8 @@ pub to_d5 : {T : Type 0} (r : Arena) (s t : Seat T) (l : Line) (a b : Running) �
 to_d5 r s t l a b h f = subst (CallIsAt r t continues D5) (sym (same_registers l D5 b (record a { next = ref_of r.plan.setup.bits f.found }) f.leads_to)) (after_d4 r s t continues f.found a h f.did)
 
 -- a line whose step goes back to D2 fails its turn
-module _ {T : Type 0} (r : Arena) (s t x : Seat T) (l : Line) (n : ℕ) (d : DidStep r t x continues l n) (before : List Event) (w : ExtendsPath (view s) (view t) before) (never : failed_turns before ≡ 0) (one : failed_at l (Some D2) ≡ 1) where
+module _ {T : Type 0} (r : Arena) (s t x : Seat T) (l : Line) (n : ℕ) (d : DidStep r t x continues l n) (before : List Event)
+    (w : ExtendsPath (view s) (view t) before) (never : failed_turns before ≡ 0) (one : failed_at l (Some D2) ≡ 1) where
   abbrev last : Event
   last = event r t x continues l n d
 
@@ -60,7 +63,9 @@ module _ {T : Type 0} (r : Arena) (s t x : Seat T) (l : Line) (n : ℕ) (d : Did
       }
 
 -- the lines D2 to D5
-module _ {T : Type 0} (r : Arena) (s u t v x : Seat T) (prologue : Prologue) (a b c d : Running) (l k j : Line) (out : Outcome Running) (h : IsBefore r s prologue D2) (f2 : Follows r s u prologue D2 a (Goes l b)) (f3 : Follows r u t continues D3 b (Goes k c)) (f4 : Follows r t v continues D4 c (Goes j d)) (f5 : Follows r v x continues D5 d out) where
+module _ {T : Type 0} (r : Arena) (s u t v x : Seat T) (prologue : Prologue) (a b c d : Running) (l k j : Line) (out : Outcome Running)
+    (h : IsBefore r s prologue D2) (f2 : Follows r s u prologue D2 a (Goes l b)) (f3 : Follows r u t continues D3 b (Goes k c))
+    (f4 : Follows r t v continues D4 c (Goes j d)) (f5 : Follows r v x continues D5 d out) where
   abbrev two : Event
   two = event r s u prologue D2 f2.found f2.did
 
@@ -153,7 +158,8 @@ module _ {T : Type 0} (r : Arena) (s u t v x : Seat T) (prologue : Prologue) (a 
         empty = all.0;
         stored = then_stored s v x (then_stored s t v (then_stored s u t f2.did.stored f3.did.stored) f4.did.stored) f5.did.stored;
         slots = then_slots s v x
-            (then_slots s t v (then_slots s u t (quiet_slots r s u prologue D2 f2.found f2.did refl) (quiet_slots r u t continues D3 f3.found f3.did refl)) (quiet_slots r t v continues D4 f4.found f4.did refl))
+            (then_slots s t v (then_slots s u t (quiet_slots r s u prologue D2 f2.found f2.did refl)
+            (quiet_slots r u t continues D3 f3.found f3.did refl)) (quiet_slots r t v continues D4 f4.found f4.did refl))
             (quiet_slots r v x continues D5 f5.found f5.did refl);
         lines = reads ++ five ∷ [];
         looked = all.1;
@@ -174,7 +180,8 @@ moves_tail r s t a out h f =
     }
 
 -- Head is never worn out at D12
-pub never_worn : {T : Type 0} (r : Arena) (s t : Seat T) (a : Running) (out : Outcome Running) → IsNonBlocking r → CallIsAt r s continues D12 a → Follows r s t continues D12 a out → ((l : Line) (b : Running) → out ≡ Goes l b → ⊥) → ⊥
+pub never_worn : {T : Type 0} (r : Arena) (s t : Seat T) (a : Running) (out : Outcome Running) → IsNonBlocking r → CallIsAt r s continues D12 a
+    → Follows r s t continues D12 a out → ((l : Line) (b : Running) → out ≡ Goes l b → ⊥) → ⊥
 never_worn r s t a out kind h f other = go (nat_eq a.head.count r.plan.setup.limit) refl f.leads_to
   where
     go : (p : Bool) → nat_eq a.head.count r.plan.setup.limit ≡ p → out ≡ (if p then Ends (IsRefused (WornOut OfHead)) else Goes D13 (record a { val = f.found })) → ⊥
@@ -214,13 +221,19 @@ module _ {T : Type 0} (r : Arena) (s t : Seat T) (a b : Running) (l : Line) (h :
       read_slots : KeepsSlots s t
       read_slots = quiet_slots r s t continues D12 f.found f.did refl
 
-      moves : (p : Bool) → same_ref (ref_of r.plan.setup.bits g.found) b.head ≡ p → TurnMoves r s x (turn_of (if p then Goes F1 (record b { node = b.head.node; mark = b.next.count; due = Some (IsValue b.val) }) else Goes D2 b))
+      moves : (p : Bool) → same_ref (ref_of r.plan.setup.bits g.found) b.head ≡ p
+          → TurnMoves r s x (turn_of (if p then Goes F1 (record b { node = b.head.node; mark = b.next.count; due = Some (IsValue b.val) }) else Goes
+          D2 b))
       moves true e =
           let w : Won r t x continues g.found b g.did = won_d13 r t x continues g.found b to_d13 g.did e in
-          then_takes r (value_of b.val) s t x read_slots (subst (λ (v : Taken). TakesSlot r v t x) to_d13.knows.2 (takes_slot r t x continues D13 g.found g.did (view t).number (view t).actor.val w.adds))
-      moves false e = let w : Lost r t x continues g.found b g.did = lost_d13 r t x continues g.found b to_d13 g.did e in then_slots s t x read_slots (quiet_slots r t x continues D13 g.found g.did w.adds)
+          then_takes r (value_of b.val) s t x read_slots (subst (λ (v : Taken). TakesSlot r v t x) to_d13.knows.2
+          (takes_slot r t x continues D13 g.found g.did (view t).number (view t).actor.val w.adds))
+      moves false e = let w : Lost r t x continues g.found b g.did = lost_d13 r t x continues g.found b to_d13 g.did e in then_slots s t x read_slots
+          (quiet_slots r t x continues D13 g.found g.did w.adds)
 
-      go : (p : Bool) → same_ref (ref_of r.plan.setup.bits g.found) b.head ≡ p → ((view x).actor.pocket ≡ None) × Turned r s x (twelve ∷ event r t x continues D13 g.found g.did ∷ []) (turn_of (if p then Goes F1 (record b { node = b.head.node; mark = b.next.count; due = Some (IsValue b.val) }) else Goes D2 b))
+      go : (p : Bool) → same_ref (ref_of r.plan.setup.bits g.found) b.head ≡ p → ((view x).actor.pocket ≡ None)
+          × Turned r s x (twelve ∷ event r t x continues D13 g.found g.did ∷ []) (turn_of
+          (if p then Goes F1 (record b { node = b.head.node; mark = b.next.count; due = Some (IsValue b.val) }) else Goes D2 b))
       go true e =
           let w : Won r t x continues g.found b g.did = won_d13 r t x continues g.found b to_d13 g.did e in (
             w.has.empty,
@@ -229,7 +242,8 @@ module _ {T : Type 0} (r : Arena) (s t : Seat T) (a b : Running) (l : Line) (h :
               due = w.has.due;
               node = w.has.node;
               mark = w.has.mark;
-              acts = then_act (view s) (view t) (view x) (Pop (view t).number (view t).actor.val) (Pop (view s).number (value_of b.val)) (twelve ∷ []) (event r t x continues D13 g.found g.did ∷ []) (λ i. Pop (read_walk.number i) (to_d13.knows.2 i)) read_walk
+              acts = then_act (view s) (view t) (view x) (Pop (view t).number (view t).actor.val) (Pop (view s).number (value_of b.val)) (twelve ∷ [])
+                  (event r t x continues D13 g.found g.did ∷ []) (λ i. Pop (read_walk.number i) (to_d13.knows.2 i)) read_walk
                   (act_on r t x continues D13 g.found g.did (Pop (view t).number (view t).actor.val) w.adds tt);
               never = turns_then r t x D13 g.found g.did (twelve ∷ []) (Some F1) w.has.over refl;
             },

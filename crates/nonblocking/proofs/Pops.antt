@@ -58,7 +58,8 @@ module _ {T : Type 0} (r : Arena) (s t x : Seat T) (n : ℕ) (g : Trying r s t n
 
   -- a turn ended the pop
   pub pop_ends : (spent turns : ℕ) (o : Result (Option Taken) Refusal) → Draws pop_worn r t x (spent + n) turns o → Draws pop_worn r s x spent turns o
-  pop_ends spent turns o d = draws_late pop_worn r s t x g.lines g.walks spent (spent + n) turns (omega (arith, g.failed)) o (record { number = g.stored.number; role = g.stored.role; keeps = g.stored.keeps }) g.slots d
+  pop_ends spent turns o d = draws_late pop_worn r s t x g.lines g.walks spent (spent + n) turns (omega (arith, g.failed)) o
+      (record { number = g.stored.number; role = g.stored.role; keeps = g.stored.keeps }) g.slots d
 
 -- all turns failed
 pub pop_gives_up : {T : Type 0} (r : Arena) (s t : Seat T) (spent turns n : ℕ) → 1 ≤ n → spent + n ≡ turns → Trying r s t n → Draws pop_worn r s (keeping t None turns) spent turns (Err Busy)
@@ -87,13 +88,16 @@ module _ {T : Type 0} (r : Arena) (s t : Seat T) (failed turns : ℕ) where
   pop_worn_out Closed f = let k = f.turned in draws_shut pop_worn r s t failed turns f.lines f.seat k.over f.empty f.stored f.slots k.finds k.cause
   pop_worn_out _ f = let k = f.turned in draws_worn pop_worn r s t _ OfTail failed turns f.lines f.seat k.over f.empty f.stored f.slots k.walks k.is k.cause tt
 
-  pub pop_took : (x : Seat T) (word : ℕ) (h : Held) (out : Result (Unit {0}) Refusal) → keeps_of t ≡ false → failed < turns → Turns r s t (turn.Took word h) → GiveAnswers r (keeping t (Some h) failed) x (turns - failed) out → Draws pop_worn r s x failed turns (Ok (Some (value_of word)))
+  pub pop_took : (x : Seat T) (word : ℕ) (h : Held) (out : Result (Unit {0}) Refusal) → keeps_of t ≡ false → failed < turns
+      → Turns r s t (turn.Took word h) → GiveAnswers r (keeping t (Some h) failed) x (turns - failed) out
+      → Draws pop_worn r s x failed turns (Ok (Some (value_of word)))
   pop_took x word h out keeps less f g = draws_taken pop_worn r s t x word h failed turns out f.lines (sym f.stored.keeps ∙ keeps) less f.seat f.stored f.slots f.turned.acts f.turned.never g
 
   pub pop_kept : (word : ℕ) (h : Held) → keeps_of t ≡ true → failed < turns → Turns r s t (turn.Took word h) → Draws pop_worn r s (keeping t (Some h) failed) failed turns (Ok (Some (value_of word)))
   pop_kept word h keeps less f =
       let k = f.turned in
-      draws_kept pop_worn r s t word h failed turns f.lines (sym f.stored.keeps ∙ keeps) less f.seat f.stored f.slots (record { over = k.over; due = k.due; node = k.node; mark = k.mark }) k.acts k.never
+      draws_kept pop_worn r s t word h failed turns f.lines (sym f.stored.keeps ∙ keeps) less f.seat f.stored f.slots
+      (record { over = k.over; due = k.due; node = k.node; mark = k.mark }) k.acts k.never
 
   pub pop_empty : failed < turns → Turns r s t turn.Empty → Draws pop_worn r s (keeping t None failed) failed turns (Ok None)
   pop_empty less f = let k = f.turned in draws_empty pop_worn r s t failed turns f.lines less f.seat k.over f.empty f.stored f.slots k.path k.never k.found

@@ -34,7 +34,8 @@ module _ {T : Type 0} (r : Arena) (s t : Seat T) (prologue : Prologue) (l : Line
   out = outcome_at r.plan.setup d.told.was (view s).number b l
 
   -- a step with this outcome leads on to a line
-  leads : (o : MachineOutcome) → out ≡ o → (k : Line) (c : Running) → o.actor.line ≡ Some k → HasNode o.actor c → ((x : Option ℕ) → AgreesAt k (record o.actor { entry = x }) c) → CallIsAt r t continues k c
+  leads : (o : MachineOutcome) → out ≡ o → (k : Line) (c : Running) → o.actor.line ≡ Some k → HasNode o.actor c
+      → ((x : Option ℕ) → AgreesAt k (record o.actor { entry = x }) c) → CallIsAt r t continues k c
   leads o e k c line hand knows =
       record {
         before = goes_on r s t prologue l n d o e k line;
@@ -54,7 +55,9 @@ module _ {T : Type 0} (r : Arena) (s t : Seat T) (prologue : Prologue) (n : ℕ)
   b1 = after_prologue r.plan.setup (view s).number prologue (view s).actor
 
   -- a call that ends has an empty pocket, where its outcome keeps that of its actor
-  over : (l : Line) → CallIsAt r s prologue l a → (after_prologue r.plan.setup (view s).number prologue (view s).actor).pocket ≡ None → (d : DidStep r s t prologue l n) (o : MachineOutcome) → outcome_at r.plan.setup d.told.was (view s).number b1 l ≡ o → o.actor.line ≡ None → o.actor.pocket ≡ b1.pocket → ((view t).actor.line ≡ None) × ((view t).actor.pocket ≡ None)
+  over : (l : Line) → CallIsAt r s prologue l a → (after_prologue r.plan.setup (view s).number prologue (view s).actor).pocket ≡ None
+      → (d : DidStep r s t prologue l n) (o : MachineOutcome) → outcome_at r.plan.setup d.told.was (view s).number b1 l ≡ o → o.actor.line ≡ None
+      → o.actor.pocket ≡ b1.pocket → ((view t).actor.line ≡ None) × ((view t).actor.pocket ≡ None)
   over l h none d o e line pocket = settled r s t prologue l n d o e (λ x. (x.line ≡ None) × (x.pocket ≡ None)) (λ x. (line, pocket ∙ none))
 
   pub after_e2 : CallIsAt r s prologue E2 a → DidStep r s t prologue E2 n → CallIsAt r t continues E3 a
@@ -86,15 +89,19 @@ module _ {T : Type 0} (r : Arena) (s t : Seat T) (prologue : Prologue) (n : ℕ)
     pub after_e3 : Third (follow r.plan.setup a E3 n)
     after_e3 = go (nat_eq (ref_of r.plan.setup.bits n).count r.plan.setup.limit) refl
       where
-        o : (p : Bool) → nat_eq (ref_of r.plan.setup.bits n).count r.plan.setup.limit ≡ p → outcome_at r.plan.setup d.told.was (view s).number b1 E3 ≡ third (d.told.was.world.steps + 1) (ref_of r.plan.setup.bits n) p
-        o p e = ap (λ x. third (d.told.was.world.steps + 1) x (nat_eq x.count r.plan.setup.limit)) (sym (ref_e3 r s t prologue n d)) ∙ ap (third (d.told.was.world.steps + 1) (ref_of r.plan.setup.bits n)) e
+        o : (p : Bool) → nat_eq (ref_of r.plan.setup.bits n).count r.plan.setup.limit ≡ p
+            → outcome_at r.plan.setup d.told.was (view s).number b1 E3 ≡ third (d.told.was.world.steps + 1) (ref_of r.plan.setup.bits n) p
+        o p e = ap (λ x. third (d.told.was.world.steps + 1) x (nat_eq x.count r.plan.setup.limit)) (sym (ref_e3 r s t prologue n d)) ∙ ap
+            (third (d.told.was.world.steps + 1) (ref_of r.plan.setup.bits n)) e
 
-        go : (p : Bool) → nat_eq (ref_of r.plan.setup.bits n).count r.plan.setup.limit ≡ p → Third (if p then Ends (IsRefused (WornOut OfNext)) else Goes E5 (record a { mark = (ref_of r.plan.setup.bits n).count }))
+        go : (p : Bool) → nat_eq (ref_of r.plan.setup.bits n).count r.plan.setup.limit ≡ p
+            → Third (if p then Ends (IsRefused (WornOut OfNext)) else Goes E5 (record a { mark = (ref_of r.plan.setup.bits n).count }))
         go true e =
             let x = over E3 h (empty_before r s prologue E3 h.before) d (third (d.told.was.world.steps + 1) (ref_of r.plan.setup.bits n) true) (o true e) refl refl in
             record { over = x.0; pocket = x.1; is = refl; replies = ap (λ c. c.reply) (o true e) }
         go false e = (
-          leads r s t prologue E3 n a h d (third (d.told.was.world.steps + 1) (ref_of r.plan.setup.bits n) false) (o false e) E5 (record a { mark = (ref_of r.plan.setup.bits n).count }) refl record { node = h.hand.node; mark = refl; val = h.hand.val } (λ x. tt),
+          leads r s t prologue E3 n a h d (third (d.told.was.world.steps + 1) (ref_of r.plan.setup.bits n) false) (o false e) E5
+              (record a { mark = (ref_of r.plan.setup.bits n).count }) refl record { node = h.hand.node; mark = refl; val = h.hand.val } (λ x. tt),
           refl,
           refl,
         )
@@ -132,21 +139,29 @@ module _ {T : Type 0} (r : Arena) (s t : Seat T) (prologue : Prologue) (n : ℕ)
         now : ℕ
         now = d.told.was.world.steps + 1
 
-        o : (p q c u : Bool) → same_ref (ref_of r.plan.setup.bits n) a.tail ≡ p → is_null a.next ≡ q → is_shut r.plan.setup.bits a.next ≡ c → nat_eq a.tail.count r.plan.setup.limit ≡ u → outcome_at r.plan.setup d.told.was (view s).number b1 E7 ≡ seventh now p q c u
-        o p q c u x y v w = λ i. seventh now (((λ j. same_ref (sym (ref_e7 r s t prologue n d) j) (h.knows.0 j)) ∙ x) i) ((ap is_null h.knows.1 ∙ y) i) ((ap (is_shut r.plan.setup.bits) h.knows.1 ∙ v) i) ((ap (λ (k : Ref). nat_eq k.count r.plan.setup.limit) h.knows.0 ∙ w) i)
+        o : (p q c u : Bool) → same_ref (ref_of r.plan.setup.bits n) a.tail ≡ p → is_null a.next ≡ q → is_shut r.plan.setup.bits a.next ≡ c
+            → nat_eq a.tail.count r.plan.setup.limit ≡ u → outcome_at r.plan.setup d.told.was (view s).number b1 E7 ≡ seventh now p q c u
+        o p q c u x y v w = λ i. seventh now (((λ j. same_ref (sym (ref_e7 r s t prologue n d) j) (h.knows.0 j)) ∙ x) i)
+            ((ap is_null h.knows.1 ∙ y) i) ((ap (is_shut r.plan.setup.bits) h.knows.1 ∙ v) i)
+            ((ap (λ (k : Ref). nat_eq k.count r.plan.setup.limit) h.knows.0 ∙ w) i)
 
-        on : (p q c u : Bool) → out r s t prologue E7 n a h d ≡ seventh now p q c u → IsSilent (seventh now p q c u).reply → (k : Line) → (seventh now p q c u).actor.line ≡ Some k → HasNode (seventh now p q c u).actor a → ((x : Option ℕ) → AgreesAt k (record (seventh now p q c u).actor { entry = x }) a) → CallIsAt r t continues k a × (a ≡ a) × Quiet
+        on : (p q c u : Bool) → out r s t prologue E7 n a h d ≡ seventh now p q c u → IsSilent (seventh now p q c u).reply → (k : Line)
+            → (seventh now p q c u).actor.line ≡ Some k → HasNode (seventh now p q c u).actor a
+            → ((x : Option ℕ) → AgreesAt k (record (seventh now p q c u).actor { entry = x }) a) → CallIsAt r t continues k a × (a ≡ a) × Quiet
         on p q c u e quiet k line hand knows = (leads r s t prologue E7 n a h d (seventh now p q c u) e k a line hand knows, refl, subst (λ (m : MachineOutcome). IsSilent m.reply) (sym e) quiet)
 
-        go : (p q c u : Bool) → same_ref (ref_of r.plan.setup.bits n) a.tail ≡ p → is_null a.next ≡ q → is_shut r.plan.setup.bits a.next ≡ c → nat_eq a.tail.count r.plan.setup.limit ≡ u → Seventh (leads_to p q c u)
+        go : (p q c u : Bool) → same_ref (ref_of r.plan.setup.bits n) a.tail ≡ p → is_null a.next ≡ q → is_shut r.plan.setup.bits a.next ≡ c
+            → nat_eq a.tail.count r.plan.setup.limit ≡ u → Seventh (leads_to p q c u)
         go true true c u x y v w = on true true c u (o true true c u x y v w) tt E9 refl h.hand (λ z. h.knows)
         go true false true u x y v w =
             let e = o true false true u x y v w in
-            let k = settled r s t prologue E7 n d (seventh now true false true u) e (λ c. (c.line ≡ None) × (c.pocket ≡ Some (in_hand a))) (λ z. (refl, λ i. Some (record { node = h.hand.node i; mark = h.hand.mark i }))) in
+            let k = settled r s t prologue E7 n d (seventh now true false true u) e (λ c. (c.line ≡ None) × (c.pocket ≡ Some (in_hand a)))
+            (λ z. (refl, λ i. Some (record { node = h.hand.node i; mark = h.hand.mark i }))) in
             record { over = k.0; pocket = k.1; replies = ap (λ c. c.reply) e }
         go true false false true x y v w =
             let e = o true false false true x y v w in
-            let k = settled r s t prologue E7 n d (seventh now true false false true) e (λ c. (c.line ≡ None) × (c.pocket ≡ Some (in_hand a))) (λ z. (refl, λ i. Some (record { node = h.hand.node i; mark = h.hand.mark i }))) in
+            let k = settled r s t prologue E7 n d (seventh now true false false true) e (λ c. (c.line ≡ None) × (c.pocket ≡ Some (in_hand a)))
+            (λ z. (refl, λ i. Some (record { node = h.hand.node i; mark = h.hand.mark i }))) in
             (record { over = k.0; pocket = k.1; is = refl; replies = ap (λ c. c.reply) e }, subst (λ (m : MachineOutcome). IsSilent m.reply) (sym e) tt)
         go true false false false x y v w = on true false false false (o true false false false x y v w) tt E13 refl h.hand (λ z. h.knows)
         go false q c u x y v w = on false q c u (o false q c u x y v w) tt E5 refl h.hand (λ z. tt)

@@ -45,10 +45,12 @@ module _ {T : Type 0} (r : Arena) (s t : Seat T) (prologue : Prologue) (n : ℕ)
   ref_e5 d = read_back r.plan.setup.bits d.told.sized.split d.told.was.world.shared.tail n (was_fits r.plan prologue E5 n (view s) (view t) d.told WordTail) d.told.found
 
   pub ref_e6 : (d : DidStep r s t prologue E6 n) → ref_of r.plan.setup.bits n ≡ (node_at d.told.was.world.shared c.tail.node).next
-  ref_e6 d = read_back r.plan.setup.bits d.told.sized.split (node_at d.told.was.world.shared c.tail.node).next n (was_fits r.plan prologue E6 n (view s) (view t) d.told (WordNext c.tail.node)) d.told.found
+  ref_e6 d = read_back r.plan.setup.bits d.told.sized.split (node_at d.told.was.world.shared c.tail.node).next n
+      (was_fits r.plan prologue E6 n (view s) (view t) d.told (WordNext c.tail.node)) d.told.found
 
   pub ref_e7 : (d : DidStep r s t prologue E7 n) → ref_of r.plan.setup.bits n ≡ d.told.was.world.shared.tail
   ref_e7 d = read_back r.plan.setup.bits d.told.sized.split d.told.was.world.shared.tail n (was_fits r.plan prologue E7 n (view s) (view t) d.told WordTail) d.told.found
 
   pub ref_e9 : (d : DidStep r s t prologue E9 n) → ref_of r.plan.setup.bits n ≡ (node_at d.told.was.world.shared c.tail.node).next
-  ref_e9 d = read_back r.plan.setup.bits d.told.sized.split (node_at d.told.was.world.shared c.tail.node).next n (was_fits r.plan prologue E9 n (view s) (view t) d.told (WordNext c.tail.node)) d.told.found
+  ref_e9 d = read_back r.plan.setup.bits d.told.sized.split (node_at d.told.was.world.shared c.tail.node).next n
+      (was_fits r.plan prologue E9 n (view s) (view t) d.told (WordNext c.tail.node)) d.told.found

@@ -33,10 +33,13 @@ use Rattle.node_arena.proofs.Values.{value_of-word}
 
 -- an actor that begins a push with this pocket
 abbrev set_out : {T : Type 0} → Arena → Seat T → ℕ → Option Held → Actor
-set_out r s body p = from_pocket (with_node r.plan.setup.kind) p (record (at_rest (view s).actor) { line = Some N1; op = Enq body; val = record { from = (view s).number; body = body }; due = None; entry = None })
+set_out r s body p = from_pocket (with_node r.plan.setup.kind) p (record (at_rest (view s).actor)
+    { line = Some N1; op = Enq body; val = record { from = (view s).number; body = body }; due = None; entry = None })
 
 -- a push with a full pocket sets out
-pub pushes_out : {T : Type 0} (r : Arena) (s : Seat T) (h : Held) (from body val : ℕ) (a : Running) → a ≡ registers_of h val → IsReady r s → pocket_of s ≡ Some h → IsNonBlocking r → body < 2 ^ 48 → from ≡ s.number → val ≡ from * 2 ^ 48 + body → CallIsAt r s (begins (Enq (value_of a.val).body)) E2 a
+pub pushes_out : {T : Type 0} (r : Arena) (s : Seat T) (h : Held) (from body val : ℕ) (a : Running) → a ≡ registers_of h val → IsReady r s
+    → pocket_of s ≡ Some h → IsNonBlocking r → body < 2 ^ 48 → from ≡ s.number → val ≡ from * 2 ^ 48 + body
+    → CallIsAt r s (begins (Enq (value_of a.val).body)) E2 a
 pushes_out r s h from body val a is i full kind small same word = subst (λ (x : Running). CallIsAt r s (begins (Enq (value_of x.val).body)) E2 x) (sym is) out
   where
     e : (at_rest (view s).actor).pocket ≡ Some h
@@ -55,13 +58,15 @@ pushes_out r s h from body val a is i full kind small same word = subst (λ (x :
           hand = record {
             node = ap (λ p. (set_out r s (value_of val).body p).node) e;
             mark = ap (λ p. (set_out r s (value_of val).body p).mark) e;
-            val = ap (λ p. (set_out r s (value_of val).body p).val) e ∙ ap (λ (k : ℕ). record { from = k; body = (value_of val).body }) (sym (same ∙ i.seat.sits.number) ∙ sym (ap (λ (v : Taken). v.from) parts));
+            val = ap (λ p. (set_out r s (value_of val).body p).val) e ∙ ap (λ (k : ℕ). record { from = k; body = (value_of val).body })
+                (sym (same ∙ i.seat.sits.number) ∙ sym (ap (λ (v : Taken). v.from) parts));
           };
           knows = tt;
         }
 
 -- the node's own next is worn out
-pub fill_worn : {T : Type 0} (r : Arena) (s t : Seat T) (a : Running) (out : Outcome Running) (refusal : Refusal) (node body spent turns : ℕ) → out ≡ Ends (IsRefused refusal) → Fills r s t a out → Puts push_worn r s (keeping t None spent) node body spent turns (Err refusal)
+pub fill_worn : {T : Type 0} (r : Arena) (s t : Seat T) (a : Running) (out : Outcome Running) (refusal : Refusal) (node body spent turns : ℕ)
+    → out ≡ Ends (IsRefused refusal) → Fills r s t a out → Puts push_worn r s (keeping t None spent) node body spent turns (Err refusal)
 fill_worn r s t a out refusal node body spent turns is f =
     let k : FoundWorn r s t None f.lines OfNext refusal = subst (Filled r s t a f.lines) is f.filled in
     let e : added s t ≡ f.lines = added_is s t f.lines f.walks in
@@ -78,7 +83,8 @@ fill_worn r s t a out refusal node body spent turns is f =
     }
 
 -- E2 and E3 end in no other way
-pub fill_ends : {T : Type 0} (r : Arena) (s t : Seat T) (a : Running) (out : Outcome Running) (answer : Reply) → out ≡ Ends answer → ((refusal : Refusal) → answer ≡ IsRefused refusal → ⊥) → Fills r s t a out → ⊥
+pub fill_ends : {T : Type 0} (r : Arena) (s t : Seat T) (a : Running) (out : Outcome Running) (answer : Reply) → out ≡ Ends answer
+    → ((refusal : Refusal) → answer ≡ IsRefused refusal → ⊥) → Fills r s t a out → ⊥
 fill_ends r s t a out answer is other f = go answer other (subst (Filled r s t a f.lines) is f.filled)
   where
     go : (answer : Reply) → ((refusal : Refusal) → answer ≡ IsRefused refusal → ⊥) → Filled r s t a f.lines (Ends answer) → ⊥
@@ -117,7 +123,8 @@ module _ {T : Type 0} (r : Arena) (s t : Seat T) (a : Running) (out : Outcome Ru
       }
 
 -- turns
-module _ {T : Type 0} (r : Arena) (s t u : Seat T) (h : Held) (val spent n turns : ℕ) (a : Running) (out : Turn) (is : a ≡ registers_of h val) (g : Trying r s t (registers_of h val) spent n) (m : Turns r t u a out) where
+module _ {T : Type 0} (r : Arena) (s t u : Seat T) (h : Held) (val spent n turns : ℕ) (a : Running) (out : Turn) (is : a ≡ registers_of h val)
+    (g : Trying r s t (registers_of h val) spent n) (m : Turns r t u a out) where
   abbrev b : Running
   b = registers_of h val
 
@@ -146,7 +153,9 @@ module _ {T : Type 0} (r : Arena) (s t u : Seat T) (h : Held) (val spent n turns
   puts_it less e =
       let k : Turns r t u b Pushed = turned_as Pushed e in
       let es : List Event = g.lines ++ k.lines in
-      let acts : Acts (view s) (view u) (Push (view s).number (value_of val).body) es = then_act (view s) (view t) (view u) (Push (view t).number (value_of val).body) (Push (view s).number (value_of val).body) g.lines k.lines (λ i. Push (g.walks.number i) (value_of val).body) g.walks k.turned.acts in
+      let acts : Acts (view s) (view u) (Push (view s).number (value_of val).body) es =
+      then_act (view s) (view t) (view u) (Push (view t).number (value_of val).body) (Push (view s).number (value_of val).body) g.lines k.lines
+      (λ i. Push (g.walks.number i) (value_of val).body) g.walks k.turned.acts in
       let e : added s u ≡ es = added_path s u es acts.path in
       let name = then_stored s t u g.stored k.stored in
       let rest : at_rest (view u).actor ≡ (view u).actor = ap (out_of (view u).actor) k.turned.over in
@@ -169,7 +178,8 @@ module _ {T : Type 0} (r : Arena) (s t u : Seat T) (h : Held) (val spent n turns
     where
       -- the call is over, with its node in the pocket
       ends : (k : KeepsStored t u) (refusal : Refusal) → KeepsSlots t u → IsSeat r u → (view u).actor.line ≡ None → (view u).actor.pocket ≡ Some (in_hand b)
-          → StopsAPush s (keeping u (Some h) n) refusal × PutRefused push_worn r s (keeping u (Some h) n) h.node spent turns refusal → Puts push_worn r s (keeping u (Some h) n) h.node (value_of val).body spent turns (Err refusal)
+          → StopsAPush s (keeping u (Some h) n) refusal × PutRefused push_worn r s (keeping u (Some h) n) h.node spent turns refusal
+          → Puts push_worn r s (keeping u (Some h) n) h.node (value_of val).body spent turns (Err refusal)
       ends k refusal slots seat over pocket refused =
           let name = then_stored s t u g.stored k in
           let rest : at_rest (view u).actor ≡ (view u).actor = ap (out_of (view u).actor) over in
@@ -181,7 +191,9 @@ module _ {T : Type 0} (r : Arena) (s t u : Seat T) (h : Held) (val spent n turns
             refused = refused;
           }
 
-      worn : (k : Turns r t u b (TurnRefused (WornOut OfTail))) (w : ExtendsPath (view t) (view u) k.lines) → FoundWorn r t u (Some (in_hand b)) k.lines OfTail (WornOut OfTail) → Puts push_worn r s (keeping u (Some h) n) h.node (value_of val).body spent turns (Err (WornOut OfTail))
+      worn : (k : Turns r t u b (TurnRefused (WornOut OfTail))) (w : ExtendsPath (view t) (view u) k.lines)
+          → FoundWorn r t u (Some (in_hand b)) k.lines OfTail (WornOut OfTail) → Puts push_worn r s (keeping u (Some h) n) h.node
+          (value_of val).body spent turns (Err (WornOut OfTail))
       worn k w f =
           let es : List Event = g.lines ++ k.lines in
           let all : ExtendsPath (view s) (view u) es = walk_then (view s) (view t) (view u) g.lines k.lines g.walks w in
@@ -207,11 +219,13 @@ module _ {T : Type 0} (r : Arena) (s t u : Seat T) (h : Held) (val spent n turns
       by_cause _ k = absurd (let e = k.turned.1.is in cc)
 
 -- by the node and the body of the call
-pub puts_as : {T : Type 0} (r : Arena) (s u : Seat T) (n node b body spent turns : ℕ) (o : Result (Unit {0}) Refusal) → n ≡ node → b ≡ body → Puts push_worn r s u n b spent turns o → Puts push_worn r s u node body spent turns o
+pub puts_as : {T : Type 0} (r : Arena) (s u : Seat T) (n node b body spent turns : ℕ) (o : Result (Unit {0}) Refusal) → n ≡ node → b ≡ body
+    → Puts push_worn r s u n b spent turns o → Puts push_worn r s u node body spent turns o
 puts_as r s u n node b body spent turns o e f p = subst (λ x. Puts push_worn r s u node x spent turns o) f (subst (λ x. Puts push_worn r s u x b spent turns o) e p)
 
 -- all turns failed
-pub gives_up_put : {T : Type 0} (r : Arena) (s t : Seat T) (h : Held) (val spent turns : ℕ) → spent < turns → Trying r s t (registers_of h val) spent turns → Puts push_worn r s (keeping t (Some h) turns) h.node (value_of val).body spent turns (Err Busy)
+pub gives_up_put : {T : Type 0} (r : Arena) (s t : Seat T) (h : Held) (val spent turns : ℕ) → spent < turns
+    → Trying r s t (registers_of h val) spent turns → Puts push_worn r s (keeping t (Some h) turns) h.node (value_of val).body spent turns (Err Busy)
 gives_up_put r s t h val spent turns less g =
     let e : added s t ≡ g.lines = added_is s t g.lines g.walks in
     let k = g.stands in

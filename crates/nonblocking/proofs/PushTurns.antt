@@ -18,7 +18,8 @@ use Rattle.node_arena.specs.Seats.{DidStep, view}
 use Rattle.node_arena.specs.Turns.{failed_at, failed_turns, at_e5}
 use Rattle.node_arena.specs.Paths.{ExtendsPath, Acts}
 use Rattle.node_arena.proofs.Noting.{IsSilent}
-use Rattle.node_arena.proofs.Paths.{walk_then, then_act, act_then, then_stored, then_slots, quiet_slots, failed-append, failed_behind, stopped_behind, then_shut, event, walk_on, walk_silent, shut_on, pass_on, act_on, to_is, stopped_at}
+use Rattle.node_arena.proofs.Paths.{walk_then, then_act, act_then, then_stored, then_slots, quiet_slots, failed-append, failed_behind, stopped_behind}
+use Rattle.node_arena.proofs.Paths.{then_shut, event, walk_on, walk_silent, shut_on, pass_on, act_on, to_is, stopped_at}
 use Rattle.node_arena.specs.Loads.{GivesSlot}
 use Rattle.node_arena.proofs.Loads.{gives_slot, gives_then, then_gives}
 use Rattle.node_arena.specs.Machine.{value_of}
@@ -34,12 +35,15 @@ use Rattle.nonblocking.proofs.FailedTurns.{turns_then, fails_last}
 use Rattle.nonblocking.proofs.PushStands.{after_e2, after_e5, after_e6, after_e13, after_e17, Worn, Third, after_e3, Seventh, after_e7, Ninth, after_e9}
 
 -- after E2
-pub to_e3 : {T : Type 0} (r : Arena) (s t : Seat T) (prologue : Prologue) (l : Line) (a b : Running) → CallIsAt r s prologue E2 a → Follows r s t prologue E2 a (Goes l b) → CallIsAt r t continues E3 b × (b ≡ a)
+pub to_e3 : {T : Type 0} (r : Arena) (s t : Seat T) (prologue : Prologue) (l : Line) (a b : Running) → CallIsAt r s prologue E2 a
+    → Follows r s t prologue E2 a (Goes l b) → CallIsAt r t continues E3 b × (b ≡ a)
 to_e3 r s t prologue l a b h f = let e : b ≡ a = same_registers l E3 b a f.leads_to in (subst (CallIsAt r t continues E3) (sym e) (after_e2 r s t prologue f.found a h f.did), e)
 
 -- a word was found worn out at the last of some lines, no turn having failed
-module _ {T : Type 0} (r : Arena) (s u t : Seat T) (l : Line) (n : ℕ) (a : Running) (h : CallIsAt r u continues l a) (d : DidStep r u t continues l n) (before : List Event) (w : ExtendsPath (view s) (view u) before) where
-  found_worn : (p : Option Held) (word : WornWord) (refusal : Refusal) → failed_turns (before ++ event r u t continues l n d ∷ []) ≡ 0 → Worn r u t continues l n a h d p word refusal → FoundWorn r s t p (before ++ event r u t continues l n d ∷ []) word refusal
+module _ {T : Type 0} (r : Arena) (s u t : Seat T) (l : Line) (n : ℕ) (a : Running) (h : CallIsAt r u continues l a) (d : DidStep r u t continues l n)
+    (before : List Event) (w : ExtendsPath (view s) (view u) before) where
+  found_worn : (p : Option Held) (word : WornWord) (refusal : Refusal) → failed_turns (before ++ event r u t continues l n d ∷ []) ≡ 0
+      → Worn r u t continues l n a h d p word refusal → FoundWorn r s t p (before ++ event r u t continues l n d ∷ []) word refusal
   found_worn p word refusal never k =
       record {
         seat = d.seat;
@@ -51,7 +55,8 @@ module _ {T : Type 0} (r : Arena) (s u t : Seat T) (l : Line) (n : ℕ) (a : Run
       }
 
 -- E2 and E3
-module _ {T : Type 0} (r : Arena) (s u t : Seat T) (prologue : Prologue) (l : Line) (a b : Running) (out : Outcome Running) (h : CallIsAt r s prologue E2 a) (f : Follows r s u prologue E2 a (Goes l b)) (g : Follows r u t continues E3 b out) where
+module _ {T : Type 0} (r : Arena) (s u t : Seat T) (prologue : Prologue) (l : Line) (a b : Running) (out : Outcome Running)
+    (h : CallIsAt r s prologue E2 a) (f : Follows r s u prologue E2 a (Goes l b)) (g : Follows r u t continues E3 b out) where
   abbrev one : Event
   one = event r s u prologue E2 f.found f.did
 
@@ -83,13 +88,15 @@ module _ {T : Type 0} (r : Arena) (s u t : Seat T) (prologue : Prologue) (l : Li
       }
 
 -- after E5
-pub to_e6 : {T : Type 0} (r : Arena) (s t : Seat T) (l : Line) (a b : Running) → CallIsAt r s continues E5 a → Follows r s t continues E5 a (Goes l b) → CallIsAt r t continues E6 b × (in_hand b ≡ in_hand a) × (b.val ≡ a.val)
+pub to_e6 : {T : Type 0} (r : Arena) (s t : Seat T) (l : Line) (a b : Running) → CallIsAt r s continues E5 a → Follows r s t continues E5 a (Goes l b)
+    → CallIsAt r t continues E6 b × (in_hand b ≡ in_hand a) × (b.val ≡ a.val)
 to_e6 r s t l a b h f =
     let e = same_registers l E6 b (record a { tail = ref_of r.plan.setup.bits f.found }) f.leads_to in
     (subst (CallIsAt r t continues E6) (sym e) (after_e5 r s t continues f.found a h f.did), ap in_hand e, ap (λ (x : Running). x.val) e)
 
 -- after E6
-pub to_e7 : {T : Type 0} (r : Arena) (s t : Seat T) (l : Line) (a b : Running) → CallIsAt r s continues E6 a → Follows r s t continues E6 a (Goes l b) → CallIsAt r t continues E7 b × (in_hand b ≡ in_hand a) × (b.val ≡ a.val)
+pub to_e7 : {T : Type 0} (r : Arena) (s t : Seat T) (l : Line) (a b : Running) → CallIsAt r s continues E6 a → Follows r s t continues E6 a (Goes l b)
+    → CallIsAt r t continues E7 b × (in_hand b ≡ in_hand a) × (b.val ≡ a.val)
 to_e7 r s t l a b h f =
     let e = same_registers l E7 b (record a { next = ref_of r.plan.setup.bits f.found }) f.leads_to in
     (subst (CallIsAt r t continues E7) (sym e) (after_e6 r s t continues f.found a h f.did), ap in_hand e, ap (λ (x : Running). x.val) e)
@@ -114,7 +121,8 @@ module _ {T : Type 0} (r : Arena) (s t : Seat T) (l : Line) (n : ℕ) (d : DidSt
       }
 
 -- E5 to E7
-module _ {T : Type 0} (r : Arena) (s u v t : Seat T) (l k : Line) (a b c : Running) (out : Outcome Running) (h : CallIsAt r s continues E5 a) (f : Follows r s u continues E5 a (Goes l b)) (g : Follows r u v continues E6 b (Goes k c)) (m : Follows r v t continues E7 c out) where
+module _ {T : Type 0} (r : Arena) (s u v t : Seat T) (l k : Line) (a b c : Running) (out : Outcome Running) (h : CallIsAt r s continues E5 a)
+    (f : Follows r s u continues E5 a (Goes l b)) (g : Follows r u v continues E6 b (Goes k c)) (m : Follows r v t continues E7 c out) where
   abbrev five : Event
   five = event r s u continues E5 f.found f.did
 
@@ -180,7 +188,8 @@ module _ {T : Type 0} (r : Arena) (s u v t : Seat T) (l k : Line) (a b c : Runni
   looks =
       record {
         stored = then_stored s v t (then_stored s u v f.did.stored g.did.stored) m.did.stored;
-        slots = then_slots s v t (then_slots s u v (quiet_slots r s u continues E5 f.found f.did refl) (quiet_slots r u v continues E6 g.found g.did refl)) (quiet_slots r v t continues E7 m.found m.did refl);
+        slots = then_slots s v t (then_slots s u v (quiet_slots r s u continues E5 f.found f.did refl)
+            (quiet_slots r u v continues E6 g.found g.did refl)) (quiet_slots r v t continues E7 m.found m.did refl);
         lines = before ++ seven ∷ [];
         looked = subst (Looked r s t a (before ++ seven ∷ [])) (sym m.leads_to) (looked (follow r.plan.setup c E7 m.found) (after_e7 r v t continues m.found c at7.0 m.did));
       }
@@ -196,7 +205,8 @@ module _ {T : Type 0} (r : Arena) (s t : Seat T) (a : Running) (out : Outcome Ru
   at_ninth : (o : Outcome Running) → out ≡ o → Ninth r s t continues f.found a h f.did o
   at_ninth o e = subst (Ninth r s t continues f.found a h f.did) e ninth
 
-  acts : entries_at r.plan.setup f.did.told.was (view s).number (view s).actor E9 ≡ Push (view s).number (view s).actor.val.body ∷ [] → Acts (view s) (view t) (Push (view s).number (value_of a.val).body) (nine ∷ [])
+  acts : entries_at r.plan.setup f.did.told.was (view s).number (view s).actor E9 ≡ Push (view s).number (view s).actor.val.body ∷ []
+      → Acts (view s) (view t) (Push (view s).number (value_of a.val).body) (nine ∷ [])
   acts won = act_on r s t continues E9 f.found f.did (Push (view s).number (value_of a.val).body) (won ∙ ap (λ (v : Taken). Push (view s).number v.body ∷ []) h.hand.val) tt
 
   gave : entries_at r.plan.setup f.did.told.was (view s).number (view s).actor E9 ≡ Push (view s).number (view s).actor.val.body ∷ [] → GivesSlot r (value_of a.val).body s t
@@ -254,7 +264,8 @@ module _ {T : Type 0} (r : Arena) (s t : Seat T) (a : Running) (out : Outcome Ru
           over = over.0;
           empty = over.1;
           never = (let z : at_e5 nine.to ≡ 0 = ap at_e5 (to_is r s t continues E9 f.found f.did ∙ k.0.before.line) in omega arith);
-          acts = act_then (view s) (view t) (view u) (Push (view s).number (value_of a.val).body) (nine ∷ []) (event r t u continues E17 g.found g.did ∷ []) (acts k.1) (pass_on r t u continues E17 g.found g.did refl tt refl);
+          acts = act_then (view s) (view t) (view u) (Push (view s).number (value_of a.val).body) (nine ∷ [])
+              (event r t u continues E17 g.found g.did ∷ []) (acts k.1) (pass_on r t u continues E17 g.found g.did refl tt refl);
         };
       }
 
@@ -354,7 +365,8 @@ module _ {T : Type 0} (r : Arena) (s t : Seat T) (a : Running) (out : Outcome Ru
             over = y.over;
             empty = y.empty;
             never = none 0 y.never;
-            acts = then_act (view s) (view t) (view u) (Push (view t).number (value_of c.val).body) (Push (view s).number (value_of a.val).body) f.lines g.lines (λ i. Push (walks.number i) (body i)) walks y.acts;
+            acts = then_act (view s) (view t) (view u) (Push (view t).number (value_of c.val).body) (Push (view s).number (value_of a.val).body)
+                f.lines g.lines (λ i. Push (walks.number i) (body i)) walks y.acts;
           }
       go Failed y = (
         walk_then (view s) (view t) (view u) f.lines g.lines walks y.0,

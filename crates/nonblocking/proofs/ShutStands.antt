@@ -35,7 +35,9 @@ module _ {T : Type 0} (r : Arena) (s t : Seat T) (prologue : Prologue) (n : ℕ)
   holds l h d o e same = settled r s t prologue l n d o e (λ x. x.pocket ≡ pocket_of t) (λ x. same ∙ h ∙ sym d.stored.pocket)
 
   -- a step with such an outcome leads on to a line
-  leads : (l : Line) → CallIsAt r s prologue l a → (d : DidStep r s t prologue l n) (o : MachineOutcome) → out_at l d ≡ o → (k : Line) (c : Running) → o.actor.line ≡ Some k → o.actor.pocket ≡ b.pocket → ((x : Option ℕ) → AgreesAt k (record o.actor { entry = x }) c) → CallIsAt r t continues k c
+  leads : (l : Line) → CallIsAt r s prologue l a → (d : DidStep r s t prologue l n) (o : MachineOutcome) → out_at l d ≡ o → (k : Line) (c : Running)
+      → o.actor.line ≡ Some k → o.actor.pocket ≡ b.pocket → ((x : Option ℕ) → AgreesAt k (record o.actor { entry = x }) c)
+      → CallIsAt r t continues k c
   leads l h d o e k c line same knows =
       record {
         before = goes_on r s t prologue l n d o e k line;
@@ -44,7 +46,8 @@ module _ {T : Type 0} (r : Arena) (s t : Seat T) (prologue : Prologue) (n : ℕ)
       }
 
   -- or ends the call
-  over : (l : Line) → CallIsAt r s prologue l a → (d : DidStep r s t prologue l n) (o : MachineOutcome) → out_at l d ≡ o → o.actor.line ≡ None → o.actor.pocket ≡ b.pocket → ((view t).actor.line ≡ None) × HasPocket r t continues
+  over : (l : Line) → CallIsAt r s prologue l a → (d : DidStep r s t prologue l n) (o : MachineOutcome) → out_at l d ≡ o → o.actor.line ≡ None
+      → o.actor.pocket ≡ b.pocket → ((view t).actor.line ≡ None) × HasPocket r t continues
   over l h d o e line same = (settled r s t prologue l n d o e (λ x. x.line ≡ None) (λ x. line), holds l h.pocket d o e same)
 
   pub after_s1 : CallIsAt r s prologue S1 a → DidStep r s t prologue S1 n → CallIsAt r t continues S2 (record a { tail = ref_of r.plan.setup.bits n })
@@ -89,16 +92,23 @@ module _ {T : Type 0} (r : Arena) (s t : Seat T) (prologue : Prologue) (n : ℕ)
         now : ℕ
         now = d.told.was.world.steps + 1
 
-        o : (p q c u : Bool) → same_ref (ref_of r.plan.setup.bits n) a.tail ≡ p → is_null a.next ≡ q → is_shut r.plan.setup.bits a.next ≡ c → nat_eq a.tail.count r.plan.setup.limit ≡ u → out_at S3 d ≡ third now p q c u
-        o p q c u x y v w = λ i. third now (((λ j. same_ref (sym (ref_s3 r s t prologue n d) j) (h.knows.0 j)) ∙ x) i) ((ap is_null h.knows.1 ∙ y) i) ((ap (is_shut r.plan.setup.bits) h.knows.1 ∙ v) i) ((ap (λ (k : Ref). nat_eq k.count r.plan.setup.limit) h.knows.0 ∙ w) i)
+        o : (p q c u : Bool) → same_ref (ref_of r.plan.setup.bits n) a.tail ≡ p → is_null a.next ≡ q → is_shut r.plan.setup.bits a.next ≡ c
+            → nat_eq a.tail.count r.plan.setup.limit ≡ u → out_at S3 d ≡ third now p q c u
+        o p q c u x y v w = λ i. third now (((λ j. same_ref (sym (ref_s3 r s t prologue n d) j) (h.knows.0 j)) ∙ x) i) ((ap is_null h.knows.1 ∙ y) i)
+            ((ap (is_shut r.plan.setup.bits) h.knows.1 ∙ v) i) ((ap (λ (k : Ref). nat_eq k.count r.plan.setup.limit) h.knows.0 ∙ w) i)
 
-        on : (p q c u : Bool) → out_at S3 d ≡ third now p q c u → IsSilent (third now p q c u).reply → (k : Line) → (third now p q c u).actor.line ≡ Some k → (third now p q c u).actor.pocket ≡ b.pocket → ((x : Option ℕ) → AgreesAt k (record (third now p q c u).actor { entry = x }) a) → CallIsAt r t continues k a × Quiet
+        on : (p q c u : Bool) → out_at S3 d ≡ third now p q c u → IsSilent (third now p q c u).reply → (k : Line)
+            → (third now p q c u).actor.line ≡ Some k → (third now p q c u).actor.pocket ≡ b.pocket
+            → ((x : Option ℕ) → AgreesAt k (record (third now p q c u).actor { entry = x }) a) → CallIsAt r t continues k a × Quiet
         on p q c u e quiet k line same knows = (leads S3 h d (third now p q c u) e k a line same knows, subst (λ (m : MachineOutcome). IsSilent m.reply) (sym e) quiet)
 
-        stops : (p q c u : Bool) (refusal : Refusal) → out_at S3 d ≡ third now p q c u → (third now p q c u).actor.line ≡ None → (third now p q c u).actor.pocket ≡ b.pocket → (third now p q c u).reply ≡ Some (reply.Refused refusal) → Stopped refusal
-        stops p q c u refusal e line same replies = let k = over S3 h d (third now p q c u) e line same in record { over = k.0; pocket = k.1; replies = ap (λ (m : MachineOutcome). m.reply) e ∙ replies }
+        stops : (p q c u : Bool) (refusal : Refusal) → out_at S3 d ≡ third now p q c u → (third now p q c u).actor.line ≡ None
+            → (third now p q c u).actor.pocket ≡ b.pocket → (third now p q c u).reply ≡ Some (reply.Refused refusal) → Stopped refusal
+        stops p q c u refusal e line same replies = let k = over S3 h d (third now p q c u) e line same in record
+            { over = k.0; pocket = k.1; replies = ap (λ (m : MachineOutcome). m.reply) e ∙ replies }
 
-        go : (p q c u : Bool) → same_ref (ref_of r.plan.setup.bits n) a.tail ≡ p → is_null a.next ≡ q → is_shut r.plan.setup.bits a.next ≡ c → nat_eq a.tail.count r.plan.setup.limit ≡ u → Third (leads_to p q c u)
+        go : (p q c u : Bool) → same_ref (ref_of r.plan.setup.bits n) a.tail ≡ p → is_null a.next ≡ q → is_shut r.plan.setup.bits a.next ≡ c
+            → nat_eq a.tail.count r.plan.setup.limit ≡ u → Third (leads_to p q c u)
         go true true c u x y v w = on true true c u (o true true c u x y v w) tt S4 refl refl (λ z. h.knows)
         go true false true u x y v w = stops true false true u Closed (o true false true u x y v w) refl refl refl
         go true false false true x y v w = (stops true false false true (WornOut OfTail) (o true false false true x y v w) refl refl refl, refl)

@@ -34,10 +34,12 @@ module _ {T : Type 0} (r : Arena) (s t : Seat T) (prologue : Prologue) (n : ℕ)
   ref_s1 d = read_back r.plan.setup.bits d.told.sized.split d.told.was.world.shared.tail n (was_fits r.plan prologue S1 n (view s) (view t) d.told WordTail) d.told.found
 
   pub ref_s2 : (d : DidStep r s t prologue S2 n) → ref_of r.plan.setup.bits n ≡ (node_at d.told.was.world.shared c.tail.node).next
-  ref_s2 d = read_back r.plan.setup.bits d.told.sized.split (node_at d.told.was.world.shared c.tail.node).next n (was_fits r.plan prologue S2 n (view s) (view t) d.told (WordNext c.tail.node)) d.told.found
+  ref_s2 d = read_back r.plan.setup.bits d.told.sized.split (node_at d.told.was.world.shared c.tail.node).next n
+      (was_fits r.plan prologue S2 n (view s) (view t) d.told (WordNext c.tail.node)) d.told.found
 
   pub ref_s3 : (d : DidStep r s t prologue S3 n) → ref_of r.plan.setup.bits n ≡ d.told.was.world.shared.tail
   ref_s3 d = read_back r.plan.setup.bits d.told.sized.split d.told.was.world.shared.tail n (was_fits r.plan prologue S3 n (view s) (view t) d.told WordTail) d.told.found
 
   pub ref_s4 : (d : DidStep r s t prologue S4 n) → ref_of r.plan.setup.bits n ≡ (node_at d.told.was.world.shared c.tail.node).next
-  ref_s4 d = read_back r.plan.setup.bits d.told.sized.split (node_at d.told.was.world.shared c.tail.node).next n (was_fits r.plan prologue S4 n (view s) (view t) d.told (WordNext c.tail.node)) d.told.found
+  ref_s4 d = read_back r.plan.setup.bits d.told.sized.split (node_at d.told.was.world.shared c.tail.node).next n
+      (was_fits r.plan prologue S4 n (view s) (view t) d.told (WordNext c.tail.node)) d.told.found

@@ -15,7 +15,8 @@ use Rattle.node_arena.specs.Seats.{KeepsStored, KeepsSlots, view}
 use Rattle.node_arena.specs.Turns.{failed_at, failed_turns}
 use Rattle.node_arena.specs.Paths.{ExtendsPath}
 use Rattle.node_arena.proofs.Noting.{IsSilent}
-use Rattle.node_arena.proofs.Paths.{walk_then, then_act, then_stored, then_slots, quiet_slots, then_shut, stopped_behind, failed_behind, failed-append, event, walk_on, walk_silent, shut_on, act_on, stopped_at}
+use Rattle.node_arena.proofs.Paths.{walk_then, then_act, then_stored, then_slots, quiet_slots, then_shut, stopped_behind, failed_behind}
+use Rattle.node_arena.proofs.Paths.{failed-append, event, walk_on, walk_silent, shut_on, act_on, stopped_at}
 use Rattle.node_arena.proofs.Loads.{shut_slots}
 use Rattle.arena_lines.specs.declared.outcomes.Outcome.{Outcome}
 use Rattle.arena_lines.specs.declared.outcomes.Outcome.TheVariants.{Goes, Ends}
@@ -29,13 +30,16 @@ use Rattle.nonblocking.proofs.ShutStands.{after_s1, after_s2, after_s5, Third, a
 
 -- after S1 and S2
 pub to_s2 : {T : Type 0} (r : Arena) (s t : Seat T) (prologue : Prologue) (l : Line) (a b : Running) → CallIsAt r s prologue S1 a → Follows r s t prologue S1 a (Goes l b) → CallIsAt r t continues S2 b
-to_s2 r s t prologue l a b h f = subst (CallIsAt r t continues S2) (sym (same_registers l S2 b (record a { tail = ref_of r.plan.setup.bits f.found }) f.leads_to)) (after_s1 r s t prologue f.found a h f.did)
+to_s2 r s t prologue l a b h f = subst (CallIsAt r t continues S2) (sym (same_registers l S2 b (record a { tail = ref_of r.plan.setup.bits f.found })
+    f.leads_to)) (after_s1 r s t prologue f.found a h f.did)
 
 pub to_s3 : {T : Type 0} (r : Arena) (s t : Seat T) (l : Line) (a b : Running) → CallIsAt r s continues S2 a → Follows r s t continues S2 a (Goes l b) → CallIsAt r t continues S3 b
 to_s3 r s t l a b h f = subst (CallIsAt r t continues S3) (sym (same_registers l S3 b (record a { next = ref_of r.plan.setup.bits f.found }) f.leads_to)) (after_s2 r s t continues f.found a h f.did)
 
 -- the lines S1 to S3
-module _ {T : Type 0} (r : Arena) (s u v t : Seat T) (prologue : Prologue) (l k : Line) (a b c : Running) (out : Outcome Running) (h : CallIsAt r s prologue S1 a) (f : Follows r s u prologue S1 a (Goes l b)) (g : Follows r u v continues S2 b (Goes k c)) (m : Follows r v t continues S3 c out) where
+module _ {T : Type 0} (r : Arena) (s u v t : Seat T) (prologue : Prologue) (l k : Line) (a b c : Running) (out : Outcome Running)
+    (h : CallIsAt r s prologue S1 a) (f : Follows r s u prologue S1 a (Goes l b)) (g : Follows r u v continues S2 b (Goes k c))
+    (m : Follows r v t continues S3 c out) where
   abbrev one : Event
   one = event r s u prologue S1 f.found f.did
 
@@ -106,7 +110,8 @@ module _ {T : Type 0} (r : Arena) (s u v t : Seat T) (prologue : Prologue) (l k 
         seat = m.did.seat;
         pocket = all.0;
         stored = then_stored s v t (then_stored s u v f.did.stored g.did.stored) m.did.stored;
-        slots = then_slots s v t (then_slots s u v (quiet_slots r s u prologue S1 f.found f.did refl) (quiet_slots r u v continues S2 g.found g.did refl)) (quiet_slots r v t continues S3 m.found m.did refl);
+        slots = then_slots s v t (then_slots s u v (quiet_slots r s u prologue S1 f.found f.did refl)
+            (quiet_slots r u v continues S2 g.found g.did refl)) (quiet_slots r v t continues S3 m.found m.did refl);
         lines = before ++ three ∷ [];
         looked = all.1;
       }
@@ -198,4 +203,11 @@ module _ {T : Type 0} (r : Arena) (s t x : Seat T) (es : List Event) (stored : K
           }
 
   pub turn_behind : (out : Turn) → Turns r t x out → Turns r s x out
-  turn_behind out d = record { seat = d.seat; pocket = d.pocket; stored = then_stored s t x stored d.stored; slots = then_slots s t x slots d.slots; lines = es ++ d.lines; turned = behind out d.lines d.turned }
+  turn_behind out d = record {
+    seat = d.seat;
+    pocket = d.pocket;
+    stored = then_stored s t x stored d.stored;
+    slots = then_slots s t x slots d.slots;
+    lines = es ++ d.lines;
+    turned = behind out d.lines d.turned;
+  }

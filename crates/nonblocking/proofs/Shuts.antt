@@ -12,7 +12,8 @@ use Rattle.node_arena.specs.declared.seats.Seat.{Seat}
 use Rattle.node_arena.specs.Seats.{IsSeat, IsReady, KeepsStored, KeepsName, view, keeping, pocket_of}
 use Rattle.node_arena.specs.Turns.{failed_turns}
 use Rattle.node_arena.specs.Paths.{ExtendsPath, FindsShut, StopsAPush, Acts, added}
-use Rattle.node_arena.proofs.Paths.{no_walk, walk_then, then_act, then_stored, no_slots, then_slots, then_shut, added_is, added_path, last_held, ends_failed, stopped_behind, failed-append, failed_behind, kept_seat}
+use Rattle.node_arena.proofs.Paths.{no_walk, walk_then, then_act, then_stored, no_slots, then_slots, then_shut, added_is, added_path, last_held}
+use Rattle.node_arena.proofs.Paths.{ends_failed, stopped_behind, failed-append, failed_behind, kept_seat}
 use Rattle.node_arena.proofs.Loads.{kept_slots}
 use Rattle.arena_queue.specs.Answers.{ShutRefused, AnswersShut}
 use Rattle.nonblocking.specs.Values.{IsNonBlocking}
@@ -79,7 +80,8 @@ module _ {T : Type 0} (r : Arena) (s t x : Seat T) (p : Option Held) (n turns : 
   pub shut_ends : n < turns → Turns r t x turn.Shut → AnswersShut shut_worn r s (keeping x p n) turns (Ok tt)
   shut_ends less d =
       let es : List Event = g.lines ++ d.lines in
-      let acts : Acts (view s) (view x) (entry.Shut (view s).number) es = then_act (view s) (view t) (view x) (entry.Shut (view t).number) (entry.Shut (view s).number) g.lines d.lines (λ i. entry.Shut (g.walks.number i)) g.walks d.turned.acts in
+      let acts : Acts (view s) (view x) (entry.Shut (view s).number) es = then_act (view s) (view t) (view x) (entry.Shut (view t).number)
+      (entry.Shut (view s).number) g.lines d.lines (λ i. entry.Shut (g.walks.number i)) g.walks d.turned.acts in
       let e : added s x ≡ es = added_path s x es acts.path in
       record {
         ready = ready_over r s x p n is (stored_then d.stored) d.seat d.pocket d.turned.over;
@@ -128,7 +130,8 @@ module _ {T : Type 0} (r : Arena) (s t x : Seat T) (p : Option Held) (n turns : 
               )
 
 -- all turns failed
-pub shut_gives_up : {T : Type 0} (r : Arena) (s t : Seat T) (p : Option Held) (turns n : ℕ) → 1 ≤ n → n ≡ turns → p ≡ pocket_of s → Trying r s t n → AnswersShut shut_worn r s (keeping t p turns) turns (Err Busy)
+pub shut_gives_up : {T : Type 0} (r : Arena) (s t : Seat T) (p : Option Held) (turns n : ℕ) → 1 ≤ n → n ≡ turns → p ≡ pocket_of s → Trying r s t n
+    → AnswersShut shut_worn r s (keeping t p turns) turns (Err Busy)
 shut_gives_up r s t p turns zero some all is g = absurd (omega arith)
 shut_gives_up r s t p turns (suc m) some all is g =
     let e : added s t ≡ g.lines = added_is s t g.lines g.walks in

@@ -2,7 +2,10 @@
 -- there, a call that it begins or gives up doesn't raise it, and another actor's step raises it by its toll at most.
 use Rattle.std.proofs.Common.{◌≡◌, ℕ, zero, suc, ◌+◌, ◌-◌, ◌≤◌, Bool, true, false, nat_eq, if◌then◌else◌, ◌⊎◌, inl, inr, List, [], ◌∷◌, get_or, set, Option, Some, None, refl, sym, ap, subst, arith}
 use Rattle.std.proofs.lemmas.Option.{none-some, same_Some}
-use Rattle.step_machine.specs.Below.{Ref, ref, reserved_node, is_null, is_shut, same_ref, Kind, NonBlocking, Line, N1, N2, N3, N4, N5, F1, F2, F3, E2, E6, E7, E9, E13, E17, D2, D3, D4, D5, D10, D12, D13, A1, S1, S2, S3, S4, S5, section_of, Op, Enq, Deq, Shut, Held, Reply, Setup, Node, Actor, Outcome, Shared, blank, node_at, put, performed, found, Next, action, outcome, raised_end, gives_up, begun, from_pocket, first_words}
+use Rattle.step_machine.specs.Below.{Ref, ref, reserved_node, is_null, is_shut, same_ref, Kind, NonBlocking, Line, N1, N2, N3, N4, N5, F1, F2, F3, E2}
+use Rattle.step_machine.specs.Below.{E6, E7, E9, E13, E17, D2, D3, D4, D5, D10, D12, D13, A1, S1, S2, S3, S4, S5, section_of, Op, Enq, Deq, Shut}
+use Rattle.step_machine.specs.Below.{Held, Reply, Setup, Node, Actor, Outcome, Shared, blank, node_at, put, performed, found, Next, action, outcome}
+use Rattle.step_machine.specs.Below.{raised_end, gives_up, begun, from_pocket, first_words}
 use Rattle.step_machine.specs.Machine.{World, opening, actor_of, rested, may_rest, IsReached}
 use Rattle.step_machine.specs.Places.{IsEnd}
 use Rattle.step_machine.specs.ProgramCounters.{IsRunBy}
@@ -78,7 +81,9 @@ module _ (s : Setup) (m : Shared) (k : ℕ) (r : Ref) (null : r.node ≡ 0) wher
       closed true = refl
       closed false = end_names s.bits (raised_end s r).node closes
 
-      go : (node_at (put (Next k) (raised_end s r) m) m.tail.node ≡ record (node_at m k) { next = raised_end s r }) ⊎ (node_at (put (Next k) (raised_end s r) m) m.tail.node ≡ node_at m m.tail.node) → if_so (tail_lags s (put (Next k) (raised_end s r) m)) 1 ≤ if_so (tail_lags s m) 1
+      go : (node_at (put (Next k) (raised_end s r) m) m.tail.node ≡ record (node_at m k) { next = raised_end s r })
+          ⊎ (node_at (put (Next k) (raised_end s r) m) m.tail.node ≡ node_at m m.tail.node)
+          → if_so (tail_lags s (put (Next k) (raised_end s r) m)) 1 ≤ if_so (tail_lags s m) 1
       go (inl e) = omega (arith, ap (λ x. if_so (lags_by x) 1) e, ap (λ b. if_so b 1) (closed (nat_eq m.tail.count s.limit)))
       go (inr e) = omega (arith, ap (λ x. if_so (lags_by x) 1) e)
 
@@ -115,7 +120,8 @@ nothing_kept None = refl
 nothing_kept (Some held) = refl
 
 module _ (s : Setup) (m : Shared) where
-  by_pocket : (l : Line) (q : Option Held) (b : Actor) (most : ℕ) → amount s m b b.line ≤ most → ((x : Actor) → own turns s m x l + spare (Some l) ≤ most) → amount s m (from_pocket l q b) (from_pocket l q b).line ≤ most
+  by_pocket : (l : Line) (q : Option Held) (b : Actor) (most : ℕ) → amount s m b b.line ≤ most
+      → ((x : Actor) → own turns s m x l + spare (Some l) ≤ most) → amount s m (from_pocket l q b) (from_pocket l q b).line ≤ most
   by_pocket l None b most h g = h
   by_pocket l (Some held) b most h g = omega (arith, g (from_pocket l (Some held) b))
 
@@ -146,7 +152,9 @@ module _ (w : World) (r : IsReached w) (e : w.setup.kind ≡ NonBlocking) (you :
   Falls l m' o = amount w.setup m' o.actor o.actor.line + failed turns w.shared a l ≤ amount w.setup w.shared a (Some l)
 
   -- an exchange at S4 that was lost leads to S1
-  missed : (b : Bool) (m m' : Shared) (o o' : Outcome) → b ≡ false → amount_at turns w.setup (if b then m else m') (if b then o else o').actor (if b then o else o').actor.line + counted turns w.shared a S4 ≤ amount_at turns w.setup w.shared a (Some S4) → amount_at turns w.setup m' o'.actor o'.actor.line + counted turns w.shared a S4 ≤ amount_at turns w.setup w.shared a (Some S4)
+  missed : (b : Bool) (m m' : Shared) (o o' : Outcome) → b ≡ false → amount_at turns w.setup (if b then m else m') (if b then o else o').actor
+      (if b then o else o').actor.line + counted turns w.shared a S4 ≤ amount_at turns w.setup w.shared a (Some S4)
+      → amount_at turns w.setup m' o'.actor o'.actor.line + counted turns w.shared a S4 ≤ amount_at turns w.setup w.shared a (Some S4)
   missed true m m' o o' i h = absurd (let f : true ≡ false = i in cc)
   missed false m m' o o' i h = h
 
@@ -163,7 +171,9 @@ module _ (w : World) (r : IsReached w) (e : w.setup.kind ≡ NonBlocking) (you :
   step_own S4 at =
       tried (Falls S4) (same_ref (node_at w.shared a.tail.node).next a.next)
       (λ i. omega (arith, ap (λ b. unless b 1) i, shut_lags w.setup w.shared a.tail.node a.next (at_line w r e you a S4 is at).knows.0))
-      (λ i. let f : amount_at turns w.setup w.shared a (Some S1) + counted turns w.shared a S4 ≤ amount_at turns w.setup w.shared a (Some S4) = missed (same_ref (node_at w.shared a.tail.node).next a.next) _ _ _ _ i (step_lowers turns enough w r e you a S4 is at).mine in omega (arith, f))
+      (λ i. let f : amount_at turns w.setup w.shared a (Some S1) + counted turns w.shared a S4 ≤ amount_at turns w.setup w.shared a (Some S4) =
+      missed (same_ref (node_at w.shared a.tail.node).next a.next) _ _ _ _ i (step_lowers turns enough w r e you a S4 is at).mine in omega
+      (arith, f))
   step_own S5 at = omega (arith, (step_lowers turns enough w r e you a S5 is at).mine)
   step_own l at = omega (arith, (step_lowers turns enough w r e you a l is at).mine, spare_most (outcome w.setup (w.steps + 1) you a l (found (action w.setup you a l) w.shared)).actor.line)
 
@@ -175,7 +185,8 @@ module _ (w : World) (r : IsReached w) (e : w.setup.kind ≡ NonBlocking) (you :
   given_own S4 o at given = absurd (none-some o given)
   given_own S5 o at given = absurd (none-some o given)
   given_own l o at given =
-      let f = some_of (Lowers turns w.setup w.shared w.shared (stage a.due l) (amount_at turns w.setup w.shared a (Some l)) 0 0) (gives_up (w.steps + 1) a l) o given (give_lowers turns enough w r e you a l is at) in
+      let f = some_of (Lowers turns w.setup w.shared w.shared (stage a.due l) (amount_at turns w.setup w.shared a (Some l)) 0 0)
+      (gives_up (w.steps + 1) a l) o given (give_lowers turns enough w r e you a l is at) in
       omega (arith, f.mine, spare_most o.actor.line)
 
 -- how much an actor has before it at most, at any line, and where a call begins
@@ -231,4 +242,5 @@ has_first s n me = go (actor_of (opening s n) me) refl
   where
     go : (o : Option Actor) → actor_of (opening s n) me ≡ o → has_of s (first_words s.size) o ≤ 1
     go None is = omega arith
-    go (Some a) is = subst (λ (x : Actor). amount s (first_words s.size) x x.line ≤ 1) (idle_got n (me - 1) a (actor_stands (opening s n) me a is).1) (omega (arith, ap (λ b. if_so b 1) (open_first s)))
+    go (Some a) is = subst (λ (x : Actor). amount s (first_words s.size) x x.line ≤ 1) (idle_got n (me - 1) a (actor_stands (opening s n) me a is).1)
+        (omega (arith, ap (λ b. if_so b 1) (open_first s)))

@@ -1,6 +1,7 @@
 -- What a move of a traced world adds to the path of a seat, to the history, and to the nodes of the others; and that the turn
 -- that fails there is paid.
-use Rattle.std.proofs.Common.{◌≡◌, ◌≢◌, ℕ, ◌+◌, ◌-◌, ◌≤◌, Bool, true, false, nat_eq, if◌then◌else◌, ◌⊎◌, inl, inr, List, [], ◌∷◌, ◌++◌, append-nil, length, Option, Some, None, IfSome, refl, sym, ap, ◌∙◌, subst, arith}
+use Rattle.std.proofs.Common.{◌≡◌, ◌≢◌, ℕ, ◌+◌, ◌-◌, ◌≤◌, Bool, true, false, nat_eq, if◌then◌else◌, ◌⊎◌, inl, inr, List, [], ◌∷◌, ◌++◌, append-nil}
+use Rattle.std.proofs.Common.{length, Option, Some, None, IfSome, refl, sym, ap, ◌∙◌, subst, arith}
 use Rattle.std.specs.List.{sum_by, range_with_len}
 use Rattle.std.proofs.Math.ListN.{length-set}
 use Rattle.std.proofs.lemmas.Bool.{ne_eqb}
@@ -79,13 +80,26 @@ module _ (t : Traced) (r : IsTraced t) (e : t.world.setup.kind ≡ NonBlocking) 
   began op free =
       let b : Actor = begun t.world.setup.kind you op a in
       by_seat (record t { world = with_actor t.world you b })
-      (stays you (with_actor t.world you b) (long b) (omega (arith, has_now t.world.shared b, has_here, ap (amount t.world.setup t.world.shared a) free, begun_own t.world.setup t.world.shared t.world.setup.kind you op a e)))
+      (stays you (with_actor t.world you b) (long b) (omega (
+        arith,
+        has_now t.world.shared b,
+        has_here,
+        ap (amount t.world.setup t.world.shared a) free,
+        begun_own t.world.setup t.world.shared t.world.setup.kind you op a e,
+      )))
       (λ me d. stays me (with_actor t.world you b) (long b) (omega (arith, has_else me t.world.shared b d)))
 
   at_rest : (l : Line) → a.line ≡ Some l → may_rest l ≡ true → (me : ℕ) → Goes me t (record t { world = with_actor t.world you (rested a) })
   at_rest l at may =
       by_seat (record t { world = with_actor t.world you (rested a) })
-      (stays you (with_actor t.world you (rested a)) (long (rested a)) (omega (arith, has_now t.world.shared (rested a), has_here, ap (amount t.world.setup t.world.shared a) at, rested_own t.world.setup t.world.shared a l (at_line t.world (traced_reached t r) e you a l is at).runs may)))
+      (stays you (with_actor t.world you (rested a)) (long (rested a)) (omega (
+        arith,
+        has_now t.world.shared (rested a),
+        has_here,
+        ap (amount t.world.setup t.world.shared a) at,
+        rested_own t.world.setup t.world.shared a l
+            (at_line t.world (traced_reached t r) e you a l is at).runs may,
+      )))
       (λ me d. stays me (with_actor t.world you (rested a)) (long (rested a)) (omega (arith, has_else me t.world.shared (rested a) d)))
 
   gave_up : (l : Line) (o : Outcome) → a.line ≡ Some l → gives_up (t.world.steps + 1) a l ≡ Some o → (me : ℕ) → Goes me t (record t { world = after_outcome t.world you a t.world.shared o })
@@ -93,7 +107,15 @@ module _ (t : Traced) (r : IsTraced t) (e : t.world.setup.kind ≡ NonBlocking) 
       let b : Actor = record o.actor { entry = Some (entry_or a.entry (length t.world.operations)) } in
       let v : World = after_outcome t.world you a t.world.shared o in
       by_seat (record t { world = v })
-      (stays you v (long b) (omega (arith, has_now t.world.shared b, entry_out t.world.setup t.world.shared o.actor (Some (entry_or a.entry (length t.world.operations))), has_here, ap (amount t.world.setup t.world.shared a) at, given_own t.world (traced_reached t r) e you a is l o at given)))
+      (stays you v (long b) (omega (
+        arith,
+        has_now t.world.shared b,
+        entry_out t.world.setup t.world.shared o.actor
+            (Some (entry_or a.entry (length t.world.operations))),
+        has_here,
+        ap (amount t.world.setup t.world.shared a) at,
+        given_own t.world (traced_reached t r) e you a is l o at given,
+      )))
       (λ me d. stays me v (long b) (omega (arith, has_else me t.world.shared b d)))
 
   module _ (l : Line) (at : a.line ≡ Some l) where
@@ -110,7 +132,9 @@ module _ (t : Traced) (r : IsTraced t) (e : t.world.setup.kind ≡ NonBlocking) 
     own_nodes : nodes_of_others you (step_at t you a l) ≡ nodes_of_others you t
     own_nodes =
         ap (λ k. sum_by (λ n. if nat_eq n you then 0 else nodes_on (changed t.paths you (t.paths you ++ event ∷ []) n)) (range_with_len 1 k)) (step_count t you a l)
-        ∙ sum_same (λ n. if nat_eq n you then 0 else nodes_on (t.paths n)) (λ n. if nat_eq n you then 0 else nodes_on (changed t.paths you (t.paths you ++ event ∷ []) n)) 1 (length t.world.actors) (λ n. own_out nodes_on (nat_eq n you) (t.paths you ++ event ∷ []) (t.paths n))
+        ∙ sum_same (λ n. if nat_eq n you then 0 else nodes_on (t.paths n)) (λ n. if nat_eq n you then 0 else nodes_on
+        (changed t.paths you (t.paths you ++ event ∷ []) n)) 1 (length t.world.actors)
+        (λ n. own_out nodes_on (nat_eq n you) (t.paths you ++ event ∷ []) (t.paths n))
 
     -- another seat sees one more where one is taken or given back
     module _ (me : ℕ) (d : you ≢ me) where
@@ -131,11 +155,14 @@ module _ (t : Traced) (r : IsTraced t) (e : t.world.setup.kind ≡ NonBlocking) 
       more_nodes =
           let there : (1 ≤ you) × (you ≤ length t.world.actors) = mover_in_range t.world you a is in
           ap (λ k. sum_by after_it (range_with_len 1 k)) (step_count t you a l)
-          ∙ sum_more before_it after_it you (nodes_at l told.actor.line) (λ n ne. ap (λ es. if nat_eq n me then 0 else nodes_on es) (changed_else t.paths you (t.paths you ++ event ∷ []) n ne)) here 1 (length t.world.actors) there.0 (omega (arith, there.1))
+          ∙ sum_more before_it after_it you (nodes_at l told.actor.line) (λ n ne. ap (λ es. if nat_eq n me then 0 else nodes_on es)
+          (changed_else t.paths you (t.paths you ++ event ∷ []) n ne)) here 1 (length t.world.actors) there.0 (omega (arith, there.1))
 
     stepped_own : Goes you t (step_at t you a l)
     stepped_own =
-        let now : has you (step_at t you a l) ≡ amount t.world.setup after told.actor told.actor.line = ap (has_of t.world.setup after) (step_here t you a l is) ∙ entry_out t.world.setup after told.actor (Some (entry_or a.entry (length t.world.operations))) in
+        let now : has you (step_at t you a l) ≡ amount t.world.setup after told.actor told.actor.line =
+        ap (has_of t.world.setup after) (step_here t you a l is) ∙ entry_out t.world.setup after told.actor
+        (Some (entry_or a.entry (length t.world.operations))) in
         record {
           lines = event ∷ [];
           path = changed_here t.paths you (t.paths you ++ event ∷ []);
@@ -143,7 +170,14 @@ module _ (t : Traced) (r : IsTraced t) (e : t.world.setup.kind ≡ NonBlocking) 
           history = refl;
           nodes = 0;
           taken = omega (arith, own_nodes);
-          falls = omega (arith, now, has_here, ap (amount t.world.setup t.world.shared a) at, step_own t.world (traced_reached t r) e you a is l at, failed_most t.world.setup t.world.shared (t.world.steps + 1) you a l (at_line t.world (traced_reached t r) e you a l is at).runs);
+          falls = omega (
+            arith,
+            now,
+            has_here,
+            ap (amount t.world.setup t.world.shared a) at,
+            step_own t.world (traced_reached t r) e you a is l at,
+            failed_most t.world.setup t.world.shared (t.world.steps + 1) you a l (at_line t.world (traced_reached t r) e you a l is at).runs,
+          );
         }
 
     stepped_else : (me : ℕ) → you ≢ me → Goes me t (step_at t you a l)
@@ -156,7 +190,13 @@ module _ (t : Traced) (r : IsTraced t) (e : t.world.setup.kind ≡ NonBlocking) 
           history = refl;
           nodes = nodes_at l told.actor.line;
           taken = more_nodes me d;
-          falls = omega (arith, now, rises _ _ _ _ _ _ _ _ (step_lowers turns enough t.world (traced_reached t r) e you a l is at) (actor_of t.world me), toll_paid t.world.setup t.world.shared (t.world.steps + 1) you a me l (ne_eqb you me d));
+          falls = omega (
+            arith,
+            now,
+            rises _ _ _ _ _ _ _ _ (step_lowers turns enough t.world (traced_reached t r) e you a l is at)
+                (actor_of t.world me),
+            toll_paid t.world.setup t.world.shared (t.world.steps + 1) you a me l (ne_eqb you me d),
+          );
         }
 
     pub goes_step : (me : ℕ) → Goes me t (step_at t you a l)

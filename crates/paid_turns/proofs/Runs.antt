@@ -1,5 +1,6 @@
 -- What moves add one after another: so each law, of the moves from the start on, and of those since a seat's path was shorter.
-use Rattle.std.proofs.Common.{◌≡◌, ◌≢◌, ℕ, ◌+◌, ◌≤◌, ◌<◌, Bool, true, false, nat_lt, ◌⊎◌, inl, inr, List, [], ◌∷◌, ◌++◌, append-nil, length, take, drop, cond, Option, Some, None, IfSome, refl, sym, ap, ◌∙◌, subst, arith, length-append, ltb-true, ltb-false}
+use Rattle.std.proofs.Common.{◌≡◌, ◌≢◌, ℕ, ◌+◌, ◌≤◌, ◌<◌, Bool, true, false, nat_lt, ◌⊎◌, inl, inr, List, [], ◌∷◌, ◌++◌, append-nil, length, take}
+use Rattle.std.proofs.Common.{drop, cond, Option, Some, None, IfSome, refl, sym, ap, ◌∙◌, subst, arith, length-append, ltb-true, ltb-false}
 use Rattle.std.proofs.Math.Seq.{take-append_seam, drop-append_seam}
 use Rattle.std.proofs.lemmas.List.{append_assoc}
 use Rattle.std.proofs.lemmas.List.Sums.{sum_by-append}
@@ -49,7 +50,8 @@ run_goes : (me : ℕ) (ms : List AnyMove) (t u : Traced) → IsTraced t → t.wo
 run_goes me [] t u r e led = subst (Goes me t) (same_Some t u led) (nowhere me t)
 run_goes me (m ∷ ms) t u r e led = go (next_any t.world m) refl led (λ v. run_goes me ms v u)
   where
-    go : (o : Option World) → next_any t.world m ≡ o → traced_on (trace ms) (traced_next t m o) ≡ Some u → ((v : Traced) → IsTraced v → v.world.setup.kind ≡ NonBlocking → trace ms v ≡ Some u → Goes me v u) → Goes me t u
+    go : (o : Option World) → next_any t.world m ≡ o → traced_on (trace ms) (traced_next t m o) ≡ Some u
+        → ((v : Traced) → IsTraced v → v.world.setup.kind ≡ NonBlocking → trace ms v ≡ Some u → Goes me v u) → Goes me t u
     go None f g each = absurd (none-some u g)
     go (Some w) f g each =
         goes_on me t (traced_move t m w) u (some_of (λ v. Goes me t (traced_move t m v)) (next_any t.world m) w f (goes_move t r e me m))
@@ -66,7 +68,15 @@ module _ (t : Traced) (r : IsTraced t) (e : t.world.setup.kind ≡ NonBlocking) 
   pub turns_paid : TurnsArePaid 2 1 1 t
   turns_paid me =
       let g : Goes me start t = run_goes me r.moves start t started e r.led in
-      omega (arith, g.falls, g.taken, has_least t.world.setup t.world.shared (actor_of t.world me), has_first t.world.setup r.actors me, ap failed_turns g.path, ap (λ es. paid 2 1 1 me es g.nodes) g.history)
+      omega (
+        arith,
+        g.falls,
+        g.taken,
+        has_least t.world.setup t.world.shared (actor_of t.world me),
+        has_first t.world.setup r.actors me,
+        ap failed_turns g.path,
+        ap (λ es. paid 2 1 1 me es g.nodes) g.history,
+      )
 
 -- a move goes on with a seat's path by a line of it, or not at all
 record StepsBy (me : ℕ) (t u : Traced) : Type 0 where
@@ -87,7 +97,8 @@ steps_or_stays t me =
     })
   where
     go : (you : ℕ) (a : Actor) (l : Line) → actor_of t.world you ≡ Some a → a.line ≡ Some l → (me ≡ you) ⊎ (me ≢ you) → ((step_at t you a l).paths me ≡ t.paths me) ⊎ StepsBy me t (step_at t you a l)
-    go you a l is at (inl q) = subst (λ n. ((step_at t you a l).paths n ≡ t.paths n) ⊎ StepsBy n t (step_at t you a l)) (sym q) (inr (record { a = a; line = l; is = is; at = at; path = changed_here t.paths you (t.paths you ++ event_at t.world.setup t you a l ∷ []) }))
+    go you a l is at (inl q) = subst (λ n. ((step_at t you a l).paths n ≡ t.paths n) ⊎ StepsBy n t (step_at t you a l)) (sym q)
+        (inr (record { a = a; line = l; is = is; at = at; path = changed_here t.paths you (t.paths you ++ event_at t.world.setup t you a l ∷ []) }))
     go you a l is at (inr d) = inl (changed_else t.paths you (t.paths you ++ event_at t.world.setup t you a l ∷ []) me d)
 
 -- the moment from which the last lines of a seat's path were gone through
@@ -109,7 +120,9 @@ find : (me n : ℕ) (ms : List AnyMove) (t u : Traced) → IsTraced t → t.worl
 find me n [] t u r e led low high = absurd (let q : length (t.paths me) ≡ length (u.paths me) = ap (λ (v : Traced). length (v.paths me)) (same_Some t u led) in omega (arith, q, low, high))
 find me n (m ∷ ms) t u r e led low high = go (next_any t.world m) refl led (λ v. find me n ms v u)
   where
-    go : (o : Option World) → next_any t.world m ≡ o → traced_on (trace ms) (traced_next t m o) ≡ Some u → ((v : Traced) → IsTraced v → v.world.setup.kind ≡ NonBlocking → trace ms v ≡ Some u → length (v.paths me) ≤ n → n < length (u.paths me) → Since me n u) → Since me n u
+    go : (o : Option World) → next_any t.world m ≡ o → traced_on (trace ms) (traced_next t m o) ≡ Some u
+        → ((v : Traced) → IsTraced v → v.world.setup.kind ≡ NonBlocking → trace ms v ≡ Some u → length (v.paths me) ≤ n → n < length (u.paths me)
+        → Since me n u) → Since me n u
     go None f g each = absurd (none-some u g)
     go (Some w) f g each = by_length (nat_lt n (length (v.paths me))) refl
       where
@@ -140,7 +153,8 @@ find me n (m ∷ ms) t u r e led low high = go (next_any t.world m) refl led (λ
             }
 
         by_length : (b : Bool) → nat_lt n (length (v.paths me)) ≡ b → Since me n u
-        by_length true h = by_move (ltb-true n (length (v.paths me)) h) (some_of (λ x. ((traced_move t m x).paths me ≡ t.paths me) ⊎ StepsBy me t (traced_move t m x)) (next_any t.world m) w f (steps_or_stays t me m))
+        by_length true h = by_move (ltb-true n (length (v.paths me)) h) (some_of (λ x. ((traced_move t m x).paths me ≡ t.paths me)
+            ⊎ StepsBy me t (traced_move t m x)) (next_any t.world m) w f (steps_or_stays t me m))
         by_length false h = each v reaches (kind-traced_move t m w e f) g (ltb-false n (length (v.paths me)) h) high
 
 -- two lists that are one, split at one place
@@ -181,16 +195,39 @@ module _ (t : Traced) (r : IsTraced t) (e : t.world.setup.kind ≡ NonBlocking) 
       find me (length before) r.moves (start t r e) t (started t r e) e r.led (omega arith) (omega (arith, long))
 
   lines_paid : (added : List Event) → t.paths me ≡ before ++ added → PaidSince 2 2 1 1 me before added t
-  lines_paid [] is = record { was = t; reached = r; moves = []; led = refl; path = is ∙ append-nil before; entries = []; history = sym (append-nil t.history); nodes = 0; taken = omega arith; turns = omega arith }
+  lines_paid [] is = record {
+    was = t;
+    reached = r;
+    moves = [];
+    led = refl;
+    path = is ∙ append-nil before;
+    entries = [];
+    history =
+        sym (append-nil t.history);
+    nodes = 0;
+    taken = omega arith;
+    turns = omega arith;
+  }
   lines_paid (x ∷ xs) is =
       let s : Since me (length before) t = once x xs is in
-      since 2 (x ∷ xs) s is (omega (arith, ap (has_of s.was.world.setup s.was.world.shared) s.is, ap (amount s.was.world.setup s.was.world.shared s.a) s.at, amount_most s.was.world.setup s.was.world.shared s.a s.line))
+      since 2 (x ∷ xs) s is (omega (
+        arith,
+        ap (has_of s.was.world.setup s.was.world.shared) s.is,
+        ap (amount s.was.world.setup s.was.world.shared s.a) s.at,
+        amount_most s.was.world.setup s.was.world.shared s.a s.line,
+      ))
 
   call_paid : (x : Event) (xs : List Event) → t.paths me ≡ before ++ x ∷ xs → IsFirst x.line → PaidSince 1 2 1 1 me before (x ∷ xs) t
   call_paid x xs is h =
       let s : Since me (length before) t = once x xs is in
       let q = parts (s.was.paths me) before (event_at s.was.world.setup s.was me s.a s.line ∷ s.rest) (x ∷ xs) (sym s.path ∙ is) s.long in
-      since 1 (x ∷ xs) s is (omega (arith, ap (has_of s.was.world.setup s.was.world.shared) s.is, ap (amount s.was.world.setup s.was.world.shared s.a) s.at, amount_first s.was.world.setup s.was.world.shared s.a s.line (subst IsFirst (ap (first_line s.line) (sym q.1)) h)))
+      since 1 (x ∷ xs) s is (omega (
+        arith,
+        ap (has_of s.was.world.setup s.was.world.shared) s.is,
+        ap (amount s.was.world.setup s.was.world.shared s.a) s.at,
+        amount_first s.was.world.setup s.was.world.shared s.a s.line
+            (subst IsFirst (ap (first_line s.line) (sym q.1)) h),
+      ))
 
 -- so of each seat
 pub each_lines_paid : OfTraces (LinesArePaid 2 2 1 1)

@@ -21,6 +21,7 @@ module _ (f g : ℕ → ℕ) where
     sum_more a zero low high = absurd (omega arith)
     sum_more a (suc k) low high = go (same_or_not a you) (sum_more (a + 1) k)
       where
-        go : (a ≡ you) ⊎ (a ≢ you) → (a + 1 ≤ you → you < a + 1 + k → sum_by g (range_with_len (a + 1) k) ≡ sum_by f (range_with_len (a + 1) k) + more) → sum_by g (range_with_len a (suc k)) ≡ sum_by f (range_with_len a (suc k)) + more
+        go : (a ≡ you) ⊎ (a ≢ you) → (a + 1 ≤ you → you < a + 1 + k → sum_by g (range_with_len (a + 1) k) ≡ sum_by f (range_with_len (a + 1) k) +
+            more) → sum_by g (range_with_len a (suc k)) ≡ sum_by f (range_with_len a (suc k)) + more
         go (inl e) rest = omega (arith, sum_by-cons g a (range_with_len (a + 1) k), sum_by-cons f a (range_with_len (a + 1) k), ap g e, ap f e, here, sum_above (a + 1) k (omega arith))
         go (inr d) rest = omega (arith, sum_by-cons g a (range_with_len (a + 1) k), sum_by-cons f a (range_with_len (a + 1) k), others a d, rest (omega arith) (omega arith))

@@ -67,11 +67,17 @@ module _ (s : Setup) (m : Shared) (now me : ℕ) (a : Actor) where
   failed_most N4 _ = tested at_n1 (same_ref m.free a.top) _ _ (took_on s.kind) (omega arith)
   failed_most N5 _ = tested at_n1 (nat_eq m.fresh a.f) _ _ (took_on s.kind) (omega arith)
   failed_most F3 _ = tested at_f1 (same_ref m.free a.top) _ _ (gave_on s.kind now a.due (empties_hand a)) (omega arith)
-  failed_most E7 _ = tested at_e5 (same_ref m.tail a.tail) _ _ (both (λ (o : Outcome). at_e5 o.actor.line ≡ 0) (is_null a.next) refl (both (λ (o : Outcome). at_e5 o.actor.line ≡ 0) (is_shut s.bits a.next) refl (both (λ (o : Outcome). at_e5 o.actor.line ≡ 0) (nat_eq a.tail.count s.limit) refl refl))) (omega arith)
+  failed_most E7 _ = tested at_e5 (same_ref m.tail a.tail) _ _ (both (λ (o : Outcome). at_e5 o.actor.line ≡ 0) (is_null a.next) refl
+      (both (λ (o : Outcome). at_e5 o.actor.line ≡ 0) (is_shut s.bits a.next) refl
+      (both (λ (o : Outcome). at_e5 o.actor.line ≡ 0) (nat_eq a.tail.count s.limit) refl refl))) (omega arith)
   failed_most E9 _ = tested at_e5 (same_ref (node_at m a.tail.node).next a.next) _ _ (both (λ (o : Outcome). at_e5 (effect now o).actor.line ≡ 0) (nat_eq a.tail.count s.limit) refl refl) (omega arith)
-  failed_most D5 _ = tested at_d2 (same_ref m.head a.head) _ _ (both (λ (o : Outcome). at_d2 o.actor.line ≡ 0) (nat_eq a.head.node a.tail.node) (both (λ (o : Outcome). at_d2 o.actor.line ≡ 0) (is_null a.next) refl (both (λ (o : Outcome). at_d2 o.actor.line ≡ 0) (is_shut s.bits a.next) refl (both (λ (o : Outcome). at_d2 o.actor.line ≡ 0) (nat_eq a.tail.count s.limit) refl refl))) refl) (omega arith)
+  failed_most D5 _ = tested at_d2 (same_ref m.head a.head) _ _ (both (λ (o : Outcome). at_d2 o.actor.line ≡ 0) (nat_eq a.head.node a.tail.node)
+      (both (λ (o : Outcome). at_d2 o.actor.line ≡ 0) (is_null a.next) refl (both (λ (o : Outcome). at_d2 o.actor.line ≡ 0) (is_shut s.bits a.next)
+      refl (both (λ (o : Outcome). at_d2 o.actor.line ≡ 0) (nat_eq a.tail.count s.limit) refl refl))) refl) (omega arith)
   failed_most D13 _ = tested at_d2 (same_ref m.head a.head) _ _ refl (omega arith)
-  failed_most S3 _ = tested at_s1 (same_ref m.tail a.tail) _ _ (both (λ (o : Outcome). at_s1 o.actor.line ≡ 0) (is_null a.next) refl (both (λ (o : Outcome). at_s1 o.actor.line ≡ 0) (is_shut s.bits a.next) refl (both (λ (o : Outcome). at_s1 o.actor.line ≡ 0) (nat_eq a.tail.count s.limit) refl refl))) (omega arith)
+  failed_most S3 _ = tested at_s1 (same_ref m.tail a.tail) _ _ (both (λ (o : Outcome). at_s1 o.actor.line ≡ 0) (is_null a.next) refl
+      (both (λ (o : Outcome). at_s1 o.actor.line ≡ 0) (is_shut s.bits a.next) refl
+      (both (λ (o : Outcome). at_s1 o.actor.line ≡ 0) (nat_eq a.tail.count s.limit) refl refl))) (omega arith)
   failed_most S4 _ = tested at_s1 (same_ref (node_at m a.tail.node).next a.next) _ _ refl (omega arith)
   failed_most A3 runs = absurd runs
   failed_most B1 runs = absurd runs

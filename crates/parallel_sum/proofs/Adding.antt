@@ -41,17 +41,20 @@ failed_large (p ∷ ps) (x ∷ rs) (suc k) r h low at failed =
     omega (arith, right, ih)
 
 -- the sums of a level are together as much as its numbers
-pub level_sum : (ps : List Pair) (rs : List (Result ℕ Overflow)) (out : Result (Vec ℕ) Failure) (total : ℕ) → sum_by sum_in ps ≡ total → AllZip IsSumOf ps rs → AreAdded rs out → IfOk out (λ sums. sum sums.items ≡ total)
+pub level_sum : (ps : List Pair) (rs : List (Result ℕ Overflow)) (out : Result (Vec ℕ) Failure) (total : ℕ) → sum_by sum_in ps ≡ total
+    → AllZip IsSumOf ps rs → AreAdded rs out → IfOk out (λ sums. sum sums.items ≡ total)
 level_sum ps rs (Ok sums) total same zip h = (added_sums ps sums.items (subst (AllZip IsSumOf ps) h zip)).1 ∙ same
 level_sum ps rs (Err failure) total same zip h = tt
 
 -- and half as many
-pub level_half : (ps : List Pair) (rs : List (Result ℕ Overflow)) (out : Result (Vec ℕ) Failure) (n : ℕ) → 2 * length ps ≤ n + 1 → AllZip IsSumOf ps rs → AreAdded rs out → IfOk out (λ sums. 2 * length sums.items ≤ n + 1)
+pub level_half : (ps : List Pair) (rs : List (Result ℕ Overflow)) (out : Result (Vec ℕ) Failure) (n : ℕ) → 2 * length ps ≤ n + 1
+    → AllZip IsSumOf ps rs → AreAdded rs out → IfOk out (λ sums. 2 * length sums.items ≤ n + 1)
 level_half ps rs (Ok sums) n few zip h = let many = (added_sums ps sums.items (subst (AllZip IsSumOf ps) h zip)).0 in omega (arith, many, few)
 level_half ps rs (Err failure) n few zip h = tt
 
 -- where one of them has no room, all together have none
-pub level_fails : (ps : List Pair) (rs : List (Result ℕ Overflow)) (out : Result (Vec ℕ) Failure) (total : ℕ) → sum_by sum_in ps ≡ total → AllZip IsSumOf ps rs → AreAdded rs out → IfErr out (FailsSo total)
+pub level_fails : (ps : List Pair) (rs : List (Result ℕ Overflow)) (out : Result (Vec ℕ) Failure) (total : ℕ) → sum_by sum_in ps ≡ total
+    → AllZip IsSumOf ps rs → AreAdded rs out → IfErr out (FailsSo total)
 level_fails ps rs (Ok sums) total same zip h = tt
 level_fails ps rs (Err NoRoom) total same zip h = subst (λ n. 2 ^ 64 ≤ n) same (failed_large ps rs h.0 h.1 zip h.2 h.3 h.4)
 level_fails ps rs (Err Memory) total same zip h = tt

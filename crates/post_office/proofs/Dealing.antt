@@ -1,5 +1,6 @@
 -- The seats of a new queue, by what they are for.
-use Rattle.std.proofs.Common.{◌≡◌, ◌∙◌, ◌+◌, ◌-◌, ◌<◌, ◌≤◌, sym, refl, ap, subst, ℕ, zero, suc, List, [], ◌∷◌, ◌++◌, map, length, replicate, Some, IsSomeAnd, IsTrue, true≢false, slice_get, option_map, length-append, arith}
+use Rattle.std.proofs.Common.{◌≡◌, ◌∙◌, ◌+◌, ◌-◌, ◌<◌, ◌≤◌, sym, refl, ap, subst, ℕ, zero, suc, List, [], ◌∷◌, ◌++◌, map, length, replicate, Some}
+use Rattle.std.proofs.Common.{IsSomeAnd, IsTrue, true≢false, slice_get, option_map, length-append, arith}
 use Rattle.std.specs.Prelude.{⊤}
 use Rattle.std.specs.List.{All}
 use Rattle.std.proofs.lemmas.List.{length-map, length-replicate}
@@ -121,13 +122,25 @@ module _ {Q S A : Type 0} (is_seat : Q → S → Type 0) (permits : Q → List P
 
   taker : (n : ℕ) (x : S) → 1 + s ≤ n → n < 1 + s + r → IsNew is_seat known q n x → IsTaker is_seat permits known q x
   taker n x from low new =
-      let same = ap (λ (k : KnownOf A). k.number) new.1 in
-      (new.0, subst (MayPop (permits q)) (sym same) (omega (arith, from), role_at (λ (p : Permit). IsTrue p.pops) (permit_of Taker) n (n - 1) refl (taker_at s r (n - 1) (omega (arith, from)) (omega (arith, from, low))) refl))
+      let same = ap (λ (k : KnownOf A). k.number) new.1 in (
+        new.0,
+        subst (MayPop (permits q)) (sym same) (
+          omega (arith, from),
+          role_at (λ (p : Permit). IsTrue p.pops) (permit_of Taker) n (n - 1) refl
+              (taker_at s r (n - 1) (omega (arith, from)) (omega (arith, from, low))) refl,
+        ),
+      )
 
   last : (n : ℕ) (x : S) → 1 + s + r ≤ n → n < 4 + s + r → IsNew is_seat known q n x → IsGiver is_seat permits known q x
   last n x from low new =
-      let same = ap (λ (k : KnownOf A). k.number) new.1 in
-      (new.0, subst (MayPush (permits q)) (sym same) (omega (arith, from), role_at (λ (p : Permit). IsTrue p.pushes) (permit_of Giver) n (n - 1) refl (last_at s r (n - 1) (omega (arith, from)) (omega (arith, from, low))) refl))
+      let same = ap (λ (k : KnownOf A). k.number) new.1 in (
+        new.0,
+        subst (MayPush (permits q)) (sym same) (
+          omega (arith, from),
+          role_at (λ (p : Permit). IsTrue p.pushes) (permit_of Giver) n (n - 1) refl
+              (last_at s r (n - 1) (omega (arith, from)) (omega (arith, from, low))) refl,
+        ),
+      )
 
   -- who may pop is a receiver
   pub only_takers : (n : ℕ) → MayPop (permits q) n → (s < n) × (n ≤ s + r)
@@ -153,7 +166,8 @@ module _ {Q S A : Type 0} (is_seat : Q → S → Type 0) (permits : Q → List P
 
     all_new : From (IsNew is_seat known q) 1 (d.senders.items ++ (d.receivers.items ++ d.office ∷ d.last_sender ∷ d.last_receiver ∷ []))
     all_new = subst (From (IsNew is_seat known q) 1) split
-        (are_new is_seat known q 1 seats each (λ k x at. let same : k + 1 ≡ 1 + k = omega arith in subst (λ m. known x ≡ newcomer m) same (new.each k (known x) (slice_get-map known seats k ∙ ap (option_map known) at))))
+        (are_new is_seat known q 1 seats each (λ k x at. let same : k + 1 ≡ 1 + k = omega arith in subst (λ m. known x ≡ newcomer m) same
+        (new.each k (known x) (slice_get-map known seats k ∙ ap (option_map known) at))))
 
     senders_new : From (IsNew is_seat known q) 1 d.senders.items
     senders_new = from_left (IsNew is_seat known q) 1 d.senders.items _ all_new

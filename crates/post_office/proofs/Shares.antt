@@ -25,7 +25,8 @@ module _ {C A S : Type 0} {carrier : Ghosts C A S} (prop : (q : C) (s : S) → I
       (∥∥₁_elim o.sits (×_prop (prop q o.seat) (may_push-prop (carrier.permits q) (carrier.known o.seat).number)) (λ x. x))
 
   -- and is so after a call that leaves it the queue's, with its number
-  pub office_stays : (b : BlockingCarrier C) (o : PostOffice C A S carrier) → b ≡ o.queue.value → (after : S) → carrier.is_seat (queue_of b) after → (carrier.known after).number ≡ (carrier.known o.seat).number
+  pub office_stays : (b : BlockingCarrier C) (o : PostOffice C A S carrier) → b ≡ o.queue.value → (after : S) → carrier.is_seat (queue_of b) after
+      → (carrier.known after).number ≡ (carrier.known o.seat).number
       → ∥ IsGiver carrier.is_seat carrier.permits carrier.known (queue_of o.queue.value) after ∥₁
   office_stays b o e after here same =
       ∣ subst (λ x. IsGiver carrier.is_seat carrier.permits carrier.known (queue_of x) after) e

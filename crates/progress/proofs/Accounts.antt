@@ -6,7 +6,8 @@ use Rattle.std.proofs.lemmas.List.Folds.{sum_by-replicate}
 use Rattle.std.specs.List.{sum_by}
 use Rattle.step_machine.specs.Below.{Kind, Line, Op, Stamped, Setup, Actor, Outcome, Shared, performed, found, action, outcome, gives_up, begun, first_words}
 use Rattle.step_machine.specs.declared.actors.Move.TheVariants.{Begin, Step, Give}
-use Rattle.step_machine.specs.Machine.{World, idle, opening, actor_of, rested, with_actor, entry_or, with_operation, with_outcome, new_operation, after_outcome, may_rest, AnyMove, made, Rest, next_any, run, run_on, IsSized, IsReached}
+use Rattle.step_machine.specs.Machine.{World, idle, opening, actor_of, rested, with_actor, entry_or, with_operation, with_outcome, new_operation}
+use Rattle.step_machine.specs.Machine.{after_outcome, may_rest, AnyMove, made, Rest, next_any, run, run_on, IsSized, IsReached}
 use Rattle.step_machine.proofs.Reached.{actor_stands, if_some, run_on_if, some_of, setup-next_any, reached_next}
 use Rattle.step_machine.proofs.AnyMoves.{after_move}
 use Rattle.progress.specs.Moves.{total, total_on, numbered}
@@ -45,9 +46,13 @@ pub record Account (kind : Kind) (most each : ℕ) (counts : World → AnyMove �
   pub none : (s : Setup) → has s (first_words s.size) idle ≡ 0
   pub no_cost : cost idle idle ≡ 0
   pub began : (w : World) → IsReached w → w.setup.kind ≡ kind → (me : ℕ) (op : Op) (a : Actor) → a.line ≡ None → NoMore has cost w a (begun w.setup.kind me op a) (counts w (made (Begin me op)))
-  pub step : (w : World) → IsReached w → w.setup.kind ≡ kind → (me : ℕ) (a : Actor) (l : Line) → actor_of w me ≡ Some a → a.line ≡ Some l → Pays has cost most each w a (performed (action w.setup me a l) w.shared) (counts w (made (Step me))) (outcome w.setup (w.steps + 1) me a l (found (action w.setup me a l) w.shared))
-  pub gave_up : (w : World) → IsReached w → w.setup.kind ≡ kind → (me : ℕ) (a : Actor) (l : Line) (o : Outcome) → actor_of w me ≡ Some a → a.line ≡ Some l → gives_up (w.steps + 1) a l ≡ Some o → Pays has cost most each w a w.shared (counts w (made (Give me))) o
-  pub at_rest : (w : World) → IsReached w → w.setup.kind ≡ kind → (me : ℕ) (a : Actor) (l : Line) → actor_of w me ≡ Some a → a.line ≡ Some l → may_rest l ≡ true → NoMore has cost w a (rested a) (counts w (Rest me))
+  pub step : (w : World) → IsReached w → w.setup.kind ≡ kind → (me : ℕ) (a : Actor) (l : Line) → actor_of w me ≡ Some a → a.line ≡ Some l
+      → Pays has cost most each w a (performed (action w.setup me a l) w.shared) (counts w (made (Step me)))
+      (outcome w.setup (w.steps + 1) me a l (found (action w.setup me a l) w.shared))
+  pub gave_up : (w : World) → IsReached w → w.setup.kind ≡ kind → (me : ℕ) (a : Actor) (l : Line) (o : Outcome) → actor_of w me ≡ Some a
+      → a.line ≡ Some l → gives_up (w.steps + 1) a l ≡ Some o → Pays has cost most each w a w.shared (counts w (made (Give me))) o
+  pub at_rest : (w : World) → IsReached w → w.setup.kind ≡ kind → (me : ℕ) (a : Actor) (l : Line) → actor_of w me ≡ Some a → a.line ≡ Some l
+      → may_rest l ≡ true → NoMore has cost w a (rested a) (counts w (Rest me))
 
 -- steps are counted by the moves that take numbers
 steps_of_move : (w : World) (m : AnyMove) → IfSome (next_any w m) (λ v. v.steps ≡ w.steps + numbered w m)
@@ -64,7 +69,8 @@ pub steps_numbered : (ms : List AnyMove) (w : World) → IfSome (run ms w) (λ v
 steps_numbered [] w = omega arith
 steps_numbered (m ∷ ms) w = go (steps_numbered ms) (next_any w m) refl
   where
-    go : ((u : World) → IfSome (run ms u) (λ v. v.steps ≡ u.steps + total numbered ms u)) → (o : Option World) → next_any w m ≡ o → IfSome (run_on (run ms) o) (λ v. v.steps ≡ w.steps + (numbered w m + total_on (total numbered ms) o))
+    go : ((u : World) → IfSome (run ms u) (λ v. v.steps ≡ u.steps + total numbered ms u)) → (o : Option World) → next_any w m ≡ o
+        → IfSome (run_on (run ms) o) (λ v. v.steps ≡ w.steps + (numbered w m + total_on (total numbered ms) o))
     go later None f = tt
     go later (Some u) f =
         if_some (λ v. v.steps ≡ w.steps + (numbered w m + total numbered ms u)) (run ms u)
@@ -102,7 +108,11 @@ module _ (kind : Kind) (most each : ℕ) (counts : World → AnyMove → ℕ) (a
     with_other : (me : ℕ) (a b : Actor) (k : ℕ) → actor_of w me ≡ Some a → NoMore account.has account.cost w a b k → Gains n k w (with_actor w me b)
     with_other me a b k is less =
         let got : slice_get w.actors (me - 1) ≡ Some a = (actor_stands w me a is).1 in
-        omega (arith, replaced account.cost account.turned (account.has w.setup w.shared) (account.has w.setup w.shared) a b 0 (λ c. omega (arith, less.others c)) w.actors (me - 1) k 0 got (omega (arith, less.mine)))
+        omega (
+          arith,
+          replaced account.cost account.turned (account.has w.setup w.shared) (account.has w.setup w.shared) a b 0
+              (λ c. omega (arith, less.others c)) w.actors (me - 1) k 0 got (omega (arith, less.mine)),
+        )
 
     -- where an actor was told an outcome
     told : (me : ℕ) (a : Actor) (m' : Shared) (k : ℕ) (o : Outcome) → actor_of w me ≡ Some a → Pays account.has account.cost most each w a m' k o → Gains n k w (after_outcome w me a m' o)
@@ -110,8 +120,10 @@ module _ (kind : Kind) (most each : ℕ) (counts : World → AnyMove → ℕ) (a
         let got : slice_get w.actors (me - 1) ≡ Some a = (actor_stands w me a is).1 in
         let ops : List Stamped = with_operation a.entry (new_operation me a.op (w.steps + 1)) (with_outcome (w.steps + 1) o) w.operations in
         let more : length ops ≡ length w.operations + new_ones a.entry = grown a.entry _ _ w.operations in
-        let all : (most + each * n) * length ops ≡ (most + each * n) * length w.operations + (most + each * n) * new_ones a.entry = ap (λ j. (most + each * n) * j) more ∙ mul-add (most + each * n) (length w.operations) (new_ones a.entry) in
-        let sums = replaced account.cost account.turned (account.has w.setup w.shared) (account.has w.setup m') a (told_actor w a o) (each * new_ones a.entry) f.others w.actors (me - 1) k (most * new_ones a.entry) got f.mine in
+        let all : (most + each * n) * length ops ≡ (most + each * n) * length w.operations + (most + each * n) * new_ones a.entry =
+        ap (λ j. (most + each * n) * j) more ∙ mul-add (most + each * n) (length w.operations) (new_ones a.entry) in
+        let sums = replaced account.cost account.turned (account.has w.setup w.shared) (account.has w.setup m') a (told_actor w a o)
+        (each * new_ones a.entry) f.others w.actors (me - 1) k (most * new_ones a.entry) got f.mine in
         omega (arith, sums, all, ap (λ j. each * new_ones a.entry * j) few, shared_out a.entry)
       where
         shared_out : (entry : Option ℕ) → (most + each * n) * new_ones entry ≡ most * new_ones entry + each * new_ones entry * n
@@ -133,19 +145,23 @@ module _ (kind : Kind) (most each : ℕ) (counts : World → AnyMove → ℕ) (a
   run_gains n [] w r e few = omega arith
   run_gains n (m ∷ ms) w r e few = go (run_gains n ms) (next_any w m) refl
     where
-      go : ((u : World) → IsReached u → u.setup.kind ≡ kind → length u.actors - 1 ≡ n → IfSome (run ms u) (Gains n (total counts ms u) u)) → (o : Option World) → next_any w m ≡ o → IfSome (run_on (run ms) o) (Gains n (counts w m + total_on (total counts ms) o) w)
+      go : ((u : World) → IsReached u → u.setup.kind ≡ kind → length u.actors - 1 ≡ n → IfSome (run ms u) (Gains n (total counts ms u) u))
+          → (o : Option World) → next_any w m ≡ o → IfSome (run_on (run ms) o) (Gains n (counts w m + total_on (total counts ms) o) w)
       go later None f = tt
       go later (Some u) f =
           if_some (Gains n (counts w m + total counts ms u) w) (run ms u)
           (λ v g. let one : Gains n (counts w m) w u = some_of (Gains n (counts w m) w) (next_any w m) u f (next_gains n w r e few m) in
           let same : length u.actors ≡ length w.actors = some_of (λ x. length x.actors ≡ length w.actors) (next_any w m) u f (stay (length w.actors) w m refl) in
-          let rest : Gains n (total counts ms u) u v = some_of (Gains n (total counts ms u) u) (run ms u) v g (later u (reached_next w u m r f) (ap (λ (s : Setup). s.kind) (setup-next_any w u m f) ∙ e) (ap (λ k. k - 1) same ∙ few)) in
+          let rest : Gains n (total counts ms u) u v = some_of (Gains n (total counts ms u) u) (run ms u) v g
+          (later u (reached_next w u m r f) (ap (λ (s : Setup). s.kind) (setup-next_any w u m f) ∙ e) (ap (λ k. k - 1) same ∙ few)) in
           omega (arith, one, rest))
 
   -- and from the start on
-  pub opening_gains : (s : Setup) (actors : ℕ) (moves : List AnyMove) → IsSized s actors → s.kind ≡ kind → IfSome (run moves (opening s actors)) (λ v. total counts moves (opening s actors) ≤ (most + each * (actors - 1)) * length v.operations)
+  pub opening_gains : (s : Setup) (actors : ℕ) (moves : List AnyMove) → IsSized s actors → s.kind ≡ kind
+      → IfSome (run moves (opening s actors)) (λ v. total counts moves (opening s actors) ≤ (most + each * (actors - 1)) * length v.operations)
   opening_gains s actors moves sized e =
       if_some (λ v. total counts moves (opening s actors) ≤ (most + each * (actors - 1)) * length v.operations) (run moves (opening s actors))
-      (λ v f. let g : Gains (actors - 1) (total counts moves (opening s actors)) (opening s actors) v = some_of (Gains (actors - 1) (total counts moves (opening s actors)) (opening s actors)) (run moves (opening s actors)) v f
+      (λ v f. let g : Gains (actors - 1) (total counts moves (opening s actors)) (opening s actors) v =
+      some_of (Gains (actors - 1) (total counts moves (opening s actors)) (opening s actors)) (run moves (opening s actors)) v f
       (run_gains (actors - 1) moves (opening s actors) (record { actors = actors; moves = []; sized = sized; led = refl }) e (ap (λ k. k - 1) (length-replicate actors idle))) in
       omega (arith, g, sum_by-replicate (account.has s (first_words s.size)) actors idle, ap (λ k. actors * k) (account.none s), pairs-replicate account.cost idle actors account.no_cost))

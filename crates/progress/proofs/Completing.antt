@@ -74,29 +74,40 @@ module _ (K : List ℕ) (w : World) (kept : StampsInvariant (Unit {0}) K w) (r :
 
       go : (entry : Option ℕ) → a.entry ≡ entry → OperationAt (Unit {0}) K w.operations me (Some l) entry a.due a.empty_at → Covers r (after_outcome w me a m' o)
       go None e knows =
-          let one : 1 ≤ replied o.reply + in_call o.actor.line (Some (entry_or a.entry (length w.operations))) = one_of o.actor.line o.reply o.actor.due _ _ _ (turns None (point_at_while l a.due None (λ no. absurd no) knows.1)).goes_on in
+          let one : 1 ≤ replied o.reply + in_call o.actor.line (Some (entry_or a.entry (length w.operations))) =
+          one_of o.actor.line o.reply o.actor.due _ _ _ (turns None (point_at_while l a.due None (λ no. absurd no) knows.1)).goes_on in
           let ops : with_operation a.entry new told_to w.operations ≡ w.operations ++ told_to new ∷ [] = ap (λ x. with_operation x new told_to w.operations) e in
           let more : length (with_operation a.entry new told_to w.operations) ≡ length w.operations + 1 = ap length ops ∙ length-append w.operations (told_to new ∷ []) in
-          let replies : sum_by (λ (x : Stamped). replied x.reply) (with_operation a.entry new told_to w.operations) ≡ completed w + replied o.reply = ap (sum_by (λ (x : Stamped). replied x.reply)) ops ∙ sum_by_push (λ (x : Stamped). replied x.reply) w.operations (told_to new) in
-          let calls : sum_by (λ (x : Actor). in_call x.line x.entry) (set w.actors (me - 1) b) + in_call a.line a.entry ≡ in_calls w + in_call b.line b.entry = sum_set (λ (x : Actor). in_call x.line x.entry) w.actors (me - 1) a b got in
+          let replies : sum_by (λ (x : Stamped). replied x.reply) (with_operation a.entry new told_to w.operations) ≡ completed w + replied o.reply =
+          ap (sum_by (λ (x : Stamped). replied x.reply)) ops ∙ sum_by_push (λ (x : Stamped). replied x.reply) w.operations (told_to new) in
+          let calls : sum_by (λ (x : Actor). in_call x.line x.entry) (set w.actors (me - 1) b) + in_call a.line a.entry ≡ in_calls w + in_call b.line
+          b.entry = sum_set (λ (x : Actor). in_call x.line x.entry) w.actors (me - 1) a b got in
           omega (arith, h, one, more, replies, calls, ap (λ x. in_call a.line x) e ∙ no_entry a.line)
       go (Some k) e knows =
-          let one : 1 ≤ replied o.reply + in_call o.actor.line (Some (entry_or a.entry (length w.operations))) = one_of o.actor.line o.reply o.actor.due _ _ _ (turns knows.0.at (point_at_while l a.due knows.0.at (λ own. tt) knows.2)).goes_on in
-          let ops : with_operation a.entry new told_to w.operations ≡ set w.operations k (told_to knows.0) = ap (λ x. with_operation x new told_to w.operations) e ∙ ap (λ x. set w.operations k (told_to x)) (get_or_from_slice_get w.operations k knows.0 new knows.1.here) in
+          let one : 1 ≤ replied o.reply + in_call o.actor.line (Some (entry_or a.entry (length w.operations))) =
+          one_of o.actor.line o.reply o.actor.due _ _ _ (turns knows.0.at (point_at_while l a.due knows.0.at (λ own. tt) knows.2)).goes_on in
+          let ops : with_operation a.entry new told_to w.operations ≡ set w.operations k (told_to knows.0) =
+          ap (λ x. with_operation x new told_to w.operations) e ∙ ap (λ x. set w.operations k (told_to x))
+          (get_or_from_slice_get w.operations k knows.0 new knows.1.here) in
           let more : length (with_operation a.entry new told_to w.operations) ≡ length w.operations = ap length ops ∙ length-set w.operations k (told_to knows.0) in
-          let replies : sum_by (λ (x : Stamped). replied x.reply) (with_operation a.entry new told_to w.operations) + replied knows.0.reply ≡ completed w + replied o.reply = ap (λ xs. sum_by (λ (x : Stamped). replied x.reply) xs + replied knows.0.reply) ops ∙ sum_set (λ (x : Stamped). replied x.reply) w.operations k knows.0 (told_to knows.0) knows.1.here in
-          let calls : sum_by (λ (x : Actor). in_call x.line x.entry) (set w.actors (me - 1) b) + in_call a.line a.entry ≡ in_calls w + in_call b.line b.entry = sum_set (λ (x : Actor). in_call x.line x.entry) w.actors (me - 1) a b got in
+          let replies : sum_by (λ (x : Stamped). replied x.reply) (with_operation a.entry new told_to w.operations) + replied knows.0.reply ≡
+          completed w + replied o.reply = ap (λ xs. sum_by (λ (x : Stamped). replied x.reply) xs + replied knows.0.reply) ops ∙ sum_set
+          (λ (x : Stamped). replied x.reply) w.operations k knows.0 (told_to knows.0) knows.1.here in
+          let calls : sum_by (λ (x : Actor). in_call x.line x.entry) (set w.actors (me - 1) b) + in_call a.line a.entry ≡ in_calls w + in_call b.line
+          b.entry = sum_set (λ (x : Actor). in_call x.line x.entry) w.actors (me - 1) a b got in
           omega (arith, h, one, more, replies, calls, in_call_most a.line a.entry, ap replied knows.1.no_reply)
 
   -- an actor that begins a call, and one that rests
   begins : (b : Actor) → a.line ≡ None → b.entry ≡ None → Covers r (with_actor w me b)
   begins b none new =
-      let calls : sum_by (λ (x : Actor). in_call x.line x.entry) (set w.actors (me - 1) b) + in_call a.line a.entry ≡ in_calls w + in_call b.line b.entry = sum_set (λ (x : Actor). in_call x.line x.entry) w.actors (me - 1) a b got in
+      let calls : sum_by (λ (x : Actor). in_call x.line x.entry) (set w.actors (me - 1) b) + in_call a.line a.entry ≡ in_calls w + in_call b.line
+      b.entry = sum_set (λ (x : Actor). in_call x.line x.entry) w.actors (me - 1) a b got in
       omega (arith, h, calls, ap (λ x. in_call x a.entry) none)
 
   rest : (b : Actor) → Covers (r + 1) (with_actor w me b)
   rest b =
-      let calls : sum_by (λ (x : Actor). in_call x.line x.entry) (set w.actors (me - 1) b) + in_call a.line a.entry ≡ in_calls w + in_call b.line b.entry = sum_set (λ (x : Actor). in_call x.line x.entry) w.actors (me - 1) a b got in
+      let calls : sum_by (λ (x : Actor). in_call x.line x.entry) (set w.actors (me - 1) b) + in_call a.line a.entry ≡ in_calls w + in_call b.line
+      b.entry = sum_set (λ (x : Actor). in_call x.line x.entry) w.actors (me - 1) a b got in
       omega (arith, h, calls, in_call_most a.line a.entry)
 
 -- after every list of moves, with as many actors as at the start
@@ -108,17 +119,24 @@ covered s n moves =
     walked s n (λ done w. Covered n (rests done) w)
     (λ done w led h. record {
       began = λ me op a is at call. (
-        subst (λ k. Covers k (with_actor w me (begun w.setup.kind me op a))) (sym (rests_more done (made _))) (begins (makers done) w (kept_after s n done w led) (rests done + 0) (omega (arith, h.0)) me a is (begun w.setup.kind me op a) at (begun_entry w.setup.kind me op a)),
+        subst (λ k. Covers k (with_actor w me (begun w.setup.kind me op a))) (sym (rests_more done (made _)))
+            (begins (makers done) w (kept_after s n done w led) (rests done + 0) (omega (arith, h.0)) me a is (begun w.setup.kind me op a) at
+            (begun_entry w.setup.kind me op a)),
         length-set w.actors (me - 1) _ ∙ h.1,
       );
       step = λ me a l is at. (
-        subst (λ k. Covers k (after_outcome w me a (performed (action w.setup me a l) w.shared) (outcome w.setup (w.steps + 1) me a l (found (action w.setup me a l) w.shared)))) (sym (rests_more done (made _)))
-            (told (makers done) w (kept_after s n done w led) (rests done + 0) (omega (arith, h.0)) me a is l (performed (action w.setup me a l) w.shared) (outcome w.setup (w.steps + 1) me a l (found (action w.setup me a l) w.shared)) at (λ p q. turned (λ k. Unit {0}) w.setup (w.steps + 1) me a l (found (action w.setup me a l) w.shared) p tt (trivial p) q)),
+        subst (λ k. Covers k (after_outcome w me a (performed (action w.setup me a l) w.shared)
+            (outcome w.setup (w.steps + 1) me a l (found (action w.setup me a l) w.shared)))) (sym (rests_more done (made _)))
+            (told (makers done) w (kept_after s n done w led) (rests done + 0) (omega (arith, h.0)) me a is l
+            (performed (action w.setup me a l) w.shared) (outcome w.setup (w.steps + 1) me a l (found (action w.setup me a l) w.shared)) at
+            (λ p q. turned (λ k. Unit {0}) w.setup (w.steps + 1) me a l (found (action w.setup me a l) w.shared) p tt (trivial p) q)),
         length-set w.actors (me - 1) _ ∙ h.1,
       );
       gave_up = λ me a l o is at given. (
         subst (λ k. Covers k (after_outcome w me a w.shared o)) (sym (rests_more done (made _)))
-            (told (makers done) w (kept_after s n done w led) (rests done + 0) (omega (arith, h.0)) me a is l w.shared o at (λ p q. some_of (Turns (λ k. Unit {0}) p) (gives_up (w.steps + 1) a l) o given (given_turned (λ k. Unit {0}) (w.steps + 1) a l p tt (trivial p) q))),
+            (told (makers done) w (kept_after s n done w led) (rests done + 0) (omega (arith, h.0)) me a is l w.shared o at
+            (λ p q. some_of (Turns (λ k. Unit {0}) p) (gives_up (w.steps + 1) a l) o given
+            (given_turned (λ k. Unit {0}) (w.steps + 1) a l p tt (trivial p) q))),
         length-set w.actors (me - 1) _ ∙ h.1,
       );
       at_rest = λ me a l is at may. (

@@ -3,7 +3,10 @@
 use Rattle.std.proofs.Common.{◌≡◌, ◌≢◌, ℕ, zero, suc, ◌+◌, ◌≤◌, nat_eq, nat_lt, length, Option, Some, None, refl, sym, ap, ◌∙◌, subst, arith, ◌⊎◌, inl, inr}
 use Rattle.std.proofs.lemmas.Bool.{eq-eqb, true≢false}
 use Rattle.std.specs.Prelude.{IsSome, IsTrue}
-use Rattle.step_machine.specs.Below.{null, is_null, is_shut, same_ref, Kind, TwoLock, Line, N1, N2, N3, N4, N5, F1, F2, F3, A1, A2, A3, A4, A5, A6, A7, B1, B2, B3, B4, B5, B6, S6, S7, S8, S9, section_of, Reply, Done, Value, Empty, Refused, Actor, Outcome, Shared, performed, found, put, Free, action, outcome, raised, empties_hand, sets_aside, freed, unlocked, left, left_with_node, with_node, dequeues}
+use Rattle.step_machine.specs.Below.{null, is_null, is_shut, same_ref, Kind, TwoLock, Line, N1, N2, N3, N4, N5, F1, F2, F3, A1, A2, A3, A4, A5, A6}
+use Rattle.step_machine.specs.Below.{A7, B1, B2, B3, B4, B5, B6, S6, S7, S8, S9, section_of, Reply, Done, Value, Empty, Refused, Actor, Outcome}
+use Rattle.step_machine.specs.Below.{Shared, performed, found, put, Free, action, outcome, raised, empties_hand, sets_aside, freed, unlocked, left}
+use Rattle.step_machine.specs.Below.{left_with_node, with_node, dequeues}
 use Rattle.step_machine.specs.declared.actors.Move.TheVariants.{Step}
 use Rattle.step_machine.specs.Machine.{World, actor_of, entry_or, stepped, steps, moved, made, next, IsReached}
 use Rattle.step_machine.specs.Solo.{EndsWithin}
@@ -83,7 +86,8 @@ module _ (w : World) (e : w.setup.kind ≡ TwoLock) (me : ℕ) (a : Actor) where
   Stays m' o = ClearAt m' me o.actor.line
 
   -- its own steps keep its lock open
-  clear_kept : (l : Line) → IsRunBy (section_of l) TwoLock → ClearAt w.shared me (Some l) → Stays (performed (action w.setup me a l) w.shared) (outcome w.setup (w.steps + 1) me a l (found (action w.setup me a l) w.shared))
+  clear_kept : (l : Line) → IsRunBy (section_of l) TwoLock → ClearAt w.shared me (Some l)
+      → Stays (performed (action w.setup me a l) w.shared) (outcome w.setup (w.steps + 1) me a l (found (action w.setup me a l) w.shared))
   clear_kept N1 _ c = c
   clear_kept N2 _ c = both (Stays w.shared) (is_null w.shared.free) (both (Stays w.shared) (nat_lt a.f w.setup.size) c tt) (both (Stays w.shared) (nat_eq w.shared.free.count w.setup.limit) tt c)
   clear_kept N3 _ c = c
@@ -126,7 +130,10 @@ owns_at : (w : World) (r : IsReached w) (e : w.setup.kind ≡ TwoLock) (me : ℕ
 owns_at w r e me a l is at = subst (OwnsAt w.shared me) at ((reached_invariant w r e).sound.actors me a is).owns
 
 -- the step of an actor whose lock is open lowers what is left by 1
-one_less : (w : World) (r : IsReached w) (e : w.setup.kind ≡ TwoLock) (me : ℕ) (a : Actor) (l : Line) (is : actor_of w me ≡ Some a) (at : a.line ≡ Some l) → ClearAt w.shared me (Some l) → locked_at (performed (action w.setup me a l) w.shared) (outcome w.setup (w.steps + 1) me a l (found (action w.setup me a l) w.shared)).actor (outcome w.setup (w.steps + 1) me a l (found (action w.setup me a l) w.shared)).actor.line + 1 ≤ locked_at w.shared a (Some l)
+one_less : (w : World) (r : IsReached w) (e : w.setup.kind ≡ TwoLock) (me : ℕ) (a : Actor) (l : Line) (is : actor_of w me ≡ Some a)
+    (at : a.line ≡ Some l) → ClearAt w.shared me (Some l) → locked_at (performed (action w.setup me a l) w.shared)
+    (outcome w.setup (w.steps + 1) me a l (found (action w.setup me a l) w.shared)).actor
+    (outcome w.setup (w.steps + 1) me a l (found (action w.setup me a l) w.shared)).actor.line + 1 ≤ locked_at w.shared a (Some l)
 one_less w r e me a l is at c = omega (arith, (step_lowers_unheld w r e me a l is at).mine, counts_one w.shared me l c (owns_at w r e me a l is at))
 
 pub ends_in : (k me : ℕ) (w : World) (a : Actor) → IsReached w → w.setup.kind ≡ TwoLock → actor_of w me ≡ Some a → ClearAt w.shared me a.line → locked_at w.shared a a.line ≤ k → EndsWithin k w me
@@ -137,7 +144,9 @@ ends_in zero me w a r e is clear few = go a.line refl clear few
     go (Some l) at c h = absurd (omega (arith, h, one_less w r e me a l is at c))
 ends_in (suc k) me w a r e is clear few = go (ends_in k me) a.line refl clear few
   where
-    go : ((v : World) (b : Actor) → IsReached v → v.setup.kind ≡ TwoLock → actor_of v me ≡ Some b → ClearAt v.shared me b.line → locked_at v.shared b b.line ≤ k → EndsWithin k v me) → (l : Option Line) → a.line ≡ l → ClearAt w.shared me l → locked_at w.shared a l ≤ suc k → EndsWithin (suc k) w me
+    go : ((v : World) (b : Actor) → IsReached v → v.setup.kind ≡ TwoLock → actor_of v me ≡ Some b → ClearAt v.shared me b.line
+        → locked_at v.shared b b.line ≤ k → EndsWithin k v me) → (l : Option Line) → a.line ≡ l → ClearAt w.shared me l
+        → locked_at w.shared a l ≤ suc k → EndsWithin (suc k) w me
     go after None at c h = over (suc k) me w a is at
     go after (Some l) at c h =
         let moves_on : next w (Step me) ≡ Some (stepped w me a l) = ap (moved w (Step me)) is ∙ ap (steps w me a) at in

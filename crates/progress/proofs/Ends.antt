@@ -4,7 +4,8 @@ use Rattle.std.proofs.lemmas.Bool.{ne_eqb}
 use Rattle.std.proofs.lemmas.List.Sums.{sum_by-le}
 use Rattle.std.proofs.lemmas.Option.{slice_get-get_or}
 use Rattle.std.specs.List.{sum_by}
-use Rattle.step_machine.specs.Below.{Line, N2, N3, N4, N5, F1, F2, F3, E2, E6, E7, E9, E13, E17, D3, D4, D5, D10, D12, D13, S1, S2, S3, S4, S5, S6, S7, S8, S9, Held, same_ref, Setup, Actor, Shared, section_of}
+use Rattle.step_machine.specs.Below.{Line, N2, N3, N4, N5, F1, F2, F3, E2, E6, E7, E9, E13, E17, D3, D4, D5, D10, D12, D13, S1, S2, S3, S4, S5, S6}
+use Rattle.step_machine.specs.Below.{S7, S8, S9, Held, same_ref, Setup, Actor, Shared, section_of}
 use Rattle.step_machine.specs.Machine.{World, actor_of, IsReached}
 use Rattle.step_machine.specs.NonBlocking.{OfNonBlockingWorlds}
 use Rattle.step_machine.proofs.EitherQueue.{fixed_at}
@@ -111,8 +112,11 @@ pair_most FreeingFirst _ = omega arith
 -- all that is left is at most so much
 left_most : (w : World) → IsReached w → left w ≤ length w.actors * (8 * length w.actors + 11)
 left_most w r =
-    let each : sum_by (λ c. has all_steps w.setup w.shared c c.entry) w.actors ≤ length w.actors * 19 = sum_by-le (λ c. has all_steps w.setup w.shared c c.entry) 19 w.actors (λ i d low. has_most w r (suc i) (get_or w.actors i d) (in_list w i d low) (get_or w.actors i d).entry) in
-    let two : 2 * pairs cost_of_pair w.actors + 16 * length w.actors ≤ 16 * (length w.actors * length w.actors) = pairs_most cost_of_pair 16 (λ x y. pair_most (stage_of x.due x.line x.entry) (stage_of y.due y.line y.entry)) w.actors in
+    let each : sum_by (λ c. has all_steps w.setup w.shared c c.entry) w.actors ≤ length w.actors * 19 =
+    sum_by-le (λ c. has all_steps w.setup w.shared c c.entry) 19 w.actors (λ i d low. has_most w r (suc i) (get_or w.actors i d)
+    (in_list w i d low) (get_or w.actors i d).entry) in
+    let two : 2 * pairs cost_of_pair w.actors + 16 * length w.actors ≤ 16 * (length w.actors * length w.actors) =
+    pairs_most cost_of_pair 16 (λ x y. pair_most (stage_of x.due x.line x.entry) (stage_of y.due y.line y.entry)) w.actors in
     let out : length w.actors * (8 * length w.actors + 11) ≡ 8 * (length w.actors * length w.actors) + 11 * length w.actors = squared (length w.actors) in
     omega (arith, each, two, out)
   where

@@ -56,7 +56,8 @@ charge_of_pair a b = charge_of a.due a.line a.entry + charge_of b.due b.line b.e
 
 -- what an actor that was told an outcome has before it then
 module _ (w : World) (r : IsReached w) (e : w.setup.kind ≡ TwoLock) (me : ℕ) (a : Actor) (l : Line) (is : actor_of w me ≡ Some a) (at : a.line ≡ Some l) where
-  pub paid_unheld : (m' : Shared) (counts : ℕ) (o : Outcome) → LowersUnheld w.shared m' (charge_at a.due (Some l)) (locked_at w.shared a (Some l)) counts o → Pays (λ s m c. locked_has m c c.entry) charge_of_pair 12 8 w a m' counts o
+  pub paid_unheld : (m' : Shared) (counts : ℕ) (o : Outcome) → LowersUnheld w.shared m' (charge_at a.due (Some l)) (locked_at w.shared a (Some l))
+      counts o → Pays (λ s m c. locked_has m c c.entry) charge_of_pair 12 8 w a m' counts o
   paid_unheld m' counts o f = record { mine = mine a.entry refl; others = λ c. others a.entry refl c }
     where
       amount_then : locked_at m' (told_actor w a o) (told_actor w a o).line ≡ locked_at m' o.actor o.actor.line
@@ -77,7 +78,8 @@ module _ (w : World) (r : IsReached w) (e : w.setup.kind ≡ TwoLock) (me : ℕ)
       up c None = omega arith
       up c (Some entry) = up_at c c.line
 
-      others : (entry : Option ℕ) → a.entry ≡ entry → (c : Actor) → locked_has m' c c.entry + charge_of_pair (told_actor w a o) c ≤ locked_has w.shared c c.entry + charge_of_pair a c + 8 * new_ones a.entry
+      others : (entry : Option ℕ) → a.entry ≡ entry → (c : Actor) → locked_has m' c c.entry + charge_of_pair (told_actor w a o) c ≤ locked_has
+          w.shared c c.entry + charge_of_pair a c + 8 * new_ones a.entry
       others None new c = omega (arith, up c c.entry, f.covers, first_charge a.due l (starts new), ap (charge_of a.due a.line) new, ap (λ x. 8 * new_ones x) new)
       others (Some entry) old c = omega (arith, up c c.entry, f.covers, ap (charge_of a.due a.line) old, ap (charge_at a.due) at, ap (λ x. 8 * new_ones x) old)
 
@@ -94,9 +96,13 @@ account_unheld = record {
     others = λ c. omega (arith, ap (charge_of (begun w.setup.kind me op a).due (begun w.setup.kind me op a).line) (begun_entry w.setup.kind me op a));
   };
   step = λ w r e me a l is at.
-      subst (λ k. Pays (λ s m c. locked_has m c c.entry) charge_of_pair 12 8 w a (performed (action w.setup me a l) w.shared) k (outcome w.setup (w.steps + 1) me a l (found (action w.setup me a l) w.shared))) (sym (ap (unheld_of w.shared) is ∙ ap (unheld_at w.shared) at))
+      subst (λ k. Pays (λ s m c. locked_has m c c.entry) charge_of_pair 12 8 w a (performed (action w.setup me a l) w.shared) k
+      (outcome w.setup (w.steps + 1) me a l (found (action w.setup me a l) w.shared)))
+      (sym (ap (unheld_of w.shared) is ∙ ap (unheld_at w.shared) at))
       (paid_unheld w r e me a l is at _ _ _ (step_lowers_unheld w r e me a l is at));
-  gave_up = λ w r e me a l o is at given. paid_unheld w r e me a l is at w.shared 1 o (some_of (LowersUnheld w.shared w.shared (charge_at a.due (Some l)) (locked_at w.shared a (Some l)) 1) (gives_up (w.steps + 1) a l) o given (give_lowers_unheld w r e me a l is at));
+  gave_up = λ w r e me a l o is at given. paid_unheld w r e me a l is at w.shared 1 o
+      (some_of (LowersUnheld w.shared w.shared (charge_at a.due (Some l)) (locked_at w.shared a (Some l)) 1) (gives_up (w.steps + 1) a l) o given
+      (give_lowers_unheld w r e me a l is at));
   at_rest = λ w r e me a l is at may. record {
     mine = omega (arith, rested_none w.shared a a.entry);
     others = λ c. omega (arith, rested_charge a.due a.entry);
@@ -106,7 +112,9 @@ account_unheld = record {
 pub few_find_no_lock_held : FewFindNoLockHeld 8 4
 few_find_no_lock_held s actors moves sized e =
     if_some (λ v. steps_unheld moves (opening s actors) ≤ (8 * actors + 4) * length v.operations) (run moves (opening s actors))
-    (λ v led. let few : steps_unheld moves (opening s actors) ≤ (12 + 8 * (actors - 1)) * length v.operations = some_of (λ x. steps_unheld moves (opening s actors) ≤ (12 + 8 * (actors - 1)) * length x.operations) (run moves (opening s actors)) v led (opening_gains TwoLock 12 8 numbered_unheld account_unheld s actors moves sized e) in
+    (λ v led. let few : steps_unheld moves (opening s actors) ≤ (12 + 8 * (actors - 1)) * length v.operations =
+    some_of (λ x. steps_unheld moves (opening s actors) ≤ (12 + 8 * (actors - 1)) * length x.operations) (run moves (opening s actors)) v led
+    (opening_gains TwoLock 12 8 numbered_unheld account_unheld s actors moves sized e) in
     let some : 1 ≤ actors = sized.some_actors in
     let same : 12 + 8 * (actors - 1) ≡ 8 * actors + 4 = omega arith in
     omega (arith, few, ap (λ k. k * length v.operations) same))

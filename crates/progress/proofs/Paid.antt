@@ -1,5 +1,6 @@
 -- What an actor's moves count is paid: by the calls that it begins, and by the exchanges that others win.
-use Rattle.std.proofs.Common.{◌≡◌, ◌≢◌, ℕ, ◌+◌, ◌-◌, ◌*◌, ◌≤◌, Bool, true, false, nat_eq, if◌then◌else◌, List, [], ◌∷◌, length, Option, Some, None, IfSome, refl, sym, ap, ◌∙◌, subst, arith, ◌⊎◌, inl, inr, mul-add}
+use Rattle.std.proofs.Common.{◌≡◌, ◌≢◌, ℕ, ◌+◌, ◌-◌, ◌*◌, ◌≤◌, Bool, true, false, nat_eq, if◌then◌else◌, List, [], ◌∷◌, length, Option, Some, None}
+use Rattle.std.proofs.Common.{IfSome, refl, sym, ap, ◌∙◌, subst, arith, ◌⊎◌, inl, inr, mul-add}
 use Rattle.std.proofs.lemmas.Bool.{eq-eqb, ne_eqb}
 use Rattle.std.proofs.lemmas.List.Sums.{sum_by-cons}
 use Rattle.step_machine.specs.Below.{Kind, NonBlocking, Line, Op, Enq, Deq, Shut, E2, F1, Held, Reply, Setup, Actor, Outcome, Shared, performed, found, action, outcome, gives_up, begun, from_pocket}
@@ -103,11 +104,23 @@ module _ (p : Prices) (me : ℕ) (counts : World → AnyMove → ℕ) (most : Op
         let m' : Shared = performed (action w.setup you a l) w.shared in
         let same : has (stepped w you a l) ≡ has_of w.setup m' (actor_of w me) = ap (has_of w.setup m') (other _ d) in
         let toll_is : step_of (toll p) w.shared (actor_of w you) ≡ toll p w.shared a l = ap (step_of (toll p) w.shared) is ∙ ap (at_line_of (toll p) w.shared a) at in
-        record { paid = omega (arith, t.step w you a l is at, no (counted p w.shared a l) 0 d, same, rises _ _ _ _ _ _ f (actor_of w me), f.fair, toll_is, no 0 (step_of (toll p) w.shared (actor_of w you)) d) }
+        record {
+          paid = omega (
+            arith,
+            t.step w you a l is at,
+            no (counted p w.shared a l) 0 d,
+            same,
+            rises _ _ _ _ _ _ f (actor_of w me),
+            f.fair,
+            toll_is,
+            no 0 (step_of (toll p) w.shared (actor_of w you)) d,
+          );
+        }
 
     give_paid : (l : Line) (o : Outcome) → a.line ≡ Some l → gives_up (w.steps + 1) a l ≡ Some o → (you ≡ me) ⊎ (you ≢ me) → IsPaid w (made (Give you)) (after_outcome w you a w.shared o)
     give_paid l o at given (inl q) =
-        let f = some_of (Lowers p w.setup w.shared w.shared (stage a.due l) (amount_at p w.setup w.shared a (Some l)) p.step 0) (gives_up (w.steps + 1) a l) o given (give_lowers p t.enough w r e you a l is at) in
+        let f = some_of (Lowers p w.setup w.shared w.shared (stage a.due l) (amount_at p w.setup w.shared a (Some l)) p.step 0)
+        (gives_up (w.steps + 1) a l) o given (give_lowers p t.enough w r e you a l is at) in
         record { paid = omega (arith, t.gave_up w you, yes p.step 0 q, f.mine, before l at q, after w.shared o q) }
     give_paid l o at given (inr d) =
         let same : has (after_outcome w you a w.shared o) ≡ has w = ap (has_of w.setup w.shared) (other _ d) in
@@ -116,13 +129,16 @@ module _ (p : Prices) (me : ℕ) (counts : World → AnyMove → ℕ) (most : Op
     begin_paid : (op : Op) → (you ≡ me) ⊎ (you ≢ me) → IsPaid w (made (Begin you op)) (with_actor w you (begun w.setup.kind you op a))
     begin_paid op (inl q) =
         let b : Actor = begun w.setup.kind you op a in
-        let now : has (with_actor w you b) ≡ amount_at p w.setup w.shared b b.line = ap (λ j. has_of w.setup w.shared (actor_of (with_actor w you b) j)) (sym q) ∙ ap (has_of w.setup w.shared) (actor_same w you a b is) in
+        let now : has (with_actor w you b) ≡ amount_at p w.setup w.shared b b.line =
+        ap (λ j. has_of w.setup w.shared (actor_of (with_actor w you b) j)) (sym q) ∙ ap (has_of w.setup w.shared) (actor_same w you a b is) in
         record { paid = omega (arith, t.began w you op, now, t.begins w.setup w.shared w.setup.kind you op a e, all op, ap (λ k. each * k) (yes 1 0 q)) }
     begin_paid op (inr d) = record { paid = omega (arith, t.began w you op, ap (has_of w.setup w.shared) (other (begun w.setup.kind you op a) d)) }
 
     rest_paid : (you ≡ me) ⊎ (you ≢ me) → IsPaid w (Rest you) (with_actor w you (rested a))
     rest_paid (inl q) =
-        let now : has (with_actor w you (rested a)) ≡ amount_at p w.setup w.shared (rested a) None = ap (λ j. has_of w.setup w.shared (actor_of (with_actor w you (rested a)) j)) (sym q) ∙ ap (has_of w.setup w.shared) (actor_same w you a (rested a) is) in
+        let now : has (with_actor w you (rested a)) ≡ amount_at p w.setup w.shared (rested a) None =
+        ap (λ j. has_of w.setup w.shared (actor_of (with_actor w you (rested a)) j)) (sym q) ∙ ap (has_of w.setup w.shared)
+        (actor_same w you a (rested a) is) in
         record { paid = omega (arith, t.at_rest w you, now, nothing w.setup w.shared (rested a)) }
     rest_paid (inr d) = record { paid = omega (arith, t.at_rest w you, ap (has_of w.setup w.shared) (other (rested a) d)) }
 
@@ -144,7 +160,9 @@ module _ (p : Prices) (me : ℕ) (counts : World → AnyMove → ℕ) (most : Op
   run_paid [] w r e = omega arith
   run_paid (m ∷ ms) w r e = go (run_paid ms) (next_any w m) refl
     where
-      go : ((u : World) → IsReached u → u.setup.kind ≡ NonBlocking → IfSome (run ms u) (ArePaid ms u)) → (o : Option World) → next_any w m ≡ o → IfSome (run_on (run ms) o) (λ v. counts w m + total_on (total counts ms) o + has v ≤ has w + each * calls_of me (m ∷ ms) + (costs p me w m + total_on (total (costs p me) ms) o))
+      go : ((u : World) → IsReached u → u.setup.kind ≡ NonBlocking → IfSome (run ms u) (ArePaid ms u)) → (o : Option World) → next_any w m ≡ o
+          → IfSome (run_on (run ms) o) (λ v. counts w m + total_on (total counts ms) o + has v ≤ has w + each * calls_of me (m ∷ ms) +
+          (costs p me w m + total_on (total (costs p me) ms) o))
       go later None f = tt
       go later (Some u) f =
           if_some (λ v. counts w m + total counts ms u + has v ≤ has w + each * calls_of me (m ∷ ms) + (costs p me w m + total (costs p me) ms u)) (run ms u)
@@ -159,9 +177,11 @@ module _ (p : Prices) (me : ℕ) (counts : World → AnyMove → ℕ) (most : Op
   none_has s n (Some a) is = subst (λ (x : Actor). amount_at p s (opening s n).shared x x.line ≡ 0) (idle_got n (me - 1) a (actor_stands (opening s n) me a is).1) (nothing s (opening s n).shared idle)
 
   -- from the start on, and from a begin on
-  pub opening_paid : (s : Setup) (n : ℕ) (moves : List AnyMove) (v : World) → IsSized s n → s.kind ≡ NonBlocking → run moves (opening s n) ≡ Some v → total counts moves (opening s n) ≤ each * calls_of me moves + total (costs p me) moves (opening s n)
+  pub opening_paid : (s : Setup) (n : ℕ) (moves : List AnyMove) (v : World) → IsSized s n → s.kind ≡ NonBlocking → run moves (opening s n) ≡ Some v
+      → total counts moves (opening s n) ≤ each * calls_of me moves + total (costs p me) moves (opening s n)
   opening_paid s n moves v sized e led =
-      let d : ArePaid moves (opening s n) v = some_of (ArePaid moves (opening s n)) (run moves (opening s n)) v led (run_paid moves (opening s n) (record { actors = n; moves = []; sized = sized; led = refl }) e) in
+      let d : ArePaid moves (opening s n) v = some_of (ArePaid moves (opening s n)) (run moves (opening s n)) v led
+      (run_paid moves (opening s n) (record { actors = n; moves = []; sized = sized; led = refl }) e) in
       omega (arith, d, none_has s n (actor_of (opening s n) me) refl)
 
   -- what a call has before it where it begins
@@ -173,13 +193,20 @@ module _ (p : Prices) (me : ℕ) (counts : World → AnyMove → ℕ) (most : Op
   begun_has w =
       after_move w BegunHas
       (record {
-        began = λ you op a is at call e q. omega (arith, ap (λ j. has_of w.setup w.shared (actor_of (with_actor w you (begun w.setup.kind you op a)) j)) (sym q), ap (has_of w.setup w.shared) (actor_same w you a (begun w.setup.kind you op a) is), t.begins w.setup w.shared w.setup.kind you op a e);
+        began = λ you op a is at call e q. omega (
+          arith,
+          ap (λ j. has_of w.setup w.shared
+              (actor_of (with_actor w you (begun w.setup.kind you op a)) j)) (sym q),
+          ap (has_of w.setup w.shared) (actor_same w you a (begun w.setup.kind you op a) is),
+          t.begins w.setup w.shared w.setup.kind you op a e,
+        );
         step = λ you a l is at. tt;
         gave_up = λ you a l o is at given. tt;
         at_rest = λ you a l is at may. tt;
       })
 
-  pub call_paid : (w : World) → IsReached w → w.setup.kind ≡ NonBlocking → (op : Op) (v : World) → next_any w (made (Begin me op)) ≡ Some v → (ms : List AnyMove) (u : World) → run ms v ≡ Some u → calls_of me ms ≡ 0 → total counts ms v ≤ most op + total (costs p me) ms v
+  pub call_paid : (w : World) → IsReached w → w.setup.kind ≡ NonBlocking → (op : Op) (v : World) → next_any w (made (Begin me op)) ≡ Some v
+      → (ms : List AnyMove) (u : World) → run ms v ≡ Some u → calls_of me ms ≡ 0 → total counts ms v ≤ most op + total (costs p me) ms v
   call_paid w r e op v began ms u led none =
       let runs : v.setup.kind ≡ NonBlocking = ap (λ (s : Setup). s.kind) (setup-next_any w v (made (Begin me op)) began) ∙ e in
       let first : has v ≤ most op = some_of (BegunHas (made (Begin me op))) (next_any w (made (Begin me op))) v began (begun_has w (made (Begin me op))) runs refl in
@@ -217,7 +244,8 @@ nothing_kept None = refl
 nothing_kept (Some held) = refl
 
 module _ (s : Setup) (m : Shared) where
-  pocket_turns : (l : Line) (q : Option Held) (b : Actor) → amount_at failed_turns s m b b.line ≤ 1 → ((x : Actor) → own failed_turns s m x l ≤ 1) → amount_at failed_turns s m (from_pocket l q b) (from_pocket l q b).line ≤ 1
+  pocket_turns : (l : Line) (q : Option Held) (b : Actor) → amount_at failed_turns s m b b.line ≤ 1 → ((x : Actor) → own failed_turns s m x l ≤ 1)
+      → amount_at failed_turns s m (from_pocket l q b) (from_pocket l q b).line ≤ 1
   pocket_turns l None b h g = h
   pocket_turns l (Some held) b h g = omega (arith, g (from_pocket l (Some held) b))
 
@@ -252,10 +280,14 @@ turns_tally me = record {
     branch false x y h = omega arith
 
 pub steps_are_paid : StepsArePaid 17
-steps_are_paid s n moves sized e = if_some (λ v. (me : ℕ) → total (taken_by me) moves (opening s n) ≤ 17 * calls_of me moves + total (costs call_steps me) moves (opening s n)) (run moves (opening s n)) (λ v led me. opening_paid call_steps me (taken_by me) most_steps 17 (steps_tally me) few_most s n moves v sized e led)
+steps_are_paid s n moves sized e = if_some (λ v. (me : ℕ) → total (taken_by me) moves (opening s n) ≤ 17 * calls_of me moves + total
+    (costs call_steps me) moves (opening s n)) (run moves (opening s n)) (λ v led me. opening_paid call_steps me (taken_by me) most_steps 17
+    (steps_tally me) few_most s n moves v sized e led)
 
 pub failed_turns_are_paid : FailedTurnsArePaid 1
-failed_turns_are_paid s n moves sized e = if_some (λ v. (me : ℕ) → total (fails_by me) moves (opening s n) ≤ 1 * calls_of me moves + total (costs failed_turns me) moves (opening s n)) (run moves (opening s n)) (λ v led me. opening_paid failed_turns me (fails_by me) (λ op. 1) 1 (turns_tally me) (λ op. omega arith) s n moves v sized e led)
+failed_turns_are_paid s n moves sized e = if_some (λ v. (me : ℕ) → total (fails_by me) moves (opening s n) ≤ 1 * calls_of me moves + total
+    (costs failed_turns me) moves (opening s n)) (run moves (opening s n)) (λ v led me. opening_paid failed_turns me (fails_by me) (λ op. 1) 1
+    (turns_tally me) (λ op. omega arith) s n moves v sized e led)
 
 pub steps_of_a_call_are_paid : OfNonBlockingWorlds StepsOfACallArePaid
 steps_of_a_call_are_paid w r e me op v began ms u led none = call_paid call_steps me (taken_by me) most_steps 17 (steps_tally me) few_most w r e op v began ms u led none

@@ -1,9 +1,11 @@
 -- The non-blocking queue's account: what each actor has before it, and each two, pays for its steps.
-use Rattle.std.proofs.Common.{◌≡◌, ◌≢◌, ℕ, zero, suc, ◌+◌, ◌-◌, ◌*◌, ◌≤◌, Bool, true, false, nat_eq, slice_index_or, List, length, replicate, Option, Some, None, IfSome, refl, sym, ap, ◌∙◌, subst, arith, ◌⊎◌, inl, inr}
+use Rattle.std.proofs.Common.{◌≡◌, ◌≢◌, ℕ, zero, suc, ◌+◌, ◌-◌, ◌*◌, ◌≤◌, Bool, true, false, nat_eq, slice_index_or, List, length, replicate, Option}
+use Rattle.std.proofs.Common.{Some, None, IfSome, refl, sym, ap, ◌∙◌, subst, arith, ◌⊎◌, inl, inr}
 use Rattle.std.proofs.Math.ListN.{length-replicate}
 use Rattle.std.proofs.lemmas.Bool.{true≢false}
 use Rattle.std.proofs.lemmas.Option.{none-some}
-use Rattle.step_machine.specs.Below.{Kind, TwoLock, NonBlocking, Line, N1, F1, E2, D2, S1, A1, B1, S6, Op, Enq, Deq, Shut, Reply, Setup, Held, Actor, Outcome, Shared, blank, first_words, is_null, is_shut, gives_up, begun, from_pocket, section_of}
+use Rattle.step_machine.specs.Below.{Kind, TwoLock, NonBlocking, Line, N1, F1, E2, D2, S1, A1, B1, S6, Op, Enq, Deq, Shut, Reply, Setup, Held, Actor}
+use Rattle.step_machine.specs.Below.{Outcome, Shared, blank, first_words, is_null, is_shut, gives_up, begun, from_pocket, section_of}
 use Rattle.step_machine.specs.Machine.{World, idle, opening, actor_of, rested, with_actor, entry_or, after_outcome, stepped, may_rest, AnyMove, run, IsSized, IsReached}
 use Rattle.step_machine.specs.ProgramCounters.{IsRunBy}
 use Rattle.step_machine.specs.NonBlocking.{OfNonBlockingWorlds}
@@ -56,7 +58,8 @@ begun_first TwoLock me Shut a = tt
 begun_first NonBlocking me Shut a = tt
 
 -- it stays so where one actor has another state, that has a number or stands so
-first_with : (w v : World) (me : ℕ) (b : Actor) → ((you : ℕ) (c : Actor) → actor_of v you ≡ Some c → ((you ≡ me) × (b ≡ c)) ⊎ ((you ≢ me) × (actor_of w you ≡ Some c))) → (b.entry ≡ None → FirstAt b.due b.line) → EachBegins w → EachBegins v
+first_with : (w v : World) (me : ℕ) (b : Actor) → ((you : ℕ) (c : Actor) → actor_of v you ≡ Some c → ((you ≡ me) × (b ≡ c))
+    ⊎ ((you ≢ me) × (actor_of w you ≡ Some c))) → (b.entry ≡ None → FirstAt b.due b.line) → EachBegins w → EachBegins v
 first_with w v me b cases mine h you c got new = go (cases you c got)
   where
     go : ((you ≡ me) × (b ≡ c)) ⊎ ((you ≢ me) × (actor_of w you ≡ Some c)) → FirstAt c.due c.line
@@ -150,11 +153,13 @@ module _ (s : Setup) (m : Shared) where
   none_has a None at = ap (λ l. in_hand all_steps l + of_pocket all_steps a.pocket + if_so (tail_lags s m) 4) at ∙ omega arith
   none_has a (Some entry) at = ap (amount_at all_steps s m a) at
 
-  pocket_has : (l : Line) (q : Option Held) (b : Actor) → b.pocket ≡ q → in_hand all_steps b.line ≡ 0 → in_hand all_steps (Some l) ≡ 2 → in_hand all_steps (from_pocket l q b).line + of_pocket all_steps (from_pocket l q b).pocket ≤ of_pocket all_steps q
+  pocket_has : (l : Line) (q : Option Held) (b : Actor) → b.pocket ≡ q → in_hand all_steps b.line ≡ 0 → in_hand all_steps (Some l) ≡ 2
+      → in_hand all_steps (from_pocket l q b).line + of_pocket all_steps (from_pocket l q b).pocket ≤ of_pocket all_steps q
   pocket_has l None b same none kept = omega (arith, ap (of_pocket all_steps) same, none)
   pocket_has l (Some held) b same none kept = omega (arith, kept)
 
-  pub begun_has : (kind : Kind) (me : ℕ) (op : Op) (a : Actor) → kind ≡ NonBlocking → in_hand all_steps (begun kind me op a).line + of_pocket all_steps (begun kind me op a).pocket ≤ of_pocket all_steps a.pocket
+  pub begun_has : (kind : Kind) (me : ℕ) (op : Op) (a : Actor) → kind ≡ NonBlocking
+      → in_hand all_steps (begun kind me op a).line + of_pocket all_steps (begun kind me op a).pocket ≤ of_pocket all_steps a.pocket
   begun_has kind me op a e = subst (λ k. in_hand all_steps (begun k me op a).line + of_pocket all_steps (begun k me op a).pocket ≤ of_pocket all_steps a.pocket) (sym e) (go op)
     where
       go : (op : Op) → in_hand all_steps (begun NonBlocking me op a).line + of_pocket all_steps (begun NonBlocking me op a).pocket ≤ of_pocket all_steps a.pocket
@@ -190,7 +195,8 @@ open_first s = unless_worn (nat_eq 0 s.limit) (go s.size)
 
 -- what an actor that was told an outcome has before it then
 module _ (w : World) (r : IsReached w) (e : w.setup.kind ≡ NonBlocking) (me : ℕ) (a : Actor) (l : Line) (is : actor_of w me ≡ Some a) (at : a.line ≡ Some l) where
-  pub paid : (m' : Shared) (counts toll : ℕ) (o : Outcome) → 1 ≤ counts → Lowers all_steps w.setup w.shared m' (stage a.due l) (amount_at all_steps w.setup w.shared a (Some l)) counts toll o → Pays (λ s m c. has all_steps s m c c.entry) cost_of_pair 11 8 w a m' 1 o
+  pub paid : (m' : Shared) (counts toll : ℕ) (o : Outcome) → 1 ≤ counts → Lowers all_steps w.setup w.shared m' (stage a.due l)
+      (amount_at all_steps w.setup w.shared a (Some l)) counts toll o → Pays (λ s m c. has all_steps s m c c.entry) cost_of_pair 11 8 w a m' 1 o
   paid m' counts toll o one f = record { mine = mine a.entry refl; others = λ c. others a.entry refl c c.entry refl }
     where
       amount_then : has all_steps w.setup m' (told_actor w a o) (told_actor w a o).entry ≡ amount_at all_steps w.setup m' o.actor o.actor.line
@@ -201,7 +207,8 @@ module _ (w : World) (r : IsReached w) (e : w.setup.kind ≡ NonBlocking) (me : 
 
       mine : (entry : Option ℕ) → a.entry ≡ entry → has all_steps w.setup m' (told_actor w a o) (told_actor w a o).entry + 1 ≤ has all_steps w.setup w.shared a a.entry + 11 * new_ones a.entry
       mine None new =
-          let few : own all_steps w.setup w.shared a l ≤ in_hand all_steps (Some l) + if_so (tail_lags w.setup w.shared) 4 + 11 = first_most w.setup w.shared a l (subst (IsRunBy (section_of l)) e (each_runs_its_queue w r me a l is at)) (starts new) in
+          let few : own all_steps w.setup w.shared a l ≤ in_hand all_steps (Some l) + if_so (tail_lags w.setup w.shared) 4 + 11 =
+          first_most w.setup w.shared a l (subst (IsRunBy (section_of l)) e (each_runs_its_queue w r me a l is at)) (starts new) in
           omega (arith, f.mine, one, amount_then, few, ap (has all_steps w.setup w.shared a) new, ap (in_hand all_steps) at, ap (λ x. 11 * new_ones x) new)
       mine (Some entry) old =
           omega (arith, f.mine, one, amount_then, ap (has all_steps w.setup w.shared a) old, ap (amount_at all_steps w.setup w.shared a) at, ap (λ x. 11 * new_ones x) old)
@@ -215,11 +222,28 @@ module _ (w : World) (r : IsReached w) (e : w.setup.kind ≡ NonBlocking) (me : 
           by_line None = omega (arith, f.idle)
           by_line (Some j) = omega (arith, f.others c j)
 
-      others : (entry : Option ℕ) → a.entry ≡ entry → (c : Actor) (its : Option ℕ) → c.entry ≡ its → has all_steps w.setup m' c c.entry + cost_of_pair (told_actor w a o) c ≤ has all_steps w.setup w.shared c c.entry + cost_of_pair a c + 8 * new_ones a.entry
+      others : (entry : Option ℕ) → a.entry ≡ entry → (c : Actor) (its : Option ℕ) → c.entry ≡ its
+          → has all_steps w.setup m' c c.entry + cost_of_pair (told_actor w a o) c ≤ has all_steps w.setup w.shared c c.entry + cost_of_pair a c + 8 *
+          new_ones a.entry
       others None new c its _ =
-          omega (arith, up c c.entry, f.covers (stage_of c.due c.line c.entry), begins_at a.due l (starts new) (stage_of c.due c.line c.entry), ap (λ x. pair (stage_of a.due a.line x) (stage_of c.due c.line c.entry)) new, ap (λ x. 8 * new_ones x) new)
+          omega (
+            arith,
+            up c c.entry,
+            f.covers (stage_of c.due c.line c.entry),
+            begins_at a.due l (starts new) (stage_of c.due c.line c.entry),
+            ap (λ x. pair (stage_of a.due a.line x) (stage_of c.due c.line c.entry)) new,
+            ap (λ x. 8 * new_ones x) new,
+          )
       others (Some entry) old c its _ =
-          omega (arith, up c c.entry, f.covers (stage_of c.due c.line c.entry), ap (λ x. pair (stage_of a.due a.line x) (stage_of c.due c.line c.entry)) old, ap (λ x. pair (stage_at a.due x) (stage_of c.due c.line c.entry)) at, ap (λ x. 8 * new_ones x) old)
+          omega (
+            arith,
+            up c c.entry,
+            f.covers (stage_of c.due c.line c.entry),
+            ap
+                (λ x. pair (stage_of a.due a.line x) (stage_of c.due c.line c.entry)) old,
+            ap (λ x. pair (stage_at a.due x) (stage_of c.due c.line c.entry)) at,
+            ap (λ x. 8 * new_ones x) old,
+          )
 
 -- the account of steps
 abbrev pub account : Account NonBlocking 11 8 numbered
@@ -230,11 +254,24 @@ account = record {
   none = λ s. omega (arith, ap (λ b. if_so b 4) (open_first s));
   no_cost = refl;
   began = λ w r e me op a at. record {
-    mine = omega (arith, ap (has all_steps w.setup w.shared (begun w.setup.kind me op a)) (begun_entry w.setup.kind me op a), begun_has w.setup w.shared w.setup.kind me op a e, none_has w.setup w.shared a a.entry at);
-    others = λ c. omega (arith, ap (λ x. pair x (stage_of c.due c.line c.entry)) (no_number (begun w.setup.kind me op a).due (begun w.setup.kind me op a).line (begun w.setup.kind me op a).entry (begun_entry w.setup.kind me op a)), resting_less (stage_of a.due a.line a.entry) (stage_of c.due c.line c.entry));
+    mine = omega (
+      arith,
+      ap (has all_steps w.setup w.shared (begun w.setup.kind me op a)) (begun_entry w.setup.kind me op a),
+      begun_has w.setup w.shared w.setup.kind me op a e,
+      none_has w.setup w.shared a a.entry at,
+    );
+    others = λ c. omega (
+      arith,
+      ap (λ x. pair x (stage_of c.due c.line c.entry))
+          (no_number (begun w.setup.kind me op a).due (begun w.setup.kind me op a).line (begun w.setup.kind me op a).entry
+          (begun_entry w.setup.kind me op a)),
+      resting_less (stage_of a.due a.line a.entry) (stage_of c.due c.line c.entry),
+    );
   };
   step = λ w r e me a l is at. paid w r e me a l is at _ _ _ _ (omega arith) (step_lowers all_steps all_enough w r e me a l is at);
-  gave_up = λ w r e me a l o is at given. paid w r e me a l is at w.shared 1 0 o (omega arith) (some_of (Lowers all_steps w.setup w.shared w.shared (stage a.due l) (amount_at all_steps w.setup w.shared a (Some l)) 1 0) (gives_up (w.steps + 1) a l) o given (give_lowers all_steps all_enough w r e me a l is at));
+  gave_up = λ w r e me a l o is at given. paid w r e me a l is at w.shared 1 0 o (omega arith)
+      (some_of (Lowers all_steps w.setup w.shared w.shared (stage a.due l) (amount_at all_steps w.setup w.shared a (Some l)) 1 0)
+      (gives_up (w.steps + 1) a l) o given (give_lowers all_steps all_enough w r e me a l is at));
   at_rest = λ w r e me a l is at may. record {
     mine = omega (arith, rested_has w.setup w.shared a l a.entry (subst (IsRunBy (section_of l)) e (each_runs_its_queue w r me a l is at)) at may);
     others = λ c. omega (arith, ap (λ x. pair x (stage_of c.due c.line c.entry)) (no_stage a.due None a.entry refl), resting_less (stage_of a.due a.line a.entry) (stage_of c.due c.line c.entry));
@@ -247,21 +284,29 @@ each_few_later w r e ms v led =
     let n = length w.actors - 1 in
     let some : 1 ≤ length w.actors = (reached_in_range w r).sized.some_actors in
     let same : 11 + 8 * n ≡ 8 * length w.actors + 3 = omega arith in
-    let g : Gains NonBlocking 11 8 numbered account n (total numbered ms w) w v = some_of (Gains NonBlocking 11 8 numbered account n (total numbered ms w) w) (run ms w) v led (run_gains NonBlocking 11 8 numbered account n ms w r e refl) in
+    let g : Gains NonBlocking 11 8 numbered account n (total numbered ms w) w v =
+    some_of (Gains NonBlocking 11 8 numbered account n (total numbered ms w) w) (run ms w) v led
+    (run_gains NonBlocking 11 8 numbered account n ms w r e refl) in
     let s : v.steps ≡ w.steps + total numbered ms w = some_of (λ x. x.steps ≡ w.steps + total numbered ms w) (run ms w) v led (steps_numbered ms w) in
     omega (arith, g, s, ap (λ k. k * length w.operations) same, ap (λ k. k * length v.operations) same)
 
-pub few_numbered : (s : Setup) (actors : ℕ) (moves : List AnyMove) → IsSized s actors → s.kind ≡ NonBlocking → IfSome (run moves (opening s actors)) (λ v. v.steps ≤ (8 * actors + 3) * length v.operations)
+pub few_numbered : (s : Setup) (actors : ℕ) (moves : List AnyMove) → IsSized s actors → s.kind ≡ NonBlocking
+    → IfSome (run moves (opening s actors)) (λ v. v.steps ≤ (8 * actors + 3) * length v.operations)
 few_numbered s actors moves sized e =
     if_some (λ v. v.steps ≤ (8 * actors + 3) * length v.operations) (run moves (opening s actors))
-    (λ v led. let few : total numbered moves (opening s actors) ≤ (11 + 8 * (actors - 1)) * length v.operations = some_of (λ x. total numbered moves (opening s actors) ≤ (11 + 8 * (actors - 1)) * length x.operations) (run moves (opening s actors)) v led (opening_gains NonBlocking 11 8 numbered account s actors moves sized e) in
-    let steps : v.steps ≡ 0 + total numbered moves (opening s actors) = some_of (λ x. x.steps ≡ 0 + total numbered moves (opening s actors)) (run moves (opening s actors)) v led (steps_numbered moves (opening s actors)) in
+    (λ v led. let few : total numbered moves (opening s actors) ≤ (11 + 8 * (actors - 1)) * length v.operations =
+    some_of (λ x. total numbered moves (opening s actors) ≤ (11 + 8 * (actors - 1)) * length x.operations) (run moves (opening s actors)) v led
+    (opening_gains NonBlocking 11 8 numbered account s actors moves sized e) in
+    let steps : v.steps ≡ 0 + total numbered moves (opening s actors) = some_of (λ x. x.steps ≡ 0 + total numbered moves (opening s actors))
+    (run moves (opening s actors)) v led (steps_numbered moves (opening s actors)) in
     let some : 1 ≤ actors = sized.some_actors in
     let same : 11 + 8 * (actors - 1) ≡ 8 * actors + 3 = omega arith in
     omega (arith, few, steps, ap (λ k. k * length v.operations) same))
 
 pub each_few : OfNonBlockingWorlds (IsFew 8 3)
 each_few w r e =
-    let same : length w.actors ≡ r.actors = some_of (λ v. length v.actors ≡ r.actors) (run r.moves (opening w.setup r.actors)) w r.led (as_many r.actors r.moves (opening w.setup r.actors) (length-replicate r.actors idle)) in
-    let few : w.steps ≤ (8 * r.actors + 3) * length w.operations = some_of (λ v. v.steps ≤ (8 * r.actors + 3) * length v.operations) (run r.moves (opening w.setup r.actors)) w r.led (few_numbered w.setup r.actors r.moves r.sized e) in
+    let same : length w.actors ≡ r.actors = some_of (λ v. length v.actors ≡ r.actors) (run r.moves (opening w.setup r.actors)) w r.led
+    (as_many r.actors r.moves (opening w.setup r.actors) (length-replicate r.actors idle)) in
+    let few : w.steps ≤ (8 * r.actors + 3) * length w.operations = some_of (λ v. v.steps ≤ (8 * r.actors + 3) * length v.operations)
+    (run r.moves (opening w.setup r.actors)) w r.led (few_numbered w.setup r.actors r.moves r.sized e) in
     omega (arith, few, ap (λ k. (8 * k + 3) * length w.operations) same)

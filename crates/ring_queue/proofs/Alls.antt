@@ -17,7 +17,8 @@ search : (ns : List ℕ) (x : ℕ) → ((i : ℕ) × (slice_get ns i ≡ Some x)
 search [] x = inr tt
 search (y ∷ ys) x = go (nat_eq x y) refl (search ys x)
   where
-    go : (b : Bool) → nat_eq x y ≡ b → ((i : ℕ) × (slice_get ys i ≡ Some x)) ⊎ AllByRecursion (λ z. nat_eq x z ≡ false) ys → ((i : ℕ) × (slice_get (y ∷ ys) i ≡ Some x)) ⊎ AllByRecursion (λ z. nat_eq x z ≡ false) (y ∷ ys)
+    go : (b : Bool) → nat_eq x y ≡ b → ((i : ℕ) × (slice_get ys i ≡ Some x)) ⊎ AllByRecursion (λ z. nat_eq x z ≡ false) ys
+        → ((i : ℕ) × (slice_get (y ∷ ys) i ≡ Some x)) ⊎ AllByRecursion (λ z. nat_eq x z ≡ false) (y ∷ ys)
     go true e found = inl (0, ap (λ z. Some z) (sym (eqb-true x y e)))
     go false e (inl found) = inl (suc found.0, found.1)
     go false e (inr none) = inr (e, none)
@@ -45,7 +46,8 @@ distinct (x ∷ xs) apart = (
 )
 
 -- n numbers below n, each at one place, are all of these
-all_below : (ns : List ℕ) (n x : ℕ) → length ns ≡ n → ((i j y : ℕ) → slice_get ns i ≡ Some y → slice_get ns j ≡ Some y → i ≡ j) → ((i y : ℕ) → slice_get ns i ≡ Some y → y < n) → x < n → (i : ℕ) × (slice_get ns i ≡ Some x)
+all_below : (ns : List ℕ) (n x : ℕ) → length ns ≡ n → ((i j y : ℕ) → slice_get ns i ≡ Some y → slice_get ns j ≡ Some y → i ≡ j)
+    → ((i y : ℕ) → slice_get ns i ≡ Some y → y < n) → x < n → (i : ℕ) × (slice_get ns i ≡ Some x)
 unfolding IsDistinct
 all_below ns n x count apart below lt = go (search ns x)
   where
@@ -77,7 +79,8 @@ known_there [] i n s e is = absurd (none-some s e)
 known_there (x ∷ xs) zero n s e is = ap (λ (y : Seat _). (view y).number) (same_Some x s e) ∙ is
 known_there (x ∷ xs) (suc i) n s e is = known_there xs i n s e is
 
-module _ {T : Type 0} (z : Layout) (t : TableId) (seats : List (Seat T)) (ready : All (IsReady z t) seats) (apart : (k l : ℕ) (a b : Seat T) → slice_get seats k ≡ Some a → slice_get seats l ≡ Some b → (view a).number ≡ (view b).number → k ≡ l) where
+module _ {T : Type 0} (z : Layout) (t : TableId) (seats : List (Seat T)) (ready : All (IsReady z t) seats)
+    (apart : (k l : ℕ) (a b : Seat T) → slice_get seats k ≡ Some a → slice_get seats l ≡ Some b → (view a).number ≡ (view b).number → k ≡ l) where
   -- the number of a seat that is handed in
   in_range : (i : ℕ) (s : Seat T) → slice_get seats i ≡ Some s → (1 ≤ (view s).number) × ((view s).number - 1 < length z.roles)
   in_range i s got =

@@ -30,7 +30,8 @@ length-taken_in [] = refl
 length-taken_in (w ∷ ws) = ap suc (length-taken_in ws)
 
 -- values that were popped after their seat saw more
-pub popped_after : (a b c : Known) (ws : List ℕ) (most count : ℕ) (before after : List Taken) → SeesMore a b → after ≡ before ++ map taken_in ws → AddsAll b (pops b.number ws) c → length ws ≡ count → 1 ≤ count → count ≤ most → PoppedAll a most before after c count
+pub popped_after : (a b c : Known) (ws : List ℕ) (most count : ℕ) (before after : List Taken) → SeesMore a b → after ≡ before ++ map taken_in ws
+    → AddsAll b (pops b.number ws) c → length ws ≡ count → 1 ≤ count → count ≤ most → PoppedAll a most before after c count
 popped_after a b c ws most count before after f into g long some few = record {
   values = map taken_in ws;
   long = length-taken_in ws ∙ long;
@@ -40,7 +41,8 @@ popped_after a b c ws most count before after f into g long some few = record {
   adds = record {
     number = g.number ∙ f.number;
     between = f.between ++ g.between;
-    seen = g.seen ∙ (λ i. (f.seen i ++ g.between) ++ pops (f.number i) ws) ∙ ap (λ es. es ++ pops a.number ws) (append_assoc a.seen f.between g.between) ∙ ap (λ es. (a.seen ++ (f.between ++ g.between)) ++ es) (sym (pops_are a.number ws));
+    seen = g.seen ∙ (λ i. (f.seen i ++ g.between) ++ pops (f.number i) ws) ∙ ap (λ es. es ++ pops a.number ws)
+        (append_assoc a.seen f.between g.between) ∙ ap (λ es. (a.seen ++ (f.between ++ g.between)) ++ es) (sym (pops_are a.number ws));
     mine = g.mine ∙ (λ i. f.mine i ++ pops (f.number i) ws) ∙ ap (λ es. a.mine ++ es) (sym (pops_are a.number ws));
     notes = g.notes ∙ f.notes;
   };
@@ -58,7 +60,8 @@ pops_some a b c most (suc n) before mid after f same p = record {
   adds = record {
     number = p.adds.number ∙ f.number;
     between = f.between ++ p.adds.between;
-    seen = p.adds.seen ∙ (λ i. (f.seen i ++ p.adds.between) ++ map (λ value. Pop (f.number i) value) p.values) ∙ ap (λ es. es ++ map (λ value. Pop a.number value) p.values) (append_assoc a.seen f.between p.adds.between);
+    seen = p.adds.seen ∙ (λ i. (f.seen i ++ p.adds.between) ++ map (λ value. Pop (f.number i) value) p.values) ∙ ap
+        (λ es. es ++ map (λ value. Pop a.number value) p.values) (append_assoc a.seen f.between p.adds.between);
     mine = p.adds.mine ∙ (λ i. f.mine i ++ map (λ value. Pop (f.number i) value) p.values);
     notes = p.adds.notes ∙ f.notes;
   };

@@ -23,7 +23,8 @@ Does z i v f all fact = (words : List ℕ) (seats : ℕ → SeatView) (r : Ring 
 
 -- the same of a line that writes what it found
 pub reads : (z : Layout) (i : ℕ) (v : SeatView) (fact : SeatView → ℕ → SeatView → Type 0)
-    → ((words : List ℕ) (seats : ℕ → SeatView) (r : Ring z words seats) → seats v.number ≡ v → (v' : SeatView) × (v'.number ≡ v.number) × (r' : Ring z words (put seats v.number v')) × Extends [] r.history v r'.history v' × fact v (get_or words i 0) v')
+    → ((words : List ℕ) (seats : ℕ → SeatView) (r : Ring z words seats) → seats v.number ≡ v → (v' : SeatView) × (v'.number ≡ v.number)
+    × (r' : Ring z words (put seats v.number v')) × Extends [] r.history v r'.history v' × fact v (get_or words i 0) v')
     → Does z i v (λ n. n) [] fact
 reads z i v fact line words seats r is =
     let q = line words seats r is in
@@ -42,14 +43,18 @@ numbered z t s h =
 pub fills_there : (z : Layout) (v : SeatView) (p : ℕ) (x : Option Taken) (xs : List (Option Taken)) (i w : ℕ) → v.stage ≡ claimed p (x ∷ xs) → i ≡ slot_word (p % z.slots) → w ≡ face z.slots p x
     → Does z i v (λ _. w) [] (λ v n v'. PlaceFilled v v')
 fills_there z v p x xs i w at there is words seats r who =
-    subst (λ (y : ℕ × ℕ). (v' : SeatView) × (v'.number ≡ v.number) × (r' : Ring z (set words y.0 y.1) (put seats v.number v')) × Extends [] r.history v r'.history v' × PlaceFilled v v') (λ c. (sym there c, sym is c))
+    subst (λ (y : ℕ × ℕ). (v' : SeatView) × (v'.number ≡ v.number) × (r' : Ring z (set words y.0 y.1) (put seats v.number v'))
+    × Extends [] r.history v r'.history v' × PlaceFilled v v') (λ c. (sym there c, sym is c))
     (fills_place z words seats r v who p x xs at)
 
 -- the line that reads the word at the seat's head, at the names of a call
 pub fronts_there : (z : Layout) (v : SeatView) (i : ℕ) → Rests v.stage → i ≡ slot_word (v.head % z.slots) → Does z i v (λ n. n) [] (FrontFound z)
-fronts_there z v i rested there = subst (λ j. Does z j v (λ n. n) [] (FrontFound z)) (sym there) (reads z (slot_word (v.head % z.slots)) v (FrontFound z) (λ words seats r who. reads_front z words seats r v who rested))
+fronts_there z v i rested there = subst (λ j. Does z j v (λ n. n) [] (FrontFound z)) (sym there)
+    (reads z (slot_word (v.head % z.slots)) v (FrontFound z) (λ words seats r who. reads_front z words seats r v who rested))
 
 -- the line that reads the next word, at the names of a call
-pub nexts_there : (z : Layout) (v : SeatView) (i : ℕ) (ws : List ℕ) → Rests v.stage → v.stage ≡ found ws → length ws < z.slots → i ≡ slot_word ((v.head + length ws) % z.slots) → Does z i v (λ n. n) [] (NextFound z ws)
+pub nexts_there : (z : Layout) (v : SeatView) (i : ℕ) (ws : List ℕ) → Rests v.stage → v.stage ≡ found ws → length ws < z.slots
+    → i ≡ slot_word ((v.head + length ws) % z.slots) → Does z i v (λ n. n) [] (NextFound z ws)
 nexts_there z v i ws rested at few there =
-    subst (λ j. Does z j v (λ n. n) [] (NextFound z ws)) (sym there) (reads z (slot_word ((v.head + length ws) % z.slots)) v (NextFound z ws) (λ words seats r who. reads_next z words seats r v who rested ws at few))
+    subst (λ j. Does z j v (λ n. n) [] (NextFound z ws)) (sym there) (reads z (slot_word ((v.head + length ws) % z.slots)) v (NextFound z ws)
+    (λ words seats r who. reads_next z words seats r v who rested ws at few))

@@ -1,5 +1,6 @@
 -- A line of a ring keeps the rule of the slots too: what it adds to the history of numbers, it adds to that of values.
-use Rattle.std.proofs.Common.{◌≡◌, ◌≢◌, ℕ, ◌+◌, ◌<◌, ◌≤◌, ◌⊎◌, inl, inr, ⊎_elim, Bool, true, false, if◌then◌else◌, Option, Some, None, List, [], ◌∷◌, ◌++◌, zero, suc, length, get_or, set, map, take, sym, refl, ap, ◌∙◌, subst, arith, append-nil, append_assoc}
+use Rattle.std.proofs.Common.{◌≡◌, ◌≢◌, ℕ, ◌+◌, ◌<◌, ◌≤◌, ◌⊎◌, inl, inr, ⊎_elim, Bool, true, false, if◌then◌else◌, Option, Some, None, List, [], ◌∷◌}
+use Rattle.std.proofs.Common.{◌++◌, zero, suc, length, get_or, set, map, take, sym, refl, ap, ◌∙◌, subst, arith, append-nil, append_assoc}
 use Rattle.std.proofs.lemmas.List.{length-set, get_or-set_same, get_or-set_other, get_or-take, take-set-le}
 use Rattle.std.proofs.Math.Seq.{take-set-lt}
 use mathlib.Core.Option.{some, none, some-injective, some-ne-none}
@@ -49,13 +50,16 @@ set_at (x ∷ xs) zero a b e = refl
 set_at (x ∷ xs) (suc i) a b e = set_at xs i a b e
 
 -- a seat whose deeds go with what it has seen, and begin deeds that run, knows what is so
-pub knows_first : {T : Type 0} (z : Layout) (seen : List Entry) (w : Beside T) (ds rest : List (Deed T)) → ds ≡ w.deeds ++ rest → Matches seen w.deeds → (q : List (Item T)) (shut : Bool) → Runs [] false ds q shut → ((i : ℕ) → w.hand ≡ some i → i < z.slots) → KnowsValues z seen w
+pub knows_first : {T : Type 0} (z : Layout) (seen : List Entry) (w : Beside T) (ds rest : List (Deed T)) → ds ≡ w.deeds ++ rest → Matches seen w.deeds
+    → (q : List (Item T)) (shut : Bool) → Runs [] false ds q shut → ((i : ℕ) → w.hand ≡ some i → i < z.slots) → KnowsValues z seen w
 knows_first z seen w ds rest begins matches q shut runs there =
     let first = runs_first [] false w.deeds rest q shut (subst (λ (y : List (Deed _)). Runs [] false y q shut) begins runs) in
     record { matches = matches; values = first.0; shut = first.1; runs = first.2; there = there }
 
-module _ {T : Type 0} (z : Layout) (s : State (Option T) (Beside T)) (H : HoldsValues z s) (count : length s.homes ≡ z.slots) (id : ℕ) (v : SeatView) (ds : List (Deed T)) (hd : maybe.Option ℕ) (os : List (List (Deed T)))
-    (mine : get_elem? s.views id ≡ some (record { plain = seated v; deeds = ds; hand = hd; others = os })) (p : ℕ) (f : ℕ → ℕ) (all : List Entry) (fact : SeatView → ℕ → SeatView → Type 0) (line : Does z p v f all fact) (within : p < words_of z) where
+module _ {T : Type 0} (z : Layout) (s : State (Option T) (Beside T)) (H : HoldsValues z s) (count : length s.homes ≡ z.slots) (id : ℕ) (v : SeatView)
+    (ds : List (Deed T)) (hd : maybe.Option ℕ) (os : List (List (Deed T)))
+    (mine : get_elem? s.views id ≡ some (record { plain = seated v; deeds = ds; hand = hd; others = os })) (p : ℕ) (f : ℕ → ℕ) (all : List Entry)
+    (fact : SeatView → ℕ → SeatView → Type 0) (line : Does z p v f all fact) (within : p < words_of z) where
   abbrev w : Beside T
   w = record { plain = seated v; deeds = ds; hand = hd; others = os }
 
@@ -77,7 +81,8 @@ module _ {T : Type 0} (z : Layout) (s : State (Option T) (Beside T)) (H : HoldsV
   its : H.base.seats v.number ≡ v
   its = its_seat z s0 H.base id v mine0
 
-  abbrev done : (v' : SeatView) × (v'.number ≡ v.number) × (r' : Ring z (set s0.words p (f (get_or s0.words p 0))) (put H.base.seats v.number v')) × Extends all H.base.ring.history v r'.history v' × fact v (get_or s0.words p 0) v'
+  abbrev done : (v' : SeatView) × (v'.number ≡ v.number) × (r' : Ring z (set s0.words p (f (get_or s0.words p 0))) (put H.base.seats v.number v'))
+      × Extends all H.base.ring.history v r'.history v' × fact v (get_or s0.words p 0) v'
   done = line s0.words H.base.seats H.base.ring its
 
   abbrev v' : SeatView
@@ -127,12 +132,14 @@ module _ {T : Type 0} (z : Layout) (s : State (Option T) (Beside T)) (H : HoldsV
   fit = H.values.known id w mine
 
   -- put together
-  built : (d : List (Deed T)) (h : maybe.Option ℕ) (homes' : List (maybe.Option (Option T))) (r : Rides (hist ++ es) n (flag_at m words') (home_at homes') (hand_at (set s.views id (seat_after d h)))) → r.deeds ≡ rides.deeds ++ d
+  built : (d : List (Deed T)) (h : maybe.Option ℕ) (homes' : List (maybe.Option (Option T)))
+      (r : Rides (hist ++ es) n (flag_at m words') (home_at homes') (hand_at (set s.views id (seat_after d h)))) → r.deeds ≡ rides.deeds ++ d
       → HoldsValues z record { words = words'; homes = homes'; views = set s.views id (seat_after d h) }
   built d h homes' r is = record { base = base.0; values = carried }
     where
       base : HoldsWith z (hist ++ es) (plain_state m (record { words = words'; homes = homes'; views = set s.views id (seat_after d h) }))
-      base = subst (λ (y : List ℕ × List View). HoldsWith z (hist ++ es) (record { words = y.0; homes = []; views = y.1 })) (λ i. (same_words i, sym (map_set plain_of s.views id (seat_after d h)) i)) base0
+      base = subst (λ (y : List ℕ × List View). HoldsWith z (hist ++ es) (record { words = y.0; homes = []; views = y.1 }))
+          (λ i. (same_words i, sym (map_set plain_of s.views id (seat_after d h)) i)) base0
 
       begins_by : (b : Bool) → (rest : List (Deed T)) × (rides.deeds ++ d ≡ (if b then rides.deeds ++ d else ds) ++ rest)
       begins_by true = ([], sym (append-nil (rides.deeds ++ d)))
@@ -152,7 +159,15 @@ module _ {T : Type 0} (z : Layout) (s : State (Option T) (Beside T)) (H : HoldsV
       }
 
       others_on : (j : ℕ) (o : Beside T) → get_elem? s.views j ≡ some o → Begins r.deeds o
-      others_on j o at = let g = H.values.known j o at in record { rest = g.rest ++ d; begins = is ∙ (ap (λ y. y ++ d) g.begins ∙ append_assoc o.deeds g.rest d); matches = g.matches; pair = g.pair; others = all_on o.others rides.deeds d r.deeds is g.others }
+      others_on j o at = let g = H.values.known j o at in record {
+        rest = g.rest ++ d;
+        begins =
+            is ∙ (ap (λ y. y ++ d) g.begins ∙ append_assoc o.deeds g.rest d);
+        matches = g.matches;
+        pair = g.pair;
+        others =
+            all_on o.others rides.deeds d r.deeds is g.others;
+      }
 
       known : (j : ℕ) (o : Beside T) → get_elem? (set s.views id (seat_after d h)) j ≡ some o → Begins r.deeds o
       known j o at = ⊎_elim
@@ -181,7 +196,8 @@ module _ {T : Type 0} (z : Layout) (s : State (Option T) (Beside T)) (H : HoldsV
 
   -- what the step tells, at the word that it found
   abbrev Told : (held : List (ℕ × Option T)) (k : ℕ) → Beside T × List (ℕ × Option T) → Type 0
-  Told held k o = (o.0.plain ≡ seated (knows o.0.plain)) × fact v k (knows o.0.plain) × ((fs : List Entry) × ((fs ≡ []) ⊎ (fs ≡ all)) × ((knows o.0.plain).mine ≡ v.mine ++ fs) × Effect v.number fs w held o.0 o.1)
+  Told held k o = (o.0.plain ≡ seated (knows o.0.plain)) × fact v k (knows o.0.plain)
+      × ((fs : List Entry) × ((fs ≡ []) ⊎ (fs ≡ all)) × ((knows o.0.plain).mine ≡ v.mine ++ fs) × Effect v.number fs w held o.0 o.1)
 
   told0 : fact v (get_or s.words p 0) v'
   told0 = subst (λ (k : ℕ). fact v k v') (get_or-take m s.words p 0 within) done.4
@@ -191,7 +207,8 @@ module _ {T : Type 0} (z : Layout) (s : State (Option T) (Beside T)) (H : HoldsV
 
   -- what the step is to come to, with these slots in hand
   abbrev Result : List (ℕ × Option T) → Type 0
-  Result held = (w' : Beside T) × (act : Act (Option T)) × Valid s.homes held act × HoldsValues z (stepped s p (f (get_or s.words p 0)) id held w' act) × Told held (get_or s.words p 0) (w', carried_after held act)
+  Result held = (w' : Beside T) × (act : Act (Option T)) × Valid s.homes held act
+      × HoldsValues z (stepped s p (f (get_or s.words p 0)) id held w' act) × Told held (get_or s.words p 0) (w', carried_after held act)
 
   some_entry : (e : Entry) → es ≡ e ∷ [] → ¬ (es ≡ [])
   some_entry e is none_there = let bad : 1 ≡ 0 = ap length (sym is ∙ none_there) in absurd (omega (arith, bad))
@@ -214,21 +231,27 @@ module _ {T : Type 0} (z : Layout) (s : State (Option T) (Beside T)) (H : HoldsV
   by_none : (held : List (ℕ × Option T)) → es ≡ [] → Result held
   by_none held is =
       let r = rides_same hist n (flag_at m s.words) (flag_at m words') (home_at s.homes) (hand_at s.views) (hand_at (set s.views id (seat_after [] hd))) rides (λ i. sym (flags i)) (same_hands []) in
-      let r' : At [] hd s.homes [] = subst (λ (y : List Entry). (q : Rides y n (flag_at m words') (home_at s.homes) (hand_at (set s.views id (seat_after [] hd)))) × (q.deeds ≡ rides.deeds ++ [])) (sym (append-nil hist)) (r.0, r.1 ∙ sym (append-nil rides.deeds)) in
+      let r' : At [] hd s.homes [] = subst (λ (y : List Entry). (q : Rides y n (flag_at m words') (home_at s.homes)
+      (hand_at (set s.views id (seat_after [] hd)))) × (q.deeds ≡ rides.deeds ++ [])) (sym (append-nil hist))
+      (r.0, r.1 ∙ sym (append-nil rides.deeds)) in
       stays_put held [] [] is r' (refl, refl, ((if sees then fit.rest else []), grown))
 
   by_shut : (held : List (ℕ × Option T)) → es ≡ Shut v.number ∷ [] → Result held
   by_shut held is =
       let d = closed v.number ∷ [] in
-      let one = rides_shut hist n (flag_at m s.words) (flag_at m s.words) (home_at s.homes) (home_at s.homes) (hand_at s.views) (hand_at s.views) id v.number rides (subst IsQueueRun (ap (λ y. hist ++ y) is) legal) in
-      let two = rides_same (hist ++ Shut v.number ∷ []) n (flag_at m s.words) (flag_at m words') (home_at s.homes) (hand_at s.views) (hand_at (set s.views id (seat_after d hd))) one.0 (λ i. sym (flags i)) (same_hands d) in
+      let one = rides_shut hist n (flag_at m s.words) (flag_at m s.words) (home_at s.homes) (home_at s.homes) (hand_at s.views)
+      (hand_at s.views) id v.number rides (subst IsQueueRun (ap (λ y. hist ++ y) is) legal) in
+      let two = rides_same (hist ++ Shut v.number ∷ []) n (flag_at m s.words) (flag_at m words') (home_at s.homes) (hand_at s.views)
+      (hand_at (set s.views id (seat_after d hd))) one.0 (λ i. sym (flags i)) (same_hands d) in
       stays_put held d (Shut v.number ∷ []) is (two.0, two.1 ∙ one.1) (refl, refl, (fit.rest, all_seen d (some_entry (Shut v.number) is)))
 
   by_push : (b : ℕ) (y : T) → hd ≡ some b → b < n → es ≡ Push v.number b ∷ [] → Result ((b, Some y) ∷ [])
   by_push b y has lt is =
       let d = pushed v.number y ∷ [] in
       let homes' = set s.homes b (some (Some y)) in
-      let r = rides_push hist n (flag_at m s.words) (flag_at m words') (home_at s.homes) (home_at homes') (hand_at s.views) (hand_at (set s.views id (seat_after d none))) id v.number rides b y (ap hand_in mine ∙ has) (subst IsQueueRun (ap (λ y. hist ++ y) is) legal)
+      let r = rides_push hist n (flag_at m s.words) (flag_at m words') (home_at s.homes) (home_at homes') (hand_at s.views)
+      (hand_at (set s.views id (seat_after d none))) id v.number rides b y (ap hand_in mine ∙ has)
+      (subst IsQueueRun (ap (λ y. hist ++ y) is) legal)
       flags (homes s.homes b (some (Some y)) (omega (arith, lt, count))) (hands d none) in
       let r' = subst (At d none homes') (sym is) r in (
         seat_after d none,
@@ -244,7 +267,8 @@ module _ {T : Type 0} (z : Layout) (s : State (Option T) (Beside T)) (H : HoldsV
       let b = t.body in
       let d = popped v.number (item t.from it.0) ∷ [] in
       let homes' = set s.homes b none in
-      let r = it.3 (flag_at m words') (home_at homes') (hand_at (set s.views id (seat_after d (some b)))) id flags (homes s.homes b none (let lt = it.1 in omega (arith, lt, count))) (hands d (some b)) in
+      let r = it.3 (flag_at m words') (home_at homes') (hand_at (set s.views id (seat_after d (some b)))) id flags
+      (homes s.homes b none (let lt = it.1 in omega (arith, lt, count))) (hands d (some b)) in
       let after = subst (λ (y : List (Deed T)). Runs [] false y (map item_of r.0.q) r.0.shut) (r.1 ∙ ap (λ y. y ++ d) fit.begins) r.0.runs in
       let stood = runs_to_pop [] false (ds ++ fit.rest) [] v.number (item t.from it.0) (map item_of r.0.q) r.0.shut after in
       let r' = subst (At d (some b) homes') (sym is) r in (
@@ -269,7 +293,8 @@ module _ {T : Type 0} (z : Layout) (s : State (Option T) (Beside T)) (H : HoldsV
 
   -- what the seat then knows of the values is so
   pub keeps_values : (held : List (ℕ × Option T)) → IsReadyFor n v.number all w held
-      → (w' : Beside T) × (act : Act (Option T)) × Valid s.homes held act × HoldsValues z (stepped s p (f (get_or s.words p 0)) id held w' act) × Told held (get_or s.words p 0) (w', carried_after held act) × KnowsValues z (knows w'.plain).seen w'
+      → (w' : Beside T) × (act : Act (Option T)) × Valid s.homes held act × HoldsValues z (stepped s p (f (get_or s.words p 0)) id held w' act)
+      × Told held (get_or s.words p 0) (w', carried_after held act) × KnowsValues z (knows w'.plain).seen w'
   keeps_values held ready =
       let q = goes held ready in
       let after = q.3.values in
@@ -280,43 +305,63 @@ module _ {T : Type 0} (z : Layout) (s : State (Option T) (Beside T)) (H : HoldsV
         q.2,
         q.3,
         q.4,
-        knows_first z (knows q.0.plain).seen q.0 after.rides.deeds its_fit.rest its_fit.begins (its_fit.matches (knows q.0.plain) q.4.0) (map item_of after.rides.q) after.rides.shut after.rides.runs (λ i e. (after.rides.slotted.out id i (ap hand_in there ∙ e)).0),
+        knows_first z (knows q.0.plain).seen q.0 after.rides.deeds its_fit.rest its_fit.begins (its_fit.matches (knows q.0.plain) q.4.0)
+            (map item_of after.rides.q) after.rides.shut after.rides.runs (λ i e. (after.rides.slotted.out id i (ap hand_in there ∙ e)).0),
       )
 
 -- what a line tells of a seat of a table that carries values: what it tells of the numbers, what became of the slots and of the
 -- history of values, and that what the seat then knows of these is so
-abbrev pub TellsValues : {T : Type 0} (z : Layout) (v : SeatView) (w : Beside T) (held : List (ℕ × Option T)) (all : List Entry) → (SeatView → ℕ → SeatView → Type 0) → ℕ → Me (Option T) (Beside T) → Type 0
-TellsValues z v w held all fact k o = ((o.0.plain ≡ seated (knows o.0.plain)) × fact v k (knows o.0.plain) × ((fs : List Entry) × ((fs ≡ []) ⊎ (fs ≡ all)) × ((knows o.0.plain).mine ≡ v.mine ++ fs) × Effect v.number fs w held o.0 o.1)) × KnowsValues z (knows o.0.plain).seen o.0
+abbrev pub TellsValues : {T : Type 0} (z : Layout) (v : SeatView) (w : Beside T) (held : List (ℕ × Option T)) (all : List Entry)
+    → (SeatView → ℕ → SeatView → Type 0) → ℕ → Me (Option T) (Beside T) → Type 0
+TellsValues z v w held all fact k o = ((o.0.plain ≡ seated (knows o.0.plain)) × fact v k (knows o.0.plain)
+    × ((fs : List Entry) × ((fs ≡ []) ⊎ (fs ≡ all)) × ((knows o.0.plain).mine ≡ v.mine ++ fs) × Effect v.number fs w held o.0 o.1))
+    × KnowsValues z (knows o.0.plain).seen o.0
 
-module _ {T : Type 0} (z : Layout) (id p : ℕ) (v : SeatView) (ds : List (Deed T)) (hd : maybe.Option ℕ) (os : List (List (Deed T))) (f : ℕ → ℕ) (all : List Entry) (fact : SeatView → ℕ → SeatView → Type 0) (line : Does z p v f all fact) (within : p < words_of z) where
+module _ {T : Type 0} (z : Layout) (id p : ℕ) (v : SeatView) (ds : List (Deed T)) (hd : maybe.Option ℕ) (os : List (List (Deed T))) (f : ℕ → ℕ)
+    (all : List Entry) (fact : SeatView → ℕ → SeatView → Type 0) (line : Does z p v f all fact) (within : p < words_of z) where
   abbrev before : Beside T
   before = record { plain = seated v; deeds = ds; hand = hd; others = os }
 
   -- what a line asks of a table that carries values
-  pub allows_values : (held : List (ℕ × Option T)) → IsReadyFor z.slots v.number all before held → Allows {S = Option T} (HoldsValues z) z.slots id (before, held) p f (TellsValues z v before held all fact)
+  pub allows_values : (held : List (ℕ × Option T)) → IsReadyFor z.slots v.number all before held
+      → Allows {S = Option T} (HoldsValues z) z.slots id (before, held) p f (TellsValues z v before held all fact)
   allows_values held ready s H count mine small =
       let q = keeps_values z s H count id v ds hd os mine p f all fact line within held ready in
       (q.0, q.1, q.2, q.3, (q.4, q.5))
 
 module _ {T : Type 0} (z : Layout) (id : ℕ) where
   -- another slot in the hand of a seat, with the words of the queue as they were
-  same_base : (s : State (Option T) (Beside T)) (w w' : Beside T) (words' : List ℕ) (homes' : List (maybe.Option (Option T))) (H : HoldsValues z s) → get_elem? s.views id ≡ some w → w'.plain ≡ w.plain → take (words_of z) words' ≡ take (words_of z) s.words
+  same_base : (s : State (Option T) (Beside T)) (w w' : Beside T) (words' : List ℕ) (homes' : List (maybe.Option (Option T))) (H : HoldsValues z s)
+      → get_elem? s.views id ≡ some w → w'.plain ≡ w.plain → take (words_of z) words' ≡ take (words_of z) s.words
       → HoldsWith z H.base.ring.history (plain_state (words_of z) (record { words = words'; homes = homes'; views = set s.views id w' }))
   same_base s w w' words' homes' H mine same words =
-      let views : map plain_of s.views ≡ map plain_of (set s.views id w') = sym (map_set plain_of s.views id w' ∙ (ap (λ (u : View). set (map plain_of s.views) id u) same ∙ set_again (map plain_of s.views) id w.plain (at_map plain_of s.views id w mine))) in
+      let views : map plain_of s.views ≡ map plain_of (set s.views id w') = sym
+      (map_set plain_of s.views id w' ∙ (ap (λ (u : View). set (map plain_of s.views) id u) same ∙ set_again (map plain_of s.views) id w.plain
+      (at_map plain_of s.views id w mine))) in
       subst (λ (y : List ℕ × List View). HoldsWith z H.base.ring.history (record { words = y.0; homes = []; views = y.1 })) (λ i. (sym words i, views i)) (H.base, refl)
 
   -- what is known of the values, where a seat has another slot
-  known_again : (s : State (Option T) (Beside T)) (w : Beside T) (hand' : maybe.Option ℕ) (H : HoldsValues z s) → get_elem? s.views id ≡ some w → (j : ℕ) (o : Beside T) → get_elem? (set s.views id (record { plain = w.plain; deeds = w.deeds; hand = hand'; others = w.others })) j ≡ some o → Begins H.values.rides.deeds o
+  known_again : (s : State (Option T) (Beside T)) (w : Beside T) (hand' : maybe.Option ℕ) (H : HoldsValues z s) → get_elem? s.views id ≡ some w
+      → (j : ℕ) (o : Beside T) → get_elem? (set s.views id (record { plain = w.plain; deeds = w.deeds; hand = hand'; others = w.others })) j ≡ some o
+      → Begins H.values.rides.deeds o
   known_again s w hand' H mine j o at = ⊎_elim
       (λ (e : (j ≡ id) × (record { plain = w.plain; deeds = w.deeds; hand = hand'; others = w.others } ≡ o)). subst (Begins H.values.rides.deeds) e.1
-      (let g = H.values.known id w mine in let h : Begins H.values.rides.deeds (record { plain = w.plain; deeds = w.deeds; hand = hand'; others = w.others }) = record { rest = g.rest; begins = g.begins; matches = g.matches; pair = g.pair; others = g.others } in h))
+      (let g = H.values.known id w mine in let h : Begins H.values.rides.deeds (record {
+        plain = w.plain;
+        deeds = w.deeds;
+        hand = hand';
+        others =
+            w.others;
+      }) = record { rest = g.rest; begins = g.begins; matches = g.matches; pair = g.pair; others = g.others } in h))
       (λ (e : (j ≢ id) × (get_elem? s.views j ≡ some o)). H.values.known j o e.1)
       (at_set s.views id j (record { plain = w.plain; deeds = w.deeds; hand = hand'; others = w.others }) o at)
 
   -- the slots moved, and the history is as it was
-  moved_slots : (s : State (Option T) (Beside T)) (w : Beside T) (hand' : maybe.Option ℕ) (p x : ℕ) (homes' : List (maybe.Option (Option T))) (H : HoldsValues z s) → get_elem? s.views id ≡ some w → words_of z ≤ p
-      → Slotted z.slots (flag_at (words_of z) (set s.words p x)) (home_at homes') (hand_at (set s.views id (record { plain = w.plain; deeds = w.deeds; hand = hand'; others = w.others }))) H.values.rides.pops H.values.rides.q
+  moved_slots : (s : State (Option T) (Beside T)) (w : Beside T) (hand' : maybe.Option ℕ) (p x : ℕ) (homes' : List (maybe.Option (Option T)))
+      (H : HoldsValues z s) → get_elem? s.views id ≡ some w → words_of z ≤ p
+      → Slotted z.slots (flag_at (words_of z) (set s.words p x)) (home_at homes')
+      (hand_at (set s.views id (record { plain = w.plain; deeds = w.deeds; hand = hand'; others = w.others }))) H.values.rides.pops
+      H.values.rides.q
       → HoldsValues z record { words = set s.words p x; homes = homes'; views = set s.views id (record { plain = w.plain; deeds = w.deeds; hand = hand'; others = w.others }) }
   moved_slots s w hand' p x homes' H mine behind slotted =
       let w' : Beside T = record { plain = w.plain; deeds = w.deeds; hand = hand'; others = w.others } in
@@ -332,7 +377,8 @@ module _ {T : Type 0} (z : Layout) (id : ℕ) where
       }
 
   -- a free slot is got, by its flag
-  pub gets_slot : (w : Beside T) (i : ℕ) → i < z.slots → (s : State (Option T) (Beside T)) (H : HoldsValues z s) → length s.homes ≡ z.slots → get_elem? s.views id ≡ some w → get_or s.words (words_of z + i) 0 ≡ 0
+  pub gets_slot : (w : Beside T) (i : ℕ) → i < z.slots → (s : State (Option T) (Beside T)) (H : HoldsValues z s) → length s.homes ≡ z.slots
+      → get_elem? s.views id ≡ some w → get_or s.words (words_of z + i) 0 ≡ 0
       → (get_elem? s.homes i ≡ some (some None)) × HoldsValues z (stepped s (words_of z + i) 1 id [] (record { plain = w.plain; deeds = w.deeds; hand = some i; others = w.others }) (takes i None))
   gets_slot w i lt s H count mine down =
       let w' : Beside T = record { plain = w.plain; deeds = w.deeds; hand = some i; others = w.others } in
@@ -340,7 +386,8 @@ module _ {T : Type 0} (z : Layout) (id : ℕ) where
       let homes' = set s.homes i none in
       let r = H.values.rides in
       let long = H.values.long in
-      let got = acquires z.slots (flag_at (words_of z) s.words) (flag_at (words_of z) (set s.words p 1)) (home_at s.homes) (home_at homes') (hand_at s.views) (hand_at (set s.views id w')) r.pops id i r.q r.slotted lt down
+      let got = acquires z.slots (flag_at (words_of z) s.words) (flag_at (words_of z) (set s.words p 1)) (home_at s.homes) (home_at homes')
+      (hand_at s.views) (hand_at (set s.views id w')) r.pops id i r.q r.slotted lt down
       (get_or-set_same s.words p 1 0 (omega (arith, lt, long)), λ j ne. get_or-set_other s.words p (words_of z + j) 1 0 (λ e. ne (omega (arith, e))))
       (set_here s.homes i none (omega (arith, lt, count)), λ j ne. set_else s.homes i j none ne)
       (ap hand_in (set_at s.views id w w' mine), λ j ne. ap hand_in (set_else s.views id j w' ne)) in
@@ -356,7 +403,8 @@ module _ {T : Type 0} (z : Layout) (id : ℕ) where
       let r = H.values.rides in
       let long = H.values.long in
       moved_slots s w none p 0 homes' H mine (omega arith)
-      (releases z.slots (flag_at (words_of z) s.words) (flag_at (words_of z) (set s.words p 0)) (home_at s.homes) (home_at homes') (hand_at s.views) (hand_at (set s.views id w')) r.pops id k r.q r.slotted (ap hand_in mine ∙ hand)
+      (releases z.slots (flag_at (words_of z) s.words) (flag_at (words_of z) (set s.words p 0)) (home_at s.homes) (home_at homes') (hand_at s.views)
+      (hand_at (set s.views id w')) r.pops id k r.q r.slotted (ap hand_in mine ∙ hand)
       (get_or-set_same s.words p 0 0 (omega (arith, lt, long)), λ j ne. get_or-set_other s.words p (words_of z + j) 0 0 (λ e. ne (omega (arith, e))))
       (set_here s.homes k (some None) (omega (arith, lt, count)), λ j ne. set_else s.homes k j (some None) ne)
       (ap hand_in (set_at s.views id w w' mine), λ j ne. ap hand_in (set_else s.views id j w' ne)))

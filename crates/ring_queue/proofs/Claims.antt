@@ -1,5 +1,6 @@
 -- A push claims its place.
-use Rattle.std.proofs.Common.{append_assoc, ◌≡◌, ⊎_elim, inl, inr, ℕ, zero, suc, ◌+◌, ◌-◌, ◌%◌, ◌^◌, ◌<◌, ◌≤◌, Bool, true, false, List, [], ◌∷◌, ◌++◌, length, get_or, set, Some, None, Option, slice_get, sym, refl, ap, ◌∙◌, subst, arith, append-nil, length-append}
+use Rattle.std.proofs.Common.{append_assoc, ◌≡◌, ⊎_elim, inl, inr, ℕ, zero, suc, ◌+◌, ◌-◌, ◌%◌, ◌^◌, ◌<◌, ◌≤◌, Bool, true, false, List, [], ◌∷◌, ◌++◌}
+use Rattle.std.proofs.Common.{length, get_or, set, Some, None, Option, slice_get, sym, refl, ap, ◌∙◌, subst, arith, append-nil, length-append}
 use Rattle.std.specs.List.{All, count_by}
 use Rattle.std.proofs.lemmas.List.Elements.{All-head, All-tail}
 use Rattle.std.proofs.lemmas.List.Sums.{sum_by-append}
@@ -87,7 +88,9 @@ module _ (z : Layout) (words : List ℕ) (seats : ℕ → SeatView) (p : ℕ) (x
       let lt : q - p < length xs = slice_get_within xs (q - p) y old in
       let before : q < r.tail = omega (arith, lt, up, low) in
       let t = c.held q y (low, old) in (
-        put_else r.cells (r.tail % z.slots) (q % z.slots) (cell r.tail (Some v.number)) (λ e. none-some v.number (ap (λ (d : Cell). d.filler) (sym (next_is_filled z words seats r has_room) ∙ (ap r.cells (sym e) ∙ t.0)))) ∙ t.0,
+        put_else r.cells (r.tail % z.slots) (q % z.slots) (cell r.tail (Some v.number))
+            (λ e. none-some v.number (ap (λ (d : Cell). d.filler) (sym (next_is_filled z words seats r has_room) ∙ (ap r.cells (sym e) ∙ t.0)))) ∙
+            t.0,
         log_before z words seats r x q before ∙ t.1,
       ))
       (λ (new : (q - p ≡ length xs) × (x ≡ y)).
@@ -118,7 +121,8 @@ module _ (z : Layout) (words : List ℕ) (seats : ℕ → SeatView) (p : ℕ) (x
 
   -- a place is claimed for a body
   push_one : (body : ℕ) → r.shut ≡ false → body < 2 ^ 48 → IsPermitted (permits_of z) (Push v.number body)
-      → (r' : Ring z (set words 0 (tail_word (r.tail + 1) r.shut)) (put seats v.number (after_push body))) × (r'.tail ≡ r.tail + 1) × (r'.shut ≡ r.shut) × (r'.history ≡ r.history ++ Push v.number body ∷ [])
+      → (r' : Ring z (set words 0 (tail_word (r.tail + 1) r.shut)) (put seats v.number (after_push body))) × (r'.tail ≡ r.tail + 1)
+      × (r'.shut ≡ r.shut) × (r'.history ≡ r.history ++ Push v.number body ∷ [])
       × (r'.cells ≡ put r.cells (r.tail % z.slots) (cell r.tail (Some v.number))) × (r'.log ≡ put r.log r.tail (Some (record { from = v.number; body = body })))
   push_one body f small permit =
       let val : Taken = record { from = v.number; body = body } in
@@ -136,7 +140,8 @@ module _ (z : Layout) (words : List ℕ) (seats : ℕ → SeatView) (p : ℕ) (x
       (all_one (IsPermitted (permits_of z)) r.history e r.permitted permit)
       (omega (arith, counted, u, l)) (omega (arith, l)) (λ _. refl) (omega arith)
       (λ i y at. ⊎_elim
-      (λ (old : slice_get r.values i ≡ Some y). let lt : i < length r.values = slice_get_within r.values i y old in log_before z words seats r (Some val) (r.head + i) (omega (arith, lt, counted)) ∙ r.logged i y old)
+      (λ (old : slice_get r.values i ≡ Some y). let lt : i < length r.values = slice_get_within r.values i y old in log_before z words seats r
+      (Some val) (r.head + i) (omega (arith, lt, counted)) ∙ r.logged i y old)
       (λ (new : (i ≡ length r.values) × (val ≡ y)). let at_end = new.0 in put_here r.log r.tail (r.head + i) (Some val) (omega (arith, at_end, counted, u)) ∙ ap (λ x. Some x) new.1)
       (got_snoc r.values val y i at))
       (λ q le lt. absurd (omega (arith, le, lt, l, counted, u)))
@@ -201,7 +206,8 @@ record Pushes (z : Layout) (words : List ℕ) (seats : ℕ → SeatView) (p : �
 abbrev IsSmall : ℕ → Type 0
 IsSmall b = b < 2 ^ 48
 
-push_all : (bs : List ℕ) (b : ℕ) (z : Layout) (words : List ℕ) (seats : ℕ → SeatView) (p : ℕ) (xs : List (Option Taken)) (c : Claiming z words seats p xs) → c.ring.shut ≡ false → length (b ∷ bs) ≤ c.seat.credits → AreSmall (b ∷ bs)
+push_all : (bs : List ℕ) (b : ℕ) (z : Layout) (words : List ℕ) (seats : ℕ → SeatView) (p : ℕ) (xs : List (Option Taken))
+    (c : Claiming z words seats p xs) → c.ring.shut ≡ false → length (b ∷ bs) ≤ c.seat.credits → AreSmall (b ∷ bs)
     → ((body : ℕ) → IsPermitted (permits_of z) (Push c.seat.number body)) → Pushes z words seats p xs c (b ∷ bs)
 push_all [] b z words seats p xs c f enough small permit =
     let one = push_one z words seats p xs c b f (All-head IsSmall b [] small) (permit b) in
@@ -215,7 +221,8 @@ push_all [] b z words seats p xs c f enough small permit =
       seen = refl;
       mine = refl;
       notes = refl;
-      ring = subst (λ w. Became z (set words 0 w) (put seats c.seat.number (after_push z words seats p xs c b)) (c.ring.history ++ pushes c.seat.number (b ∷ []))) (ap (tail_word (c.ring.tail + 1)) f) (one.0, one.3);
+      ring = subst (λ w. Became z (set words 0 w) (put seats c.seat.number (after_push z words seats p xs c b))
+          (c.ring.history ++ pushes c.seat.number (b ∷ []))) (ap (tail_word (c.ring.tail + 1)) f) (one.0, one.3);
     }
 push_all (b' ∷ bs) b z words seats p xs c f enough small permit =
     let one = push_one z words seats p xs c b f (All-head IsSmall b (b' ∷ bs) small) (permit b) in
@@ -240,7 +247,8 @@ push_all (b' ∷ bs) b z words seats p xs c f enough small permit =
     } in
     let more = push_all bs b' z words1 (put seats n v1) p (xs ++ val ∷ []) c1 (one.2 ∙ f) (omega (arith, enough)) (All-tail IsSmall b (b' ∷ bs) small) permit in
     let spent = more.spent in
-    let onward : one.0.history ++ pushes n (b' ∷ bs) ≡ c.ring.history ++ pushes n (b ∷ b' ∷ bs) = ap (λ h. h ++ pushes n (b' ∷ bs)) one.3 ∙ append_assoc c.ring.history (Push n b ∷ []) (pushes n (b' ∷ bs)) in
+    let onward : one.0.history ++ pushes n (b' ∷ bs) ≡ c.ring.history ++ pushes n (b ∷ b' ∷ bs) =
+    ap (λ h. h ++ pushes n (b' ∷ bs)) one.3 ∙ append_assoc c.ring.history (Push n b ∷ []) (pushes n (b' ∷ bs)) in
     record {
       seat = more.seat;
       number = more.number;
@@ -251,7 +259,12 @@ push_all (b' ∷ bs) b z words seats p xs c f enough small permit =
       mine = more.mine ∙ append_assoc c.seat.mine (Push n b ∷ []) (pushes n (b' ∷ bs));
       notes = more.notes;
       ring = subst (λ (y : List ℕ × (ℕ → SeatView) × List Entry). Became z y.0 y.1 y.2)
-          (λ i. ((set_twice words 0 (tail_word (c.ring.tail + 1) c.ring.shut) (one.0.tail + length (b' ∷ bs)) ∙ ap (set words 0) (let q : one.0.tail + length (b' ∷ bs) ≡ c.ring.tail + length (b ∷ b' ∷ bs) = omega (arith, tail1, many) in q)) i, put_twice seats n v1 more.seat i, onward i))
+          (λ i. (
+            (set_twice words 0 (tail_word (c.ring.tail + 1) c.ring.shut) (one.0.tail + length (b' ∷ bs)) ∙ ap (set words 0)
+                (let q : one.0.tail + length (b' ∷ bs) ≡ c.ring.tail + length (b ∷ b' ∷ bs) = omega (arith, tail1, many) in q)) i,
+            put_twice seats n v1 more.seat i,
+            onward i,
+          ))
           more.ring;
     }
 
@@ -267,7 +280,8 @@ record Marks (z : Layout) (words : List ℕ) (seats : ℕ → SeatView) (p : ℕ
   noted : seat.notes ≡ notes
   ring : Became z (set words 0 (c.ring.tail + length bodies + 2 ^ 62)) (put seats c.seat.number seat) c.ring.history
 
-mark_all : (bs : List ℕ) (b : ℕ) (z : Layout) (words : List ℕ) (seats : ℕ → SeatView) (p : ℕ) (xs : List (Option Taken)) (c : Claiming z words seats p xs) (notes : List ℕ) → All (IsNoted c.ring.history) notes → c.ring.shut ≡ true → length (b ∷ bs) ≤ c.seat.credits
+mark_all : (bs : List ℕ) (b : ℕ) (z : Layout) (words : List ℕ) (seats : ℕ → SeatView) (p : ℕ) (xs : List (Option Taken))
+    (c : Claiming z words seats p xs) (notes : List ℕ) → All (IsNoted c.ring.history) notes → c.ring.shut ≡ true → length (b ∷ bs) ≤ c.seat.credits
     → Marks z words seats p xs c notes (b ∷ bs)
 mark_all [] b z words seats p xs c notes noted f enough =
     let one = mark_one z words seats p xs c notes noted f in
@@ -281,7 +295,8 @@ mark_all [] b z words seats p xs c notes noted f enough =
       seen = refl;
       mine = refl;
       noted = refl;
-      ring = subst (λ w. Became z (set words 0 w) (put seats c.seat.number (after_mark z words seats p xs c notes)) c.ring.history) (ap (tail_word (c.ring.tail + 1)) f) (one.0, one.3 ∙ append-nil c.ring.history);
+      ring = subst (λ w. Became z (set words 0 w) (put seats c.seat.number (after_mark z words seats p xs c notes)) c.ring.history)
+          (ap (tail_word (c.ring.tail + 1)) f) (one.0, one.3 ∙ append-nil c.ring.history);
     }
 mark_all (b' ∷ bs) b z words seats p xs c notes noted f enough =
     let one = mark_one z words seats p xs c notes noted f in
@@ -316,7 +331,12 @@ mark_all (b' ∷ bs) b z words seats p xs c notes noted f enough =
       mine = more.mine;
       noted = more.noted;
       ring = subst (λ (y : List ℕ × (ℕ → SeatView) × List Entry). Became z y.0 y.1 y.2)
-          (λ i. ((set_twice words 0 (tail_word (c.ring.tail + 1) c.ring.shut) (one.0.tail + length (b' ∷ bs) + 2 ^ 62) ∙ ap (set words 0) (let q : one.0.tail + length (b' ∷ bs) + 2 ^ 62 ≡ c.ring.tail + length (b ∷ b' ∷ bs) + 2 ^ 62 = omega (arith, tail1, many) in q)) i, put_twice seats n v1 more.seat i, same i))
+          (λ i. (
+            (set_twice words 0 (tail_word (c.ring.tail + 1) c.ring.shut) (one.0.tail + length (b' ∷ bs) + 2 ^ 62) ∙ ap (set words 0)
+                (let q : one.0.tail + length (b' ∷ bs) + 2 ^ 62 ≡ c.ring.tail + length (b ∷ b' ∷ bs) + 2 ^ 62 = omega (arith, tail1, many) in q)) i,
+            put_twice seats n v1 more.seat i,
+            same i,
+          ))
           more.ring;
     }
 
@@ -331,8 +351,10 @@ module _ (z : Layout) (words : List ℕ) (seats : ℕ → SeatView) (r : Ring z 
   tail_small = let a = r.limited in let b = r.planned in let c = b.limited in omega (arith, a, c)
 
   -- places are claimed, one for each body
-  pub claims_places : (b : ℕ) (bs : List ℕ) → length (b ∷ bs) ≤ v.credits → 1 ≤ v.number → v.number ≤ length z.roles → AreSmall (b ∷ bs) → ((body : ℕ) → IsPermitted (permits_of z) (Push v.number body))
-      → (v' : SeatView) × (v'.number ≡ v.number) × (r' : Ring z (set words 0 ((n + length (b ∷ bs)) % 2 ^ 64)) (put seats v.number v')) × Extends (pushes v.number (b ∷ bs)) r.history v r'.history v' × PlacesClaimed z (b ∷ bs) v n v'
+  pub claims_places : (b : ℕ) (bs : List ℕ) → length (b ∷ bs) ≤ v.credits → 1 ≤ v.number → v.number ≤ length z.roles → AreSmall (b ∷ bs)
+      → ((body : ℕ) → IsPermitted (permits_of z) (Push v.number body))
+      → (v' : SeatView) × (v'.number ≡ v.number) × (r' : Ring z (set words 0 ((n + length (b ∷ bs)) % 2 ^ 64)) (put seats v.number v'))
+      × Extends (pushes v.number (b ∷ bs)) r.history v r'.history v' × PlacesClaimed z (b ∷ bs) v n v'
   claims_places b bs enough from to small permit = go r.shut refl
     where
       count : ℕ
@@ -360,12 +382,16 @@ module _ (z : Layout) (words : List ℕ) (seats : ℕ → SeatView) (r : Ring z 
         to = to;
       }
 
-      go : (s : Bool) → r.shut ≡ s → (v' : SeatView) × (v'.number ≡ v.number) × (r' : Ring z (set words 0 ((n + count) % 2 ^ 64)) (put seats v.number v')) × Extends (pushes v.number (b ∷ bs)) r.history v r'.history v' × PlacesClaimed z (b ∷ bs) v n v'
+      go : (s : Bool) → r.shut ≡ s → (v' : SeatView) × (v'.number ≡ v.number) ×
+          (r' : Ring z (set words 0 ((n + count) % 2 ^ 64)) (put seats v.number v')) × Extends (pushes v.number (b ∷ bs)) r.history v r'.history v'
+          × PlacesClaimed z (b ∷ bs) v n v'
       go false f =
           let is_n : n ≡ r.tail = r.tail_is ∙ ap (tail_word r.tail) f in
           let all = push_all bs b z words seats r.tail [] start f enough small permit in
           let bound = few in
-          let made : Became z (set words 0 ((n + count) % 2 ^ 64)) (put seats v.number all.seat) (r.history ++ pushes v.number (b ∷ bs)) = subst (λ w. Became z (set words 0 w) (put seats v.number all.seat) (r.history ++ pushes v.number (b ∷ bs))) (let q : r.tail + count ≡ (n + count) % 2 ^ 64 = omega (arith, is_n, bound) in q) all.ring in
+          let made : Became z (set words 0 ((n + count) % 2 ^ 64)) (put seats v.number all.seat) (r.history ++ pushes v.number (b ∷ bs)) =
+          subst (λ w. Became z (set words 0 w) (put seats v.number all.seat) (r.history ++ pushes v.number (b ∷ bs)))
+          (let q : r.tail + count ≡ (n + count) % 2 ^ 64 = omega (arith, is_n, bound) in q) all.ring in
           let ring' = made.0 in (
             all.seat,
             all.number,
@@ -388,9 +414,12 @@ module _ (z : Layout) (words : List ℕ) (seats : ℕ → SeatView) (r : Ring z 
           let is_n : n ≡ r.tail + 2 ^ 62 = r.tail_is ∙ ap (tail_word r.tail) f in
           let leads : LeadsToShut r.history = (r.values, subst (λ x. Leads r.history x r.values) f r.leads) in
           let notes : List ℕ = v.notes ++ length r.history ∷ [] in
-          let all = mark_all bs b z words seats r.tail [] start notes (all_one_note (IsNoted r.history) v.notes (length r.history) (notes_stay z words seats r v is) (noted_shut r.history leads)) f enough in
+          let all = mark_all bs b z words seats r.tail [] start notes (all_one_note (IsNoted r.history) v.notes (length r.history)
+          (notes_stay z words seats r v is) (noted_shut r.history leads)) f enough in
           let bound = few in
-          let made : Became z (set words 0 ((n + count) % 2 ^ 64)) (put seats v.number all.seat) r.history = subst (λ w. Became z (set words 0 w) (put seats v.number all.seat) r.history) (let q : r.tail + count + 2 ^ 62 ≡ (n + count) % 2 ^ 64 = omega (arith, is_n, bound) in q) all.ring in
+          let made : Became z (set words 0 ((n + count) % 2 ^ 64)) (put seats v.number all.seat) r.history =
+          subst (λ w. Became z (set words 0 w) (put seats v.number all.seat) r.history)
+          (let q : r.tail + count + 2 ^ 62 ≡ (n + count) % 2 ^ 64 = omega (arith, is_n, bound) in q) all.ring in
           let ring' = made.0 in (
             all.seat,
             all.number,
@@ -405,13 +434,22 @@ module _ (z : Layout) (words : List ℕ) (seats : ℕ → SeatView) (r : Ring z 
               pushed = λ lt. absurd (omega (arith, lt, is_n));
               shut = λ _. (
                 all.stage ∙ ap (λ q. claimed q (contents true v.number (b ∷ bs))) (let q : r.tail ≡ n - 2 ^ 62 = omega (arith, is_n) in q),
-                record { number = all.number; between = its_fit.rest; seen = all.seen ∙ its_fit.begins; shut = subst LeadsToShut (sym all.seen) leads; mine = all.mine; notes = all.noted ∙ ap (λ es. v.notes ++ length es ∷ []) (sym all.seen) },
+                record {
+                  number = all.number;
+                  between = its_fit.rest;
+                  seen = all.seen ∙ its_fit.begins;
+                  shut = subst LeadsToShut (sym all.seen) leads;
+                  mine = all.mine;
+                  notes = all.noted ∙ ap (λ es. v.notes ++ length es ∷ []) (sym all.seen);
+                },
               );
             },
           )
 
   -- the same of any bodies, one at least
-  pub claims_bodies : (bodies : List ℕ) → 1 ≤ length bodies → length bodies ≤ v.credits → 1 ≤ v.number → v.number ≤ length z.roles → AreSmall bodies → ((body : ℕ) → IsPermitted (permits_of z) (Push v.number body))
-      → (v' : SeatView) × (v'.number ≡ v.number) × (r' : Ring z (set words 0 ((n + length bodies) % 2 ^ 64)) (put seats v.number v')) × Extends (pushes v.number bodies) r.history v r'.history v' × PlacesClaimed z bodies v n v'
+  pub claims_bodies : (bodies : List ℕ) → 1 ≤ length bodies → length bodies ≤ v.credits → 1 ≤ v.number → v.number ≤ length z.roles → AreSmall bodies
+      → ((body : ℕ) → IsPermitted (permits_of z) (Push v.number body))
+      → (v' : SeatView) × (v'.number ≡ v.number) × (r' : Ring z (set words 0 ((n + length bodies) % 2 ^ 64)) (put seats v.number v'))
+      × Extends (pushes v.number bodies) r.history v r'.history v' × PlacesClaimed z bodies v n v'
   claims_bodies [] some enough from to small permit = absurd (let f : 1 ≤ 0 = some in omega (arith, f))
   claims_bodies (b ∷ bs) some enough from to small permit = claims_places b bs enough from to small permit

@@ -30,7 +30,8 @@ pub record IsClosed (slots : ℕ) (words : List ℕ) (Told : Rest → Type 0) : 
   pub there : HasWords slots words
   pub low : slots ≤ head_in words
   pub few : tail_in words - head_in words ≤ slots
-  pub closes : (rest : Rest) → left_of rest ≡ values_from slots words (head_in words) (tail_in words - head_in words) → taken_of rest + slots ≡ head_in words → whole_of rest ≡ true → was_shut_of rest ≡ was_shut_in words → Told rest
+  pub closes : (rest : Rest) → left_of rest ≡ values_from slots words (head_in words) (tail_in words - head_in words)
+      → taken_of rest + slots ≡ head_in words → whole_of rest ≡ true → was_shut_of rest ≡ was_shut_in words → Told rest
 
 -- a ring of numbers
 module _ {T : Type 0} (q : RingQueue T) (seats : List (Seat T)) (ready : All (IsQueueSeat q) seats) (all : length seats ≡ length (permits_in q)) where
@@ -42,7 +43,9 @@ module _ {T : Type 0} (q : RingQueue T) (seats : List (Seat T)) (ready : All (Is
   no_slots = q.laid.slots ∙ ap (λ (b : Bool). if b then q.plan.slots else 0) numbers
 
   -- and is closed by all its seats
-  pub numbers_closed : (slots id : ℕ) (w : Beside T) (words : List ℕ) (inside : List (Option T)) → slots ≡ q.plan.slots → length words ≡ q.table.shared.table_id.words → w.plain ≡ gathered (map view seats) → Final {S = Option T} (Seen (HoldsBy q.table.shared.key) id w) words inside
+  pub numbers_closed : (slots id : ℕ) (w : Beside T) (words : List ℕ) (inside : List (Option T)) → slots ≡ q.plan.slots
+      → length words ≡ q.table.shared.table_id.words → w.plain ≡ gathered (map view seats)
+      → Final {S = Option T} (Seen (HoldsBy q.table.shared.key) id w) words inside
       → IsClosed slots words (Closes (permits_in q) (map known_of seats))
   numbers_closed slots id w words inside same count is f =
       let end = ends_alone q.plan q.table.shared.key q.table.shared.table_id seats id w words inside q.laid numbers count is f in
@@ -57,7 +60,8 @@ module _ {T : Type 0} (q : RingQueue T) (seats : List (Seat T)) (ready : All (Is
 
 -- a ring that carries values, once what lay in its slots was taken out
 module _ {T : Type 0} (q : RingQueue T) (seats : List (Seat T)) (ready : All (IsRingSeat q) seats) (all : length seats ≡ length (permits_in q)) (carries : q.plan.carries ≡ true) where
-  pub values_closed : (slots id : ℕ) (w : Beside T) (words kept : List ℕ) (inside came : List (Option T)) → slots ≡ q.plan.slots → kept ≡ words → came ≡ inside → w.plain ≡ gathered (map view seats) → ((ds : List (Deed T)) → AllBegin w.others ds → EachBegins seats ds)
+  pub values_closed : (slots id : ℕ) (w : Beside T) (words kept : List ℕ) (inside came : List (Option T)) → slots ≡ q.plan.slots → kept ≡ words
+      → came ≡ inside → w.plain ≡ gathered (map view seats) → ((ds : List (Deed T)) → AllBegin w.others ds → EachBegins seats ds)
       → Final {S = Option T} (Seen (HoldsBy q.table.shared.key) id w) words inside → IsClosed slots kept (λ rest. ClosesValues q seats rest came)
   values_closed slots id w words kept inside came same words_same out is begin f =
       let end = values_end_as q.plan q.table.shared.key seats id w words inside q.laid.key carries is f in

@@ -1,5 +1,6 @@
 -- The opening keeps the rule, and so does a seat that is dealt.
-use Rattle.std.proofs.Common.{◌≡◌, ◌≢◌, ◌⊎◌, ℕ, ◌+◌, ◌*◌, ◌/◌, ◌%◌, ◌^◌, ◌<◌, ◌≤◌, Bool, false, List, [], ◌∷◌, ◌++◌, zero, suc, length, get_or, set, Some, None, slice_get, sym, refl, ap, ◌∙◌, subst, ⊎_elim, inl, inr, arith}
+use Rattle.std.proofs.Common.{◌≡◌, ◌≢◌, ◌⊎◌, ℕ, ◌+◌, ◌*◌, ◌/◌, ◌%◌, ◌^◌, ◌<◌, ◌≤◌, Bool, false, List, [], ◌∷◌, ◌++◌, zero, suc, length, get_or, set}
+use Rattle.std.proofs.Common.{Some, None, slice_get, sym, refl, ap, ◌∙◌, subst, ⊎_elim, inl, inr, arith}
 use Rattle.std.proofs.Math.Arith.{digits_div, digits_mod}
 use Rattle.std.proofs.lemmas.Option.{none-some}
 use Rattle.std.proofs.lemmas.List.Elements.{All-nil}
@@ -127,13 +128,15 @@ deals z es id n s whole mine =
     let t = h.owned j i u o a b in
     let lt : o.number < n = let x = t.1 in omega (arith, x, dealt) in
     (h.fits j i u o a b, put_else h.owner n o.number (l, 0) (λ e. omega (arith, e, lt)) ∙ t.0, omega (arith, lt)) in
-    let all : (j i : ℕ) (u : View) (o : SeatView) → get_elem? (set s.views id (keeper z.slots (n + 1)) ++ seated (new_seat z.slots n) ∷ []) j ≡ some u → get_elem? (members u) i ≡ some o → P j i o = λ j i u o a b.
+    let all : (j i : ℕ) (u : View) (o : SeatView) → get_elem? (set s.views id (keeper z.slots (n + 1)) ++ seated (new_seat z.slots n) ∷ []) j ≡ some u
+    → get_elem? (members u) i ≡ some o → P j i o = λ j i u o a b.
     ⊎_elim
     (λ (t : get_elem? (set s.views id (keeper z.slots (n + 1))) j ≡ some u).
     ⊎_elim (λ (q : (j ≡ id) × (keeper z.slots (n + 1) ≡ u)). none_at i o (ap (λ (y : View). get_elem? (members y) i) q.1 ∙ b))
     (λ (q : (j ≢ id) × (get_elem? s.views j ≡ some u)). old j i u o q.1 b)
     (at_set s.views id j (keeper z.slots (n + 1)) u t))
-    (λ (t : (j ≡ l) × (seated (new_seat z.slots n) ≡ u)). let q = one_of (new_seat z.slots n) o i (ap (λ (y : View). get_elem? (members y) i) t.1 ∙ b) in subst (λ (y : ℕ × ℕ × SeatView). P y.0 y.1 y.2) (λ c. (sym t.0 c, sym q.0 c, q.1 c)) new)
+    (λ (t : (j ≡ l) × (seated (new_seat z.slots n) ≡ u)). let q = one_of (new_seat z.slots n) o i (ap (λ (y : View). get_elem? (members y) i) t.1 ∙ b)
+    in subst (λ (y : ℕ × ℕ × SeatView). P y.0 y.1 y.2) (λ c. (sym t.0 c, sym q.0 c, q.1 c)) new)
     (at_end (set s.views id (keeper z.slots (n + 1))) (seated (new_seat z.slots n)) u j a) in (
       record {
         seats = h.seats;
@@ -161,12 +164,15 @@ new_is_sound z n = record { legal = (_, refl); permitted = All-nil (IsPermitted 
 
 -- a seat more that was just dealt
 pub one_more : {T : Type 0} (z : Layout) (t : TableId) (xs : List (Seat T)) (n : ℕ) (s : Seat T) → length xs ≡ n → AreDealt z t xs → IsDealt z t (n + 1) s → AreDealt z t (xs ++ s ∷ [])
-one_more {T} z t xs n s len all new k y got = ⊎_elim (λ (h : slice_get xs k ≡ Some y). all k y h) (λ (h : (k ≡ length xs) × (s ≡ y)). subst (λ (q : ℕ × (Seat T)). IsDealt z t (q.0 + 1) q.1) (λ i. (sym (h.0 ∙ len) i, h.1 i)) new) (got_snoc xs s y k got)
+one_more {T} z t xs n s len all new k y got = ⊎_elim (λ (h : slice_get xs k ≡ Some y). all k y h)
+    (λ (h : (k ≡ length xs) × (s ≡ y)). subst (λ (q : ℕ × (Seat T)). IsDealt z t (q.0 + 1) q.1) (λ i. (sym (h.0 ∙ len) i, h.1 i)) new)
+    (got_snoc xs s y k got)
 
 -- what is built of a plan is a ring of its sizes
 pub made : {T : Type 0} (carries : Bool) (most credits limit slots : ℕ) (roles copied : List Role) (q : RingQueue T) (seats : List (Seat T)) → copied ≡ roles → HasSlots most credits roles slots
     → q.plan ≡ record { slots = slots; most = most; credits = credits; limit = limit; roles = copied; carries = carries } → length seats ≡ length copied
-    → AreDealt record { slots = slots; most = most; credits = credits; limit = limit; roles = copied; carries = carries } q.table.shared.table_id seats → IsMadeFor carries most credits limit roles q seats
+    → AreDealt record { slots = slots; most = most; credits = credits; limit = limit; roles = copied; carries = carries } q.table.shared.table_id
+    seats → IsMadeFor carries most credits limit roles q seats
 made carries most credits limit slots roles copied q seats same has is count dealt_all =
     record {
       full_at = ap (λ (z : Layout). z.most) is;
@@ -180,7 +186,8 @@ made carries most credits limit slots roles copied q seats same has is count dea
     }
 
 -- one that carries no values is a ring of numbers
-pub made_numbers : {T : Type 0} (most credits limit : ℕ) (roles : List Role) (q : RingQueue T) (seats : List (Seat T)) → IsMadeFor false most credits limit roles q seats → IsMade most credits limit roles q seats
+pub made_numbers : {T : Type 0} (most credits limit : ℕ) (roles : List Role) (q : RingQueue T) (seats : List (Seat T))
+    → IsMadeFor false most credits limit roles q seats → IsMade most credits limit roles q seats
 made_numbers most credits limit roles q seats m = record {
   full_at = m.full_at;
   reserves = m.reserves;

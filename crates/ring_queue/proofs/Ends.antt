@@ -1,5 +1,6 @@
 -- The end of a ring: with all its seats handed in each place that was claimed is filled.
-use Rattle.std.proofs.Common.{◌≡◌, ℕ, zero, suc, ◌+◌, ◌-◌, ◌/◌, ◌%◌, ◌^◌, ◌<◌, ◌≤◌, ◌↔◌, Bool, true, false, if◌then◌else◌, nat_le, IsTrue, IsSomeAnd, List, [], ◌∷◌, ◌++◌, length, map, Option, Some, None, slice_get, mod-lt, sym, refl, ap, ◌∙◌, subst, arith, ne_eqb}
+use Rattle.std.proofs.Common.{◌≡◌, ℕ, zero, suc, ◌+◌, ◌-◌, ◌/◌, ◌%◌, ◌^◌, ◌<◌, ◌≤◌, ◌↔◌, Bool, true, false, if◌then◌else◌, nat_le, IsTrue, IsSomeAnd}
+use Rattle.std.proofs.Common.{List, [], ◌∷◌, ◌++◌, length, map, Option, Some, None, slice_get, mod-lt, sym, refl, ap, ◌∙◌, subst, arith, ne_eqb}
 use Rattle.std.specs.List.{All, count_by}
 use mathlib.Core.Option.{some}
 use mathlib.Core.List.{IsPrefix}
@@ -51,7 +52,8 @@ ends_at z seats id words slots t =
       all = h.seats;
       ring = subst (λ ws. Ring z ws h.seats) t.2 h.ring;
       fits = λ k s got. h.fits id k u (view s) at_id (got_map view seats k s got);
-      apart = λ k l a b x y e. ap (λ (q : ℕ × ℕ). q.1) (sym (h.owned id k u (view a) at_id (got_map view seats k a x)).0 ∙ (ap h.owner e ∙ (h.owned id l u (view b) at_id (got_map view seats l b y)).0));
+      apart = λ k l a b x y e. ap (λ (q : ℕ × ℕ). q.1) (sym (h.owned id k u (view a) at_id (got_map view seats k a x)).0 ∙
+          (ap h.owner e ∙ (h.owned id l u (view b) at_id (got_map view seats l b y)).0));
     }
 
 seat_at : {T : Type 0} (seats : List (Seat T)) (i : ℕ) (k : Known) → slice_get (map known_of seats) i ≡ Some k → (s : Seat T) × (slice_get seats i ≡ Some s) × (known_of s ≡ k)
@@ -75,8 +77,11 @@ at_place {T} P seats i s all got = go seats i all got
     go (x ∷ xs) (suc j) h e = go xs j (λ k d lt. h (suc k) d (omega (arith, lt))) e
 
 -- what is told of a ring that is closed by seats, whose own history that is
-closes_in : (permits : List Permit) (ks : List Known) (rest : Rest) (es : List Entry) → Leads es (was_shut_of rest) (left_of rest) → All (IsPermitted permits) es → All (λ k. IsPrefix k.seen es) ks → All (λ k. own_entries k.number es ≡ k.mine) ks → AreApart ks → taken_of rest ≡ count_by is_pop es
-    → (IsTrue (whole_of rest) ↔ ((pops_of ks ≡ taken_of rest) × (pushes_of ks ≡ taken_of rest + length (left_of rest)) × (IsTrue (was_shut_of rest) → 1 ≤ shuts_of ks))) → (c : Closes permits ks rest) × (c.history ≡ es)
+closes_in : (permits : List Permit) (ks : List Known) (rest : Rest) (es : List Entry) → Leads es (was_shut_of rest) (left_of rest)
+    → All (IsPermitted permits) es → All (λ k. IsPrefix k.seen es) ks → All (λ k. own_entries k.number es ≡ k.mine) ks → AreApart ks
+    → taken_of rest ≡ count_by is_pop es
+    → (IsTrue (whole_of rest) ↔ ((pops_of ks ≡ taken_of rest) × (pushes_of ks ≡ taken_of rest + length (left_of rest))
+    × (IsTrue (was_shut_of rest) → 1 ≤ shuts_of ks))) → (c : Closes permits ks rest) × (c.history ≡ es)
 closes_in permits ks rest es leads permitted begins own apart counted whole = (
   record {
     history = es;
@@ -86,7 +91,9 @@ closes_in permits ks rest es leads permitted begins own apart counted whole = (
     own = own;
     counted = counted;
     whole = whole;
-    theirs = λ t. let h = whole.0 t in theirs ks es apart own (h.0 ∙ counted) (let pushed = pushes-Leads es (was_shut_of rest) (left_of rest) leads in omega (arith, h.1, counted, pushed)) (one_shut (was_shut_of rest) _ _ (shut_by_one es (was_shut_of rest) (left_of rest) leads) (made-le ks es apart own is_shut) h.2);
+    theirs = λ t. let h = whole.0 t in theirs ks es apart own (h.0 ∙ counted) (let pushed =
+        pushes-Leads es (was_shut_of rest) (left_of rest) leads in omega (arith, h.1, counted, pushed))
+        (one_shut (was_shut_of rest) _ _ (shut_by_one es (was_shut_of rest) (left_of rest) leads) (made-le ks es apart own is_shut) h.2);
     all = (closes permits ks rest es leads permitted begins own apart counted whole).all;
   },
   refl,
@@ -96,7 +103,8 @@ closes_in permits ks rest es leads permitted begins own apart counted whole = (
     one_shut true made all e low one = omega (arith, e, low, one refl)
     one_shut false made all e low one = omega (arith, e, low)
 
-module _ {T : Type 0} (z : Layout) (words : List ℕ) (seats : List (Seat T)) (e : Ends z seats words) (at_rest : All (λ s. Rests (view s).stage) seats) (every : AreAll (permits_of z) (map known_of seats)) where
+module _ {T : Type 0} (z : Layout) (words : List ℕ) (seats : List (Seat T)) (e : Ends z seats words) (at_rest : All (λ s. Rests (view s).stage) seats)
+    (every : AreAll (permits_of z) (map known_of seats)) where
   abbrev r : Ring z words e.all
   r = e.ring
 
@@ -142,7 +150,8 @@ module _ {T : Type 0} (z : Layout) (words : List ℕ) (seats : List (Seat T)) (e
       let says : w % 2 ^ 63 ≡ payload (r.log place) = ap (λ x. x % 2 ^ 63) (filled place from lt) ∙ face_payload z.slots place (r.log place) (r.fits place) in
       let fit : FitsWord (Some v) = subst FitsWord some_is (r.fits place) in
       let one : 0 < payload (r.log place) = subst (λ x. 0 < payload x) (sym some_is) (let low = fit.0 in omega (arith, low)) in
-      let value : taken_in w ≡ v = same_Some (taken_in w) v (sym (payload_some (r.log place) (r.fits place) one ∙ ap (λ x. Some (record { from = x / 2 ^ 48; body = x % 2 ^ 48 })) (sym says)) ∙ some_is) in
+      let value : taken_in w ≡ v = same_Some (taken_in w) v (sym (payload_some (r.log place) (r.fits place) one ∙ ap
+      (λ x. Some (record { from = x / 2 ^ 48; body = x % 2 ^ 48 })) (sym says)) ∙ some_is) in
       let more : values_from z.slots words (place + 1) k ≡ vs = told_from k (place + 1) vs (omega (arith, to)) (omega (arith, from)) (let f : suc (length vs) ≤ suc k = few in omega (arith, f))
       (λ i u at. ap r.log (let q : place + 1 + i ≡ place + suc i = omega arith in q) ∙ logged (suc i) u at)
       (λ p after before. marked p (let l : length (v ∷ vs) ≡ suc (length vs) = refl in omega (arith, l, after)) before) in
@@ -168,7 +177,8 @@ module _ {T : Type 0} (z : Layout) (words : List ℕ) (seats : List (Seat T)) (e
       go true = le-leb (2 ^ 62) (r.tail + 2 ^ 62) (omega arith)
       go false = lt-leb (2 ^ 62) r.tail (small z words e.all r)
 
-  own_each : {T : Type 0} (xs : List (Seat T)) → ((k : ℕ) (s : Seat T) → slice_get xs k ≡ Some s → e.all (view s).number ≡ view s) → All (λ k. own_entries k.number r.history ≡ k.mine) (map known_of xs)
+  own_each : {T : Type 0} (xs : List (Seat T)) → ((k : ℕ) (s : Seat T) → slice_get xs k ≡ Some s → e.all (view s).number ≡ view s)
+      → All (λ k. own_entries k.number r.history ≡ k.mine) (map known_of xs)
   own_each [] f = All-nil (λ (k : Known). own_entries k.number r.history ≡ k.mine)
   own_each (s ∷ ss) f =
       let n : ℕ = (view s).number in
@@ -193,7 +203,8 @@ module _ {T : Type 0} (z : Layout) (words : List ℕ) (seats : List (Seat T)) (e
   some_shut false made is t = absurd (let f : false ≡ true = t in cc)
 
   -- the ring is closed, by that history
-  pub closes_all : (rest : Rest) → left_of rest ≡ values_from z.slots words (head_in words) (tail_in words - head_in words) → taken_of rest + z.slots ≡ head_in words → whole_of rest ≡ true → was_shut_of rest ≡ was_shut_in words
+  pub closes_all : (rest : Rest) → left_of rest ≡ values_from z.slots words (head_in words) (tail_in words - head_in words)
+      → taken_of rest + z.slots ≡ head_in words → whole_of rest ≡ true → was_shut_of rest ≡ was_shut_in words
       → (c : Closes (permits_of z) (map known_of seats) rest) × (c.history ≡ r.history)
   closes_all rest left taken whole shut =
       let ks : List Known = map known_of seats in

@@ -1,5 +1,6 @@
 -- A push fills its place.
-use Rattle.std.proofs.Common.{◌≡◌, ◌≢◌, ℕ, suc, ◌+◌, ◌-◌, ◌%◌, ◌^◌, ◌<◌, ◌≤◌, inl, inr, true, List, [], ◌∷◌, ◌++◌, length, get_or, set, slice_get, Option, Some, None, sym, refl, ap, ◌∙◌, subst, arith, append-nil}
+use Rattle.std.proofs.Common.{◌≡◌, ◌≢◌, ℕ, suc, ◌+◌, ◌-◌, ◌%◌, ◌^◌, ◌<◌, ◌≤◌, inl, inr, true, List, [], ◌∷◌, ◌++◌, length, get_or, set, slice_get}
+use Rattle.std.proofs.Common.{Option, Some, None, sym, refl, ap, ◌∙◌, subst, arith, append-nil}
 use Rattle.std.proofs.lemmas.Option.{none-some}
 use Rattle.std.specs.List.{All}
 use Rattle.history.specs.declared.operations.Entry.{Entry}
@@ -82,9 +83,11 @@ module _ (z : Layout) (words : List ℕ) (seats : ℕ → SeatView) (r : Ring z 
 
   -- the first place is filled of those that the seat claimed from one on
   pub fills_place : (p : ℕ) (x : Option Taken) (xs : List (Option Taken)) → v.stage ≡ claimed p (x ∷ xs)
-      → (v' : SeatView) × (v'.number ≡ v.number) × (r' : Ring z (set words (slot_word (p % z.slots)) (face z.slots p x)) (put seats v.number v')) × Extends [] r.history v r'.history v' × PlaceFilled v v'
+      → (v' : SeatView) × (v'.number ≡ v.number) × (r' : Ring z (set words (slot_word (p % z.slots)) (face z.slots p x)) (put seats v.number v'))
+      × Extends [] r.history v r'.history v' × PlaceFilled v v'
   fills_place p x xs at =
-      let own : (q : ℕ) (y : Option Taken) → HasClaimed (claimed p (x ∷ xs)) q y → (r.cells (q % z.slots) ≡ cell q (Some v.number)) × (r.log q ≡ y) = subst (Stands z.slots r.head r.tail live r.log r.cells v) at fit.stage in
+      let own : (q : ℕ) (y : Option Taken) → HasClaimed (claimed p (x ∷ xs)) q y → (r.cells (q % z.slots) ≡ cell q (Some v.number))
+      × (r.log q ≡ y) = subst (Stands z.slots r.head r.tail live r.log r.cells v) at fit.stage in
       let mine = own p x (omega arith, ap (slice_get (x ∷ xs)) (let e : p - p ≡ 0 = omega arith in e)) in
       let v' : SeatView = record v { stage = standing (p + 1) xs } in
       let made = fills z words seats r v.number p x v' (λ q y ne h. claimed_next p x xs q y ne (subst (λ st. HasClaimed st q y) (ap (λ (u : SeatView). u.stage) is ∙ at) h)) mine.0 mine.1
@@ -97,10 +100,15 @@ module _ (z : Layout) (words : List ℕ) (seats : ℕ → SeatView) (r : Ring z 
         ap (λ st. record v { stage = next_stage st }) (sym at),
       )
     where
-      stands_next : (p : ℕ) (x : Option Taken) (xs : List (Option Taken)) → ((q : ℕ) (y : Option Taken) → HasClaimed (claimed p (x ∷ xs)) q y → (r.cells (q % z.slots) ≡ cell q (Some v.number)) × (r.log q ≡ y))
-          → r.cells (p % z.slots) ≡ cell p (Some v.number) → Stands z.slots r.head r.tail live r.log (put r.cells (p % z.slots) (cell p None)) (record v { stage = standing (p + 1) xs }) (standing (p + 1) xs)
+      stands_next : (p : ℕ) (x : Option Taken) (xs : List (Option Taken)) → ((q : ℕ) (y : Option Taken) → HasClaimed (claimed p (x ∷ xs)) q y
+          → (r.cells (q % z.slots) ≡ cell q (Some v.number)) × (r.log q ≡ y))
+          → r.cells (p % z.slots) ≡ cell p (Some v.number) → Stands z.slots r.head r.tail live r.log (put r.cells (p % z.slots) (cell p None))
+          (record v { stage = standing (p + 1) xs }) (standing (p + 1) xs)
       stands_next p x [] own mine = tt
       stands_next p x (y ∷ ys) own mine = λ q w h.
           let low = h.0 in
-          let t = own q w (omega (arith, low), ap (slice_get (x ∷ y ∷ ys)) (let e : q - p ≡ suc (q - (p + 1)) = omega (arith, low) in e) ∙ h.1) in
-          (put_else r.cells (p % z.slots) (q % z.slots) (cell p None) (λ e. absurd (let same : q ≡ p = ap (λ (d : Cell). d.place) (sym t.0 ∙ (ap r.cells e ∙ mine)) in omega (arith, same, low))) ∙ t.0, t.1)
+          let t = own q w (omega (arith, low), ap (slice_get (x ∷ y ∷ ys)) (let e : q - p ≡ suc (q - (p + 1)) = omega (arith, low) in e) ∙ h.1) in (
+            put_else r.cells (p % z.slots) (q % z.slots) (cell p None) (λ e. absurd
+                (let same : q ≡ p = ap (λ (d : Cell). d.place) (sym t.0 ∙ (ap r.cells e ∙ mine)) in omega (arith, same, low))) ∙ t.0,
+            t.1,
+          )

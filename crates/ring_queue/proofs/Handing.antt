@@ -98,7 +98,9 @@ module _ {T : Type 0} (z about : Layout) (t : TableId) (s : Seat T) (slot word :
       )
 
 -- a seat with another slot, or none, that stores and knows the same
-module _ {T : Type 0} (z : Layout) (t : TableId) (s : Seat T) (k : Token (Option T) (Beside T)) (h : maybe.Option ℕ) (is : IsReady z t s) (carries : z.carries ≡ true) (here : k.table_id ≡ s.token.table_id) (same : k.me.0 ≡ with_hand s.token.me.0 h) (there : (i : ℕ) → h ≡ some i → i < z.slots) where
+module _ {T : Type 0} (z : Layout) (t : TableId) (s : Seat T) (k : Token (Option T) (Beside T)) (h : maybe.Option ℕ) (is : IsReady z t s)
+    (carries : z.carries ≡ true) (here : k.table_id ≡ s.token.table_id) (same : k.me.0 ≡ with_hand s.token.me.0 h)
+    (there : (i : ℕ) → h ≡ some i → i < z.slots) where
   knows_same : knows k.me.0.plain ≡ view s
   knows_same = ap (λ (w : Beside T). knows w.plain) same
 
@@ -130,7 +132,8 @@ module _ {T : Type 0} (z : Layout) (t : TableId) (s : Seat T) (k : Token (Option
   still_known = record { number = refl; role = refl; head = refl; reserve = refl; view = knows_same; deeds = ap (λ (w : Beside T). w.deeds) same }
 
 -- what a try leaves, by whether the flag was down
-module _ {T : Type 0} (z about : Layout) (t : TableId) (s : Seat T) (k : Token (Option T) (Beside T)) (slot word n : ℕ) (key : about ≡ z) (is : IsReady z t s) (carries : z.carries ≡ true) (none_out : HasNoSlot s) (lt : slot < z.slots) (at : word ≡ words_of z + slot)
+module _ {T : Type 0} (z about : Layout) (t : TableId) (s : Seat T) (k : Token (Option T) (Beside T)) (slot word n : ℕ) (key : about ≡ z)
+    (is : IsReady z t s) (carries : z.carries ≡ true) (none_out : HasNoSlot s) (lt : slot < z.slots) (at : word ≡ words_of z + slot)
     (told : (k.table_id ≡ s.token.table_id) × (k.id ≡ s.token.id) × Tries about word s.token.me n k.me) where
   at_slot : word - words_of about ≡ slot
   at_slot = let same = ap (λ (y : Layout). words_of y) key in omega (arith, same, at)
@@ -141,7 +144,8 @@ module _ {T : Type 0} (z about : Layout) (t : TableId) (s : Seat T) (k : Token (
   abbrev Left : Type 0
   Left = IsReady z t (record s { token = k }) × KeepsKnown s (record s { token = k }) × (n ≡ 0 → HasSlot z (record s { token = k }) slot None) × (n ≢ 0 → IsMissed z s (record s { token = k }) slot)
 
-  left_by : (h : maybe.Option ℕ) → k.me.0 ≡ with_hand s.token.me.0 h → ((i : ℕ) → h ≡ some i → i < z.slots) → (n ≡ 0 → HasSlot z (record s { token = k }) slot None) → (n ≢ 0 → IsMissed z s (record s { token = k }) slot) → Left
+  left_by : (h : maybe.Option ℕ) → k.me.0 ≡ with_hand s.token.me.0 h → ((i : ℕ) → h ≡ some i → i < z.slots)
+      → (n ≡ 0 → HasSlot z (record s { token = k }) slot None) → (n ≢ 0 → IsMissed z s (record s { token = k }) slot) → Left
   left_by h same there hit miss = (still_ready z t s k h is carries told.0 same there, still_known z t s k h is carries told.0 same there, hit, miss)
 
   pub tried : Left
@@ -150,7 +154,8 @@ module _ {T : Type 0} (z about : Layout) (t : TableId) (s : Seat T) (k : Token (
       (λ down.
       let got = told.2.0 down in
       let now : k.me ≡ (with_hand s.token.me.0 (some slot), (slot, None) ∷ []) = got ∙ ap (λ (y : ℕ). (with_hand s.token.me.0 (some y), (y, None) ∷ [])) at_slot in
-      left_by (some slot) (ap (λ y. y.0) now) (λ i e. subst (λ (m : ℕ). m < z.slots) (some-injective slot i e) lt) (λ e. record { carries = carries; there = lt; out = ap (λ y. y.1) now; hand = ap (λ y. y.0.hand) now }) (λ ne. absurd (ne down)))
+      left_by (some slot) (ap (λ y. y.0) now) (λ i e. subst (λ (m : ℕ). m < z.slots) (some-injective slot i e) lt)
+      (λ e. record { carries = carries; there = lt; out = ap (λ y. y.1) now; hand = ap (λ y. y.0.hand) now }) (λ ne. absurd (ne down)))
       (λ up.
       let missed = told.2.1 up in
       let same = ap (λ (y : Me (Option T) (Beside T)). y.0) missed.0 in
@@ -162,7 +167,8 @@ module _ {T : Type 0} (z about : Layout) (t : TableId) (s : Seat T) (k : Token (
       }))
 
 -- what a slot that was given back leaves
-module _ {T : Type 0} (z : Layout) (t : TableId) (s : Seat T) (k : Token (Option T) (Beside T)) (slot : ℕ) (is : IsReady z t s) (has : HasSlot z s slot None) (told : (k.table_id ≡ s.token.table_id) × (k.id ≡ s.token.id) × Frees s.token.me k.me) where
+module _ {T : Type 0} (z : Layout) (t : TableId) (s : Seat T) (k : Token (Option T) (Beside T)) (slot : ℕ) (is : IsReady z t s)
+    (has : HasSlot z s slot None) (told : (k.table_id ≡ s.token.table_id) × (k.id ≡ s.token.id) × Frees s.token.me k.me) where
   abbrev now_none : k.me.0 ≡ with_hand s.token.me.0 none
   now_none = ap (λ (y : Me (Option T) (Beside T)). y.0) told.2
 
@@ -179,7 +185,9 @@ pub then_known : {T : Type 0} (s t u : Seat T) → KeepsKnown s t → KeepsKnown
 then_known s t u f g = record { number = g.number ∙ f.number; role = g.role ∙ f.role; head = g.head ∙ f.head; reserve = g.reserve ∙ f.reserve; view = g.view ∙ f.view; deeds = g.deeds ∙ f.deeds }
 
 -- one more slot was taken
-pub one_more_taken : {T : Type 0} (z : Layout) (w w' : Beside T) (first slot next failed : ℕ) → w' ≡ w → ∥ WasTaken z w' slot ∥₁ → next ≡ (slot + 1) % z.slots → ((m : ℕ) → AllTaken z w slot m → AllTaken z w first (failed + m)) → (m : ℕ) → AllTaken z w next m → AllTaken z w first (failed + 1 + m)
+pub one_more_taken : {T : Type 0} (z : Layout) (w w' : Beside T) (first slot next failed : ℕ) → w' ≡ w → ∥ WasTaken z w' slot ∥₁
+    → next ≡ (slot + 1) % z.slots → ((m : ℕ) → AllTaken z w slot m → AllTaken z w first (failed + m)) → (m : ℕ) → AllTaken z w next m
+    → AllTaken z w first (failed + 1 + m)
 one_more_taken z w w' first slot next failed same taken is before m all =
     let e : failed + suc m ≡ failed + 1 + m = omega arith in
     subst (AllTaken z w first) e (before (suc m) (subst (λ (x : Beside _). ∥ WasTaken z x slot ∥₁) same taken, subst (λ (k : ℕ). AllTaken z w k m) is all))

@@ -1,5 +1,6 @@
 -- Each step on a word keeps the ring's rule.
-use Rattle.std.proofs.Common.{◌≡◌, ◌≢◌, ℕ, suc, ◌+◌, ◌-◌, ◌%◌, ◌<◌, ◌≤◌, true, false, List, [], ◌∷◌, ◌++◌, length, get_or, set, slice_get, Option, Some, None, sym, refl, ap, ◌∙◌, subst, arith, append_assoc, mod-lt}
+use Rattle.std.proofs.Common.{◌≡◌, ◌≢◌, ℕ, suc, ◌+◌, ◌-◌, ◌%◌, ◌<◌, ◌≤◌, true, false, List, [], ◌∷◌, ◌++◌, length, get_or, set, slice_get, Option}
+use Rattle.std.proofs.Common.{Some, None, sym, refl, ap, ◌∙◌, subst, arith, append_assoc, mod-lt}
 use Rattle.std.specs.List.{All, count_by}
 use Rattle.std.proofs.lemmas.List.Sums.{sum_by-append}
 use Rattle.std.proofs.lemmas.List.{get_or-set_other, get_or-set_same, length-set}
@@ -236,7 +237,8 @@ module _ (z : Layout) (words : List ℕ) (seats : ℕ → SeatView) (r : Ring z 
       place_claimed p f is = subst (λ (c : Cell). c.place < r.tail) is (r.each_cell (p % m) (mod-lt p some_slot)).claimed
 
   -- a place is claimed
-  pub claims : (n : ℕ) (v : SeatView) (x : Option Taken) (values' : List Taken) (voids' : ℕ) (es : List Entry) → ((p : ℕ) (y : Option Taken) → p < r.tail → HasClaimed (seats n).stage p y → HasClaimed v.stage p y)
+  pub claims : (n : ℕ) (v : SeatView) (x : Option Taken) (values' : List Taken) (voids' : ℕ) (es : List Entry)
+      → ((p : ℕ) (y : Option Taken) → p < r.tail → HasClaimed (seats n).stage p y → HasClaimed v.stage p y)
       → 1 ≤ n → n ≤ length z.roles → HasClaimed v.stage r.tail x
       → r.tail < r.head + m → FitsWord x
       → Leads (r.history ++ es) r.shut values' → All (IsPermitted (permits_of z)) (r.history ++ es)
@@ -280,12 +282,18 @@ module _ (z : Layout) (words : List ℕ) (seats : ℕ → SeatView) (r : Ring z 
           fits = λ p. put_each r.log r.tail p x (λ q y. FitsWord y) fit (λ ne. r.fits p);
           each_cell = λ i lt. put_each r.cells (r.tail % m) i (cell r.tail (Some n)) (CellOk m r.head (r.tail + 1) (put r.log r.tail x) (set words 0 w))
               (cell_claimed n w x room) (λ ne. cell_beside n w i x ne (r.cells i) (r.each_cell i lt));
-          filling = λ i lt. put_each r.cells (r.tail % m) i (cell r.tail (Some n)) (λ j (c : Cell). FillerStands (length z.roles) (put r.log r.tail x) (put seats n v) c.place c.filler)
-              (from, to, subst (λ (u : SeatView). HasClaimed u.stage r.tail (put r.log r.tail x r.tail)) (sym (put_here seats n n v refl)) (subst (HasClaimed v.stage r.tail) (sym (put_here r.log r.tail r.tail x refl)) stands))
+          filling = λ i lt. put_each r.cells (r.tail % m) i (cell r.tail (Some n)) (λ j (c : Cell). FillerStands (length z.roles) (put r.log r.tail x) (put seats n v) c.place c.filler) (
+            from,
+            to,
+            subst (λ (u : SeatView). HasClaimed u.stage r.tail (put r.log r.tail x r.tail)) (sym (put_here seats n n v refl))
+                (subst (HasClaimed v.stage r.tail) (sym (put_here r.log r.tail r.tail x refl)) stands),
+          )
               (λ ne. filler_on (length z.roles) r.log (put r.log r.tail x) seats (put seats n v) (r.cells i).place (r.cells i).filler
-              (log_before x (r.cells i).place (r.each_cell i lt).claimed) (λ k. claimed_before seats n r.tail v rested k (r.cells i).place (r.log (r.cells i).place) (r.each_cell i lt).claimed) (r.filling i lt));
+              (log_before x (r.cells i).place (r.each_cell i lt).claimed) (λ k. claimed_before seats n r.tail v rested k (r.cells i).place
+              (r.log (r.cells i).place) (r.each_cell i lt).claimed) (r.filling i lt));
           each_seat = λ k. put_each seats n k v (SeatOk z r.head (r.tail + 1) (r.head + length values') (put r.log r.tail x) (put r.cells (r.tail % m) (cell r.tail (Some n))) (r.history ++ es)) ok
-              (λ ne. seat_stays z r.head r.tail live r.head (r.tail + 1) (r.head + length values') r.log (put r.log r.tail x) r.cells (put r.cells (r.tail % m) (cell r.tail (Some n))) r.history es k (seats k)
+              (λ ne. seat_stays z r.head r.tail live r.head (r.tail + 1) (r.head + length values') r.log (put r.log r.tail x) r.cells
+              (put r.cells (r.tail % m) (cell r.tail (Some n))) r.history es k (seats k)
               (omega arith) (others k ne) (others_claim n (r.head + length values') x k (seats k) (r.each_seat k).number ne room more (seats k).stage) (r.each_seat k));
         },
         refl,
@@ -300,7 +308,8 @@ module _ (z : Layout) (words : List ℕ) (seats : ℕ → SeatView) (r : Ring z 
   slot_within p = let lt : p % m < m = mod-lt p some_slot in let w = r.wide in omega (arith, lt, w)
 
   -- a place is filled by the seat that claimed it
-  pub fills : (n p : ℕ) (x : Option Taken) (v : SeatView) → ((q : ℕ) (y : Option Taken) → q ≢ p → HasClaimed (seats n).stage q y → HasClaimed v.stage q y) → r.cells (p % m) ≡ cell p (Some n) → r.log p ≡ x
+  pub fills : (n p : ℕ) (x : Option Taken) (v : SeatView) → ((q : ℕ) (y : Option Taken) → q ≢ p → HasClaimed (seats n).stage q y
+      → HasClaimed v.stage q y) → r.cells (p % m) ≡ cell p (Some n) → r.log p ≡ x
       → SeatOk z r.head r.tail live r.log (put r.cells (p % m) (cell p None)) r.history n v
       → v.credits ≡ (seats n).credits
       → Became z (set words (slot_word (p % m)) (face m p x)) (put seats n v) r.history
@@ -379,7 +388,8 @@ module _ (z : Layout) (words : List ℕ) (seats : ℕ → SeatView) (r : Ring z 
         lies = subst (λ (y : ℕ). Lies m r.head r.log y c.place c.filler) (sym (get_or-set_other words (slot_word i) (slot_word j) w 0 (λ e. ne (omega (arith, e))))) k.lies;
       }
 
-      others_fill : (k : ℕ) (u : SeatView) → u.number ≡ k → k ≢ n → (st : Stage) → Stands m r.head r.tail live r.log r.cells u st → Stands m r.head r.tail live r.log (put r.cells (p % m) (cell p None)) u st
+      others_fill : (k : ℕ) (u : SeatView) → u.number ≡ k → k ≢ n → (st : Stage) → Stands m r.head r.tail live r.log r.cells u st
+          → Stands m r.head r.tail live r.log (put r.cells (p % m) (cell p None)) u st
       others_fill k u is ne st before =
           stands_on m r.head r.tail live r.head r.tail live r.log r.log r.cells (put r.cells (p % m) (cell p None)) u (omega arith)
           (λ q y theirs lies.
@@ -419,7 +429,8 @@ module _ (z : Layout) (words : List ℕ) (seats : ℕ → SeatView) (r : Ring z 
           wide = length-set words 16 w ∙ wide;
           tail_is = get_or-set_other words 16 0 w 0 (λ e. omega (arith, e)) ∙ r.tail_is;
           head_is = get_or-set_same words 16 w 0 (omega (arith, wide, some_slot));
-          taken = ap (λ k. k + 1) r.taken ∙ (let e : (m + count_by is_pop r.history) + 1 ≡ m + (count_by is_pop r.history + 1) = omega arith in e) ∙ ap (λ k. m + k) (sym (sum_by-append _ r.history (Pop n y ∷ [])));
+          taken = ap (λ k. k + 1) r.taken ∙ (let e : (m + count_by is_pop r.history) + 1 ≡ m + (count_by is_pop r.history + 1) = omega arith in e) ∙
+              ap (λ k. m + k) (sym (sum_by-append _ r.history (Pop n y ∷ [])));
           leads = leads_pop r.history r.shut y ys n (subst (Leads r.history r.shut) is r.leads);
           permitted = all_one (IsPermitted (permits_of z)) r.history (Pop n y) r.permitted permit;
           counted = omega (arith, c, lengths);
@@ -431,7 +442,8 @@ module _ (z : Layout) (words : List ℕ) (seats : ℕ → SeatView) (r : Ring z 
           marked = λ p from to. r.marked p (omega (arith, from, lengths)) to;
           fits = r.fits;
           each_cell = λ j lt. cell_on w j (r.cells j) refl (r.each_cell j lt);
-          filling = λ j lt. filler_on (length z.roles) r.log r.log seats (put seats n v) (r.cells j).place (r.cells j).filler refl (λ k. claimed_beside seats n v rested k (r.cells j).place (r.log (r.cells j).place)) (r.filling j lt);
+          filling = λ j lt. filler_on (length z.roles) r.log r.log seats (put seats n v) (r.cells j).place (r.cells j).filler refl
+              (λ k. claimed_beside seats n v rested k (r.cells j).place (r.log (r.cells j).place)) (r.filling j lt);
           each_seat = λ k. put_each seats n k v (SeatOk z (r.head + 1) r.tail ((r.head + 1) + length ys) r.log r.cells (r.history ++ Pop n y ∷ [])) ok
               (λ ne. seat_stays z r.head r.tail live (r.head + 1) r.tail ((r.head + 1) + length ys) r.log r.log r.cells r.cells r.history (Pop n y ∷ []) k (seats k)
               (omega arith) (own_other k r.history (Pop n y) (λ e. ne (sym e))) (others_pop (omega (arith, lengths)) (seats k) (r.each_seat k).behind (seats k).stage) (r.each_seat k));
@@ -459,7 +471,8 @@ module _ (z : Layout) (words : List ℕ) (seats : ℕ → SeatView) (r : Ring z 
               let apart : p ≢ r.head = λ e. none-some i (ap (λ (c : Cell). c.filler) (sym front ∙ (ap (λ q. r.cells (q % m)) (sym e) ∙ (ap r.cells slot ∙ is)))) in
               (lies.0, lies.1, omega (arith, le, apart))
 
-      others_pop : live ≤ r.head + 1 + length ys → (u : SeatView) → u.head ≤ r.head → (st : Stage) → Stands m r.head r.tail live r.log r.cells u st → Stands m (r.head + 1) r.tail ((r.head + 1) + length ys) r.log r.cells u st
+      others_pop : live ≤ r.head + 1 + length ys → (u : SeatView) → u.head ≤ r.head → (st : Stage) → Stands m r.head r.tail live r.log r.cells u st
+          → Stands m (r.head + 1) r.tail ((r.head + 1) + length ys) r.log r.cells u st
       others_pop more u behind st before =
           stands_on m r.head r.tail live (r.head + 1) r.tail ((r.head + 1) + length ys) r.log r.log r.cells r.cells u more
           (λ q x theirs lies. (theirs, lies))
@@ -509,7 +522,8 @@ module _ (z : Layout) (words : List ℕ) (seats : ℕ → SeatView) (r : Ring z 
             last = k.last;
             lies = subst (λ (y : ℕ). Lies m r.head r.log y (r.cells j).place (r.cells j).filler) (sym (slot_after_tail w j)) k.lies;
           };
-          filling = λ j lt. filler_on (length z.roles) r.log r.log seats (put seats n v) (r.cells j).place (r.cells j).filler refl (λ k. claimed_beside seats n v rested k (r.cells j).place (r.log (r.cells j).place)) (r.filling j lt);
+          filling = λ j lt. filler_on (length z.roles) r.log r.log seats (put seats n v) (r.cells j).place (r.cells j).filler refl
+              (λ k. claimed_beside seats n v rested k (r.cells j).place (r.log (r.cells j).place)) (r.filling j lt);
           each_seat = λ k. put_each seats n k v (SeatOk z r.head r.tail live r.log r.cells (r.history ++ Shut n ∷ [])) ok
               (λ ne. seat_stays z r.head r.tail live r.head r.tail live r.log r.log r.cells r.cells r.history (Shut n ∷ []) k (seats k)
               (omega arith) (own_other k r.history (Shut n) (λ e. ne (sym e))) (λ s. s) (r.each_seat k));

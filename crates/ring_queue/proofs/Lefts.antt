@@ -14,7 +14,8 @@ got_word (w ∷ ws) (suc i) word e = got_word ws i word e
 
 module _ (slots : ℕ) (words : List ℕ) (all read : List Taken) (place tail : ℕ) (told : all ≡ read ++ values_from slots words place (tail - place)) where
   -- a place with a value
-  pub one_read : (value : Taken) → place < tail → word_of slots words place % 2 ^ 63 ≢ 0 → value ≡ taken_in (word_of slots words place) → all ≡ (read ++ value ∷ []) ++ values_from slots words (place + 1) (tail - (place + 1))
+  pub one_read : (value : Taken) → place < tail → word_of slots words place % 2 ^ 63 ≢ 0 → value ≡ taken_in (word_of slots words place)
+      → all ≡ (read ++ value ∷ []) ++ values_from slots words (place + 1) (tail - (place + 1))
   one_read value lt valued is =
       let next : tail - place ≡ suc (tail - (place + 1)) = omega (arith, lt) in
       let w : ℕ = word_of slots words place in

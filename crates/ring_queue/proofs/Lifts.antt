@@ -17,7 +17,8 @@ use Rattle.node_arena.proofs.Riding.{rides_same}
 use Rattle.ring_queue.specs.Plans.{Layout, words_of}
 use Rattle.ring_queue.specs.Seeing.{SeatView, View, gathered, seated, paired, knows}
 use Rattle.ring_queue.specs.Rule.{Holds}
-use Rattle.ring_queue.specs.Beside.{Beside, plain_of, plain_state, hand_in, hand_at, Begins, Carried, CarriedBy, HoldsFor, HoldsValues, IsReadyBy, TellsBeside, MeetsBeside, alone, first_beside_of, second_beside_of}
+use Rattle.ring_queue.specs.Beside.{Beside, plain_of, plain_state, hand_in, hand_at, Begins, Carried, CarriedBy, HoldsFor, HoldsValues, IsReadyBy}
+use Rattle.ring_queue.specs.Beside.{TellsBeside, MeetsBeside, alone, first_beside_of, second_beside_of}
 use Rattle.ring_queue.specs.Meeting.{learned}
 use Rattle.ring_queue.proofs.Tables.{HoldsWith, its_seat, one_seat}
 use Rattle.ring_queue.proofs.Calls.{Does}
@@ -26,7 +27,8 @@ use Rattle.ring_queue.proofs.Meets.{meets_now}
 use Rattle.ring_queue.proofs.Carrying.{allows_values, knows_first}
 
 -- the rule for a table with other words and views that are the same
-abbrev moved : (z : Layout) (es : List Entry) (ws ws' : List ℕ) (vs vs' : List View) → ws' ≡ ws → vs' ≡ vs → HoldsWith z es (record { words = ws; homes = []; views = vs }) → HoldsWith z es (record { words = ws'; homes = []; views = vs' })
+abbrev moved : (z : Layout) (es : List Entry) (ws ws' : List ℕ) (vs vs' : List View) → ws' ≡ ws → vs' ≡ vs
+    → HoldsWith z es (record { words = ws; homes = []; views = vs }) → HoldsWith z es (record { words = ws'; homes = []; views = vs' })
 moved z es ws ws' vs vs' words views h = subst (λ (y : List ℕ × List View). HoldsWith z es (record { words = y.0; homes = []; views = y.1 })) (λ i. (sym words i, sym views i)) h
 
 module _ {T : Type 0} where
@@ -50,15 +52,19 @@ module _ {T : Type 0} where
   AllBegun ds views = (j : ℕ) (w : Beside T) → get_elem? views j ≡ some w → Begins ds w
 
   -- other views, where the slots are as they were
-  pub recarried : (z : Layout) (es : List Entry) (s : State (Option T) (Beside T)) (words : List ℕ) (views : List (Beside T)) (c : Carried z es s) → ((i : ℕ) → flag_at (words_of z) s.words i ≡ flag_at (words_of z) words i) → ((j : ℕ) → hand_at s.views j ≡ hand_at views j) → AllBegun c.rides.deeds views → length words ≡ length s.words
+  pub recarried : (z : Layout) (es : List Entry) (s : State (Option T) (Beside T)) (words : List ℕ) (views : List (Beside T)) (c : Carried z es s)
+      → ((i : ℕ) → flag_at (words_of z) s.words i ≡ flag_at (words_of z) words i) → ((j : ℕ) → hand_at s.views j ≡ hand_at views j)
+      → AllBegun c.rides.deeds views → length words ≡ length s.words
       → Carried z es record { words = words; homes = s.homes; views = views }
   recarried z es s words views c flags hands known same =
       let r = rides_same es z.slots (flag_at (words_of z) s.words) (flag_at (words_of z) words) (home_at s.homes) (hand_at s.views) (hand_at views) c.rides flags hands in
       record { rides = r.0; known = subst (λ (ds : List (Deed T)). AllBegun ds views) (sym r.1) known; long = subst (λ (k : ℕ). words_of z + z.slots ≤ k) (sym same) c.long }
 
   -- the same, where the queue's history is as it was
-  pub revalued : (b : Bool) (z : Layout) (s : State (Option T) (Beside T)) (words : List ℕ) (views : List (Beside T)) (h : HoldsFor b z s) (n : HoldsWith z h.base.ring.history (plain_state (words_of z) (record { words = words; homes = s.homes; views = views })))
-      → ((i : ℕ) → flag_at (words_of z) s.words i ≡ flag_at (words_of z) words i) → ((j : ℕ) → hand_at s.views j ≡ hand_at views j) → ((ds : List (Deed T)) → AllBegun ds s.views → AllBegun ds views) → length words ≡ length s.words
+  pub revalued : (b : Bool) (z : Layout) (s : State (Option T) (Beside T)) (words : List ℕ) (views : List (Beside T)) (h : HoldsFor b z s)
+      (n : HoldsWith z h.base.ring.history (plain_state (words_of z) (record { words = words; homes = s.homes; views = views })))
+      → ((i : ℕ) → flag_at (words_of z) s.words i ≡ flag_at (words_of z) words i) → ((j : ℕ) → hand_at s.views j ≡ hand_at views j)
+      → ((ds : List (Deed T)) → AllBegun ds s.views → AllBegun ds views) → length words ≡ length s.words
       → HoldsFor b z record { words = words; homes = s.homes; views = views }
   revalued b z s words views h n flags hands known same =
       record {
@@ -72,7 +78,8 @@ module _ {T : Type 0} where
 
 module _ {T : Type 0} (b : Bool) (z : Layout) where
   -- a view is cut in two
-  pub lift_splits : (id : ℕ) (w l r : Beside T) → ((es : List Entry) → Splits {S = ℕ} (HoldsWith z es) id w.plain l.plain r.plain) → l.hand ≡ w.hand → r.hand ≡ none → ((ds : List (Deed T)) → Begins ds w → Begins ds l × Begins ds r) → Splits {S = Option T} (HoldsFor b z) id w l r
+  pub lift_splits : (id : ℕ) (w l r : Beside T) → ((es : List Entry) → Splits {S = ℕ} (HoldsWith z es) id w.plain l.plain r.plain) → l.hand ≡ w.hand
+      → r.hand ≡ none → ((ds : List (Deed T)) → Begins ds w → Begins ds l × Begins ds r) → Splits {S = Option T} (HoldsFor b z) id w l r
   lift_splits id w l r splits left right knows s h mine =
       let m : ℕ = words_of z in
       let es : List Entry = h.base.ring.history in
@@ -84,18 +91,23 @@ module _ {T : Type 0} (b : Bool) (z : Layout) where
       (λ i. refl)
       (λ j. hand_set s.views id w l mine left j ∙ hand_end (set s.views id l) r right j)
       (λ ds all j o got. let two = knows ds (all id w mine) in ⊎_elim
-      (λ (t : get_elem? (set s.views id l) j ≡ some o). ⊎_elim (λ (q : (j ≡ id) × (l ≡ o)). subst (Begins ds) q.1 two.0) (λ (q : (j ≢ id) × (get_elem? s.views j ≡ some o)). all j o q.1) (at_set s.views id j l o t))
+      (λ (t : get_elem? (set s.views id l) j ≡ some o). ⊎_elim (λ (q : (j ≡ id) × (l ≡ o)). subst (Begins ds) q.1 two.0)
+      (λ (q : (j ≢ id) × (get_elem? s.views j ≡ some o)). all j o q.1) (at_set s.views id j l o t))
       (λ (t : (j ≡ length (set s.views id l)) × (r ≡ o)). subst (Begins ds) t.1 two.1)
       (at_end (set s.views id l) r o j got))
       refl
 
   -- two views become one
-  pub lift_joins : (id other : ℕ) (v w both gone : Beside T) → ((es : List Entry) → Joins {S = ℕ} (HoldsWith z es) id v.plain other w.plain both.plain gone.plain) → both.hand ≡ v.hand → gone.hand ≡ w.hand → ((ds : List (Deed T)) → Begins ds v → Begins ds w → Begins ds both × Begins ds gone)
+  pub lift_joins : (id other : ℕ) (v w both gone : Beside T) → ((es : List Entry)
+      → Joins {S = ℕ} (HoldsWith z es) id v.plain other w.plain both.plain gone.plain) → both.hand ≡ v.hand → gone.hand ≡ w.hand
+      → ((ds : List (Deed T)) → Begins ds v → Begins ds w → Begins ds both × Begins ds gone)
       → Joins {S = Option T} (HoldsFor b z) id v other w both gone
   lift_joins id other v w both gone joins left right knows s h mine ne his =
       let m : ℕ = words_of z in
       let es : List Entry = h.base.ring.history in
-      let n = joins es (plain_state m s) (h.base, refl) (at_map plain_of s.views id v mine) ne (subst (λ (vs : List View). get_elem? vs other ≡ some w.plain) (map_set plain_of s.views id both) (at_map plain_of (set s.views id both) other w his)) in
+      let n = joins es (plain_state m s) (h.base, refl) (at_map plain_of s.views id v mine) ne
+      (subst (λ (vs : List View). get_elem? vs other ≡ some w.plain) (map_set plain_of s.views id both)
+      (at_map plain_of (set s.views id both) other w his)) in
       let views : List (Beside T) = set (set s.views id both) other gone in
       revalued b z s s.words views h
       (moved z es (take m s.words) (take m s.words) (set (set (map plain_of s.views) id both.plain) other gone.plain) (map plain_of views) refl
@@ -104,12 +116,14 @@ module _ {T : Type 0} (b : Bool) (z : Layout) where
       (λ j. hand_set s.views id v both mine left j ∙ hand_set (set s.views id both) other w gone his right j)
       (λ ds all j o got. let two = knows ds (all id v mine) (all other w (sym (set_else s.views id other both ne) ∙ his)) in ⊎_elim
       (λ (q : (j ≡ other) × (gone ≡ o)). subst (Begins ds) q.1 two.1)
-      (λ (t : (j ≢ other) × (get_elem? (set s.views id both) j ≡ some o)). ⊎_elim (λ (q : (j ≡ id) × (both ≡ o)). subst (Begins ds) q.1 two.0) (λ (q : (j ≢ id) × (get_elem? s.views j ≡ some o)). all j o q.1) (at_set s.views id j both o t.1))
+      (λ (t : (j ≢ other) × (get_elem? (set s.views id both) j ≡ some o)). ⊎_elim (λ (q : (j ≡ id) × (both ≡ o)). subst (Begins ds) q.1 two.0)
+      (λ (q : (j ≢ id) × (get_elem? s.views j ≡ some o)). all j o q.1) (at_set s.views id j both o t.1))
       (at_set (set s.views id both) other j gone o got))
       refl
 
   -- a new seat, by a load of a word of the queue
-  pub lift_enters : (slots p : ℕ) → p < words_of z → ((es : List Entry) → Enters {S = ℕ} (HoldsWith z es) 0 p (λ n w. w ≡ gathered [])) → Enters {S = Option T} (HoldsFor b z) slots p (λ n w. w.plain ≡ gathered [])
+  pub lift_enters : (slots p : ℕ) → p < words_of z → ((es : List Entry) → Enters {S = ℕ} (HoldsWith z es) 0 p (λ n w. w ≡ gathered []))
+      → Enters {S = Option T} (HoldsFor b z) slots p (λ n w. w.plain ≡ gathered [])
   lift_enters slots p within enters s h count small =
       let m : ℕ = words_of z in
       let es : List Entry = h.base.ring.history in
@@ -127,13 +141,15 @@ module _ {T : Type 0} (b : Bool) (z : Layout) where
         revalued b z s s.words views h
             (moved z es (take m s.words) (take m s.words) (map plain_of s.views ++ q.0 ∷ []) (map plain_of views) refl (map-append plain_of s.views (alone q.0 ∷ [])) q.1)
             (λ i. refl) (hand_end s.views (alone q.0) refl)
-            (λ ds all j o got. ⊎_elim (λ (t : get_elem? s.views j ≡ some o). all j o t) (λ (t : (j ≡ length s.views) × (alone q.0 ≡ o)). subst (Begins ds) t.1 (new ds)) (at_end s.views (alone q.0) o j got))
+            (λ ds all j o got. ⊎_elim (λ (t : get_elem? s.views j ≡ some o). all j o t)
+            (λ (t : (j ≡ length s.views) × (alone q.0 ≡ o)). subst (Begins ds) t.1 (new ds)) (at_end s.views (alone q.0) o j got))
             refl,
         q.2,
       )
 
   -- the end of a table, as one of the words of the queue
-  pub lift_final : (id : ℕ) (w : Beside T) (words : List ℕ) (slots : List (Option T)) → Final {S = Option T} (Seen (HoldsFor b z) id w) words slots → Final {S = ℕ} (Seen (Holds z) id w.plain) (take (words_of z) words) []
+  pub lift_final : (id : ℕ) (w : Beside T) (words : List ℕ) (slots : List (Option T)) → Final {S = Option T} (Seen (HoldsFor b z) id w) words slots
+      → Final {S = ℕ} (Seen (Holds z) id w.plain) (take (words_of z) words) []
   lift_final id w words slots f = (plain_state (words_of z) f.0, (f.1.0.base, at_map plain_of f.0.views id w f.1.1), ap (take (words_of z)) f.2, refl, λ k y e. absurd (some-ne-none (some y) (sym e)))
 
 -- a load of the first word by two seats that are one: both have seen the whole history, and that of the values
@@ -161,14 +177,16 @@ module _ {T : Type 0} (key : Layout) (slots id : ℕ) (v u : SeatView) (ds : Lis
           let q = meets_now key (plain_state m s) base id v u (at_map plain_of s.views id pair mine) in
           let es : List Entry = base.ring.history in
           let w' : Beside T = record { plain = paired (learned es v) (learned es u); deeds = ds; hand = hd; others = [] } in
-          let n = moved key es (take m s.words) (take m words) (set (map plain_of s.views) id w'.plain) (map plain_of (set s.views id w')) (ap (take m) same_words) (map_set plain_of s.views id w') q.0 in
+          let n = moved key es (take m s.words) (take m words) (set (map plain_of s.views) id w'.plain) (map plain_of (set s.views id w'))
+          (ap (take m) same_words) (map_set plain_of s.views id w') q.0 in
           (w', keeps, tt, record { base = n.0; values = tt }, (q.1, refl, refl, ∣ tt ∣₁, ∣ tt ∣₁, refl))
       go true base c =
           let q = meets_now key (plain_state m s) base id v u (at_map plain_of s.views id pair mine) in
           let es : List Entry = base.ring.history in
           let all : List (Deed T) = c.rides.deeds in
           let w' : Beside T = record { plain = paired (learned es v) (learned es u); deeds = all; hand = hd; others = [] } in
-          let n = moved key es (take m s.words) (take m words) (set (map plain_of s.views) id w'.plain) (map plain_of (set s.views id w')) (ap (take m) same_words) (map_set plain_of s.views id w') q.0 in
+          let n = moved key es (take m s.words) (take m words) (set (map plain_of s.views) id w'.plain) (map plain_of (set s.views id w'))
+          (ap (take m) same_words) (map_set plain_of s.views id w') q.0 in
           let new : Begins all w' = record {
             rest = [];
             begins = sym (append-nil all);
@@ -191,25 +209,30 @@ module _ {T : Type 0} (key : Layout) (slots id : ℕ) (v u : SeatView) (ds : Lis
               q.1,
               refl,
               refl,
-              ∣ knows_first key es (first_beside_of w') all [] (sym (append-nil all)) c.rides.matches (map item_of c.rides.q) c.rides.shut c.rides.runs (λ i k. (c.rides.slotted.out id i (ap hand_in mine ∙ k)).0) ∣₁,
+              ∣ knows_first key es (first_beside_of w') all [] (sym (append-nil all)) c.rides.matches (map item_of c.rides.q) c.rides.shut
+                  c.rides.runs (λ i k. (c.rides.slotted.out id i (ap hand_in mine ∙ k)).0) ∣₁,
               ∣ knows_first key es (second_beside_of w') all [] (sym (append-nil all)) c.rides.matches (map item_of c.rides.q) c.rides.shut c.rides.runs (λ i k. absurd (some-ne-none i (sym k))) ∣₁,
               ((fit.rest, fit.begins), fit.others),
             ),
           )
 
 -- what a line asks of a table, whether it carries values or not
-module _ {T : Type 0} (z : Layout) (slots id p : ℕ) (v : SeatView) (ds : List (Deed T)) (hd : maybe.Option ℕ) (os : List (List (Deed T))) (held : List (ℕ × Option T)) (f : ℕ → ℕ) (all : List Entry) (fact : SeatView → ℕ → SeatView → Type 0) (line : Does z p v f all fact) (within : p < words_of z) where
+module _ {T : Type 0} (z : Layout) (slots id p : ℕ) (v : SeatView) (ds : List (Deed T)) (hd : maybe.Option ℕ) (os : List (List (Deed T)))
+    (held : List (ℕ × Option T)) (f : ℕ → ℕ) (all : List Entry) (fact : SeatView → ℕ → SeatView → Type 0) (line : Does z p v f all fact)
+    (within : p < words_of z) where
   abbrev before : Me (Option T) (Beside T)
   before = (record { plain = seated v; deeds = ds; hand = hd; others = os }, held)
 
-  pub allows_beside : (b : Bool) → (b ≡ true → slots ≡ z.slots) → IsReadyBy b z.slots v.number all before → Allows {S = Option T} (HoldsFor b z) slots id before p f (λ n o. TellsBeside b z all fact before n o)
+  pub allows_beside : (b : Bool) → (b ≡ true → slots ≡ z.slots) → IsReadyBy b z.slots v.number all before
+      → Allows {S = Option T} (HoldsFor b z) slots id before p f (λ n o. TellsBeside b z all fact before n o)
   allows_beside b sized ready s h count mine small = go b sized ready h.base h.values
     where
       m : ℕ
       m = words_of z
 
       Out : (b : Bool) → Type 0
-      Out b = (w' : Beside T) × (a : Act (Option T)) × Valid s.homes held a × HoldsFor b z (stepped s p (f (get_or s.words p 0)) id held w' a) × TellsBeside b z all fact before (get_or s.words p 0) (w', carried_after held a)
+      Out b = (w' : Beside T) × (a : Act (Option T)) × Valid s.homes held a × HoldsFor b z (stepped s p (f (get_or s.words p 0)) id held w' a)
+          × TellsBeside b z all fact before (get_or s.words p 0) (w', carried_after held a)
 
       go : (b : Bool) → (b ≡ true → slots ≡ z.slots) → IsReadyBy b z.slots v.number all before → (base : Holds z (plain_state m s)) → CarriedBy b z base.ring.history s → Out b
       go true sized ready base c =

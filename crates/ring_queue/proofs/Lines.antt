@@ -1,5 +1,6 @@
 -- Each line, on the ring's words.
-use Rattle.std.proofs.Common.{⊎_elim, zero, suc, inr, inl, ◌≡◌, ◌≢◌, ℕ, ◌+◌, ◌-◌, ◌/◌, ◌%◌, ◌^◌, ◌<◌, ◌≤◌, Bool, true, false, List, [], ◌∷◌, ◌++◌, length, get_or, Option, Some, None, slice_get, mod-lt, sym, refl, ap, ◌∙◌, subst, arith}
+use Rattle.std.proofs.Common.{⊎_elim, zero, suc, inr, inl, ◌≡◌, ◌≢◌, ℕ, ◌+◌, ◌-◌, ◌/◌, ◌%◌, ◌^◌, ◌<◌, ◌≤◌, Bool, true, false, List, [], ◌∷◌, ◌++◌}
+use Rattle.std.proofs.Common.{length, get_or, Option, Some, None, slice_get, mod-lt, sym, refl, ap, ◌∙◌, subst, arith}
 use Rattle.std.specs.List.{All, count_by}
 use mathlib.Core.Logic.{dite}
 use native.Mathlib.Decide.{dec_le}
@@ -89,7 +90,8 @@ module _ (z : Layout) (words : List ℕ) (seats : ℕ → SeatView) (r : Ring z 
       go true e =
           let is_n : n ≡ r.tail + 2 ^ 62 = r.tail_is ∙ ap (tail_word r.tail) e in
           let v' : SeatView = after rests v.head v.credits one_note in
-          let made : Became z words (put seats v.number v') r.history = seen_ring rests v.head one_note (notes_and_shut (shut_leads e)) fit.behind tt in let ring : Ring z words (put seats v.number v') = made.0 in (
+          let made : Became z words (put seats v.number v') r.history = seen_ring rests v.head one_note (notes_and_shut (shut_leads e)) fit.behind tt
+          in let ring : Ring z words (put seats v.number v') = made.0 in (
             v',
             refl,
             ring,
@@ -111,7 +113,8 @@ module _ (z : Layout) (words : List ℕ) (seats : ℕ → SeatView) (r : Ring z 
           (λ within. dite (dec_le (v.head + z.most) n)
           (λ full.
           let v' : SeatView = after (saw n) v.head v.credits v.notes in
-          let made : Became z words (put seats v.number v') r.history = seen_ring (saw n) v.head v.notes notes_stay' fit.behind (let c = r.counted in let o = r.unshut e in omega (arith, c, o, is_n)) in let ring : Ring z words (put seats v.number v') = made.0 in (
+          let made : Became z words (put seats v.number v') r.history = seen_ring (saw n) v.head v.notes notes_stay' fit.behind
+          (let c = r.counted in let o = r.unshut e in omega (arith, c, o, is_n)) in let ring : Ring z words (put seats v.number v') = made.0 in (
             v',
             refl,
             ring,
@@ -234,7 +237,8 @@ module _ (z : Layout) (words : List ℕ) (seats : ℕ → SeatView) (r : Ring z 
       let knows : IsFilled z.slots r.tail r.log r.cells r.head w = at_head w (subst (Stands z.slots r.head r.tail live r.log r.cells v) at fit.stage here) in
       let ends : Leads r.history true [] = (front_tells w knows).0 mark in
       let v' : SeatView = after rests r.head v.credits one_note in
-      let made : Became z words (put seats v.number v') r.history = seen_ring rests r.head one_note (notes_and_shut ([], ends)) (omega arith) tt in let ring : Ring z words (put seats v.number v') = made.0 in (
+      let made : Became z words (put seats v.number v') r.history = seen_ring rests r.head one_note (notes_and_shut ([], ends))
+      (omega arith) tt in let ring : Ring z words (put seats v.number v') = made.0 in (
         v',
         refl,
         ring,
@@ -281,10 +285,12 @@ module _ (z : Layout) (words : List ℕ) (seats : ℕ → SeatView) (r : Ring z 
       pos : 0 < z.slots
       pos = some_slot z words seats r
 
-      go : (p : ℕ) (f : Option ℕ) → r.cells (q % z.slots) ≡ cell p f → p % z.slots ≡ q % z.slots → p < r.tail → r.tail ≤ p + z.slots → Lies z.slots r.head r.log (front_word q) p f → IsFilled z.slots r.tail r.log r.cells q (front_word q)
+      go : (p : ℕ) (f : Option ℕ) → r.cells (q % z.slots) ≡ cell p f → p % z.slots ≡ q % z.slots → p < r.tail → r.tail ≤ p + z.slots
+          → Lies z.slots r.head r.log (front_word q) p f → IsFilled z.slots r.tail r.log r.cells q (front_word q)
       go p None is slot lt last lies = dite (dec_le r.tail q)
           (λ none.
-          let back : q ≡ p + z.slots = same_place z.slots q (p + z.slots) pos (sym (add-mod_right p z.slots ∙ slot)) (omega (arith, high, last, head_below z words seats r)) (omega (arith, lt, none)) in
+          let back : q ≡ p + z.slots = same_place z.slots q (p + z.slots) pos (sym (add-mod_right p z.slots ∙ slot))
+          (omega (arith, high, last, head_below z words seats r)) (omega (arith, lt, none)) in
           absurd (parity_turns z.slots q pos (omega (arith, back))
           (ap (parity z.slots) (let e : q - z.slots ≡ p = omega (arith, back) in e) ∙ (sym (face_parity z.slots p (r.log p) (r.fits p)) ∙ (ap (λ x. x / 2 ^ 63) (sym lies) ∙ same)))))
           (λ some.
@@ -314,7 +320,8 @@ module _ (z : Layout) (words : List ℕ) (seats : ℕ → SeatView) (r : Ring z 
       (λ same.
       let w : ℕ = front_word v.head in
       let v' : SeatView = after (found (w ∷ [])) v.head v.credits v.notes in
-      let made : Became z words (put seats v.number v') r.history = seen_ring (found (w ∷ [])) v.head v.notes notes_stay' fit.behind (λ here. one_found here same) in let ring : Ring z words (put seats v.number v') = made.0 in (
+      let made : Became z words (put seats v.number v') r.history = seen_ring (found (w ∷ [])) v.head v.notes notes_stay' fit.behind
+      (λ here. one_found here same) in let ring : Ring z words (put seats v.number v') = made.0 in (
         v',
         refl,
         ring,
@@ -388,7 +395,8 @@ module _ (z : Layout) (words : List ℕ) (seats : ℕ → SeatView) (r : Ring z 
           (λ same.
           let ends : Leads r.history true [] = subst (λ (vs : List Taken). Leads r.history true vs) (none_left (omega (arith, is_n, same))) (subst (λ b. Leads r.history b r.values) f r.leads) in
           let v' : SeatView = after rests v.head v.credits one_note in
-          let made : Became z words (put seats v.number v') r.history = seen_ring rests v.head one_note (notes_and_shut ([], ends)) fit.behind tt in let ring : Ring z words (put seats v.number v') = made.0 in (
+          let made : Became z words (put seats v.number v') r.history = seen_ring rests v.head one_note (notes_and_shut ([], ends)) fit.behind tt in
+          let ring : Ring z words (put seats v.number v') = made.0 in (
             v',
             refl,
             ring,
@@ -411,7 +419,8 @@ module _ (z : Layout) (words : List ℕ) (seats : ℕ → SeatView) (r : Ring z 
           (λ same.
           let ends : LeadsTo r.history [] = subst (λ (vs : List Taken). Leads r.history false vs) (none_left (omega (arith, is_n, same))) (subst (λ b. Leads r.history b r.values) f r.leads) in
           let v' : SeatView = after rests v.head v.credits one_note in
-          let made : Became z words (put seats v.number v') r.history = seen_ring rests v.head one_note (notes_and_empty ends) fit.behind tt in let ring : Ring z words (put seats v.number v') = made.0 in (
+          let made : Became z words (put seats v.number v') r.history = seen_ring rests v.head one_note (notes_and_empty ends) fit.behind tt in let
+          ring : Ring z words (put seats v.number v') = made.0 in (
             v',
             refl,
             ring,
@@ -496,10 +505,13 @@ module _ (z : Layout) (words : List ℕ) (seats : ℕ → SeatView) (r : Ring z 
       )))
       (λ apart. stays (λ e _. absurd (apart e)))
     where
-      stays : (front_word (v.head + length ws) / 2 ^ 63 ≡ parity z.slots (v.head + length ws) → 0 < front_word (v.head + length ws) % 2 ^ 63 → found ws ≡ found (ws ++ front_word (v.head + length ws) ∷ [])) → Line (NextFound z ws) (front_word (v.head + length ws))
+      stays : (front_word (v.head + length ws) / 2 ^ 63 ≡ parity z.slots (v.head + length ws) → 0 < front_word (v.head + length ws) % 2 ^ 63
+          → found ws ≡ found (ws ++ front_word (v.head + length ws) ∷ [])) → Line (NextFound z ws) (front_word (v.head + length ws))
       stays valued =
           let v' : SeatView = after (found ws) v.head v.credits v.notes in
-          let made : Became z words (put seats v.number v') r.history = seen_ring (found ws) v.head v.notes notes_stay' fit.behind (subst (Stands z.slots r.head r.tail live r.log r.cells v) at fit.stage) in let ring : Ring z words (put seats v.number v') = made.0 in (
+          let made : Became z words (put seats v.number v') r.history = seen_ring (found ws) v.head v.notes notes_stay' fit.behind
+          (subst (Stands z.slots r.head r.tail live r.log r.cells v) at fit.stage) in let ring : Ring z words (put seats v.number v') =
+          made.0 in (
             v',
             refl,
             ring,

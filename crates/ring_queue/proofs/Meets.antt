@@ -88,14 +88,17 @@ parts z es id v w s whole at_id =
     let q = views_now z s h (set s.views id (seated v) ++ seated w ∷ []) own
     (λ j i u o a b. ⊎_elim
     (λ (t : get_elem? (set s.views id (seated v)) j ≡ some u). ⊎_elim
-    (λ (q : (j ≡ id) × (seated v ≡ u)). let y = one_of v o i (ap (λ (y : View). get_elem? (members y) i) q.1 ∙ b) in subst (λ (x : ℕ × ℕ × SeatView). P x.0 x.1 x.2) (λ c. (sym q.0 c, sym y.0 c, y.1 c)) first)
+    (λ (q : (j ≡ id) × (seated v ≡ u)). let y = one_of v o i (ap (λ (y : View). get_elem? (members y) i) q.1 ∙ b) in subst
+    (λ (x : ℕ × ℕ × SeatView). P x.0 x.1 x.2) (λ c. (sym q.0 c, sym y.0 c, y.1 c)) first)
     (λ (q : (j ≢ id) × (get_elem? s.views j ≡ some u)). let k = h.owned j i u o q.1 b in
     (h.fits j i u o q.1 b, put_else h.owner w.number o.number (l, 0) (λ e. q.0 (ap (λ (y : ℕ × ℕ). y.0) (sym k.0 ∙ (ap h.owner e ∙ ow.0)))) ∙ k.0, k.1))
     (at_set s.views id j (seated v) u t))
-    (λ (t : (j ≡ l) × (seated w ≡ u)). let y = one_of w o i (ap (λ (y : View). get_elem? (members y) i) t.1 ∙ b) in subst (λ (x : ℕ × ℕ × SeatView). P x.0 x.1 x.2) (λ c. (sym t.0 c, sym y.0 c, y.1 c)) second)
+    (λ (t : (j ≡ l) × (seated w ≡ u)). let y = one_of w o i (ap (λ (y : View). get_elem? (members y) i) t.1 ∙ b) in subst
+    (λ (x : ℕ × ℕ × SeatView). P x.0 x.1 x.2) (λ c. (sym t.0 c, sym y.0 c, y.1 c)) second)
     (at_end (set s.views id (seated v)) (seated w) u j a))
     (λ j m n a. ⊎_elim
-    (λ (t : get_elem? (set s.views id (seated v)) j ≡ some (keeper m n)). ⊎_elim (λ (q : (j ≡ id) × (seated v ≡ keeper m n)). let e = q.1 in cc) (λ (q : (j ≢ id) × (get_elem? s.views j ≡ some (keeper m n))). h.kept j m n q.1)
+    (λ (t : get_elem? (set s.views id (seated v)) j ≡ some (keeper m n)). ⊎_elim (λ (q : (j ≡ id) × (seated v ≡ keeper m n)). let e = q.1 in cc)
+    (λ (q : (j ≢ id) × (get_elem? s.views j ≡ some (keeper m n))). h.kept j m n q.1)
     (at_set s.views id j (seated v) (keeper m n) t))
     (λ (t : (j ≡ l) × (seated w ≡ keeper m n)). let e = t.1 in cc)
     (at_end (set s.views id (seated v)) (seated w) (keeper m n) j a)) in
@@ -149,7 +152,8 @@ module _ (z : Layout) (words : List ℕ) (seats : ℕ → SeatView) (r : Ring z 
       (omega (arith, a, totals)) (omega (arith, b, totals)) (omega (arith, s, totals))
       (λ k p x e. put_each (put seats v.number (learned r.history v)) w.number k (learned r.history w) (λ q (u : SeatView). HasClaimed (seats q).stage p x → HasClaimed u.stage p x)
       (subst (λ (u : SeatView). HasClaimed u.stage p x) is_w)
-      (λ _. put_each seats v.number k (learned r.history v) (λ q (u : SeatView). HasClaimed (seats q).stage p x → HasClaimed u.stage p x) (subst (λ (u : SeatView). HasClaimed u.stage p x) is_v) (λ _ h. h)) e)
+      (λ _. put_each seats v.number k (learned r.history v) (λ q (u : SeatView). HasClaimed (seats q).stage p x → HasClaimed u.stage p x)
+      (subst (λ (u : SeatView). HasClaimed u.stage p x) is_v) (λ _ h. h)) e)
 
   first_is : both v.number ≡ learned r.history v
   first_is = put_else (put seats v.number (learned r.history v)) w.number v.number (learned r.history w) (λ e. differ (sym e)) ∙ put_here seats v.number v.number (learned r.history v) refl
@@ -166,13 +170,27 @@ module _ (z : Layout) (words : List ℕ) (seats : ℕ → SeatView) (r : Ring z 
     seats = refl;
     first = sees_all v is_v;
     second = sees_all w is_w;
-    first_learns = record { number = refl; below = subst (λ (u : SeatView). u.head < 2 ^ 62) first_is (head_below z words both both_look v.number); sound = it_is_sound z words both both_look (learned r.history v) first_is };
-    second_learns = record { number = refl; below = subst (λ (u : SeatView). u.head < 2 ^ 62) second_is (head_below z words both both_look w.number); sound = it_is_sound z words both both_look (learned r.history w) second_is };
+    first_learns = record {
+      number = refl;
+      below = subst (λ (u : SeatView). u.head < 2 ^ 62) first_is (head_below z words both both_look v.number);
+      sound = it_is_sound z words both both_look (learned r.history v) first_is;
+    };
+    second_learns = record {
+      number = refl;
+      below = subst (λ (u : SeatView). u.head < 2 ^ 62) second_is (head_below z words both both_look w.number);
+      sound = it_is_sound z words both both_look (learned r.history w) second_is;
+    };
   }
 
 -- two seats that are one have seen the whole history
 pub meets_now : (z : Layout) (s : State ℕ View) (h : Holds z s) (id : ℕ) (v w : SeatView) → get_elem? s.views id ≡ some (paired v w)
-    → HoldsWith z h.ring.history record { words = s.words; homes = s.homes; views = set s.views id (paired (learned h.ring.history v) (learned h.ring.history w)) } × Met z v w (paired (learned h.ring.history v) (learned h.ring.history w), [])
+    → HoldsWith z h.ring.history record {
+      words = s.words;
+      homes = s.homes;
+      views =
+          set s.views id (paired (learned h.ring.history v) (learned h.ring.history w));
+    }
+    × Met z v w (paired (learned h.ring.history v) (learned h.ring.history w), [])
 meets_now z s h id v w at_id =
     let r = h.ring in
     let is_v : h.seats v.number ≡ v = h.fits id 0 (paired v w) v at_id refl in
@@ -206,7 +224,8 @@ meets_now z s h id v w at_id =
           owner = h.owner;
           fits = λ j i x o a b. (all j i x o a b).0;
           owned = λ j i x o a b. let q = all j i x o a b in (q.1, q.2);
-          kept = λ j m n a. ⊎_elim (λ (q : (j ≡ id) × (paired v' w' ≡ keeper m n)). let e = q.1 in cc) (λ (q : (j ≢ id) × (get_elem? s.views j ≡ some (keeper m n))). h.kept j m n q.1) (at_set s.views id j (paired v' w') (keeper m n) a);
+          kept = λ j m n a. ⊎_elim (λ (q : (j ≡ id) × (paired v' w' ≡ keeper m n)). let e = q.1 in cc)
+              (λ (q : (j ≢ id) × (get_elem? s.views j ≡ some (keeper m n))). h.kept j m n q.1) (at_set s.views id j (paired v' w') (keeper m n) a);
           undealt = λ n over. let lv = ov.1 in let lw = ow.1 in
               put_else (put h.seats v.number v') w.number n w' (λ e. omega (arith, e, over, lw)) ∙ (put_else h.seats v.number n v' (λ e. omega (arith, e, over, lv)) ∙ h.undealt n over);
         },

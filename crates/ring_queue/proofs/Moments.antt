@@ -1,5 +1,6 @@
 -- What a ring is at any moment.
-use Rattle.std.proofs.Common.{◌≡◌, ◌≢◌, ◌⊎◌, inl, inr, ℕ, ◌+◌, ◌/◌, ◌%◌, ◌^◌, ◌<◌, ◌≤◌, Bool, true, false, if◌then◌else◌, nat_eq, List, [], ◌∷◌, length, get_or, Option, Some, None, slice_get, mod-lt, sym, refl, ap, ◌∙◌, subst, arith}
+use Rattle.std.proofs.Common.{◌≡◌, ◌≢◌, ◌⊎◌, inl, inr, ℕ, ◌+◌, ◌/◌, ◌%◌, ◌^◌, ◌<◌, ◌≤◌, Bool, true, false, if◌then◌else◌, nat_eq, List, [], ◌∷◌}
+use Rattle.std.proofs.Common.{length, get_or, Option, Some, None, slice_get, mod-lt, sym, refl, ap, ◌∙◌, subst, arith}
 use Rattle.std.proofs.lemmas.Bool.{ne_eqb, true≢false}
 use Rattle.std.proofs.lemmas.Option.{same_Some, slice_get_cases}
 use Rattle.history.specs.declared.operations.Taken.{Taken}
@@ -82,7 +83,8 @@ module _ (z : Layout) (words : List ℕ) (seats : ℕ → SeatView) (r : Ring z 
   content_is : (i : ℕ) → i < length r.values + r.voids → r.log (r.head + i) ≡ slice_get r.values i
   content_is i lt = go ((slice_get_cases r.values i).1)
     where
-      go : ((x : Taken) × (i < length r.values) × (slice_get r.values i ≡ Some x) × (get_or r.values i x ≡ x)) ⊎ ((length r.values ≤ i) × (slice_get r.values i ≡ None)) → r.log (r.head + i) ≡ slice_get r.values i
+      go : ((x : Taken) × (i < length r.values) × (slice_get r.values i ≡ Some x) × (get_or r.values i x ≡ x))
+          ⊎ ((length r.values ≤ i) × (slice_get r.values i ≡ None)) → r.log (r.head + i) ≡ slice_get r.values i
       go (inl one) = r.logged i one.0 one.2 ∙ sym one.2
       go (inr none) = r.marked (r.head + i) (let le = none.0 in omega (arith, le)) (let c = r.counted in omega (arith, c, lt)) ∙ sym none.1
 
@@ -99,7 +101,8 @@ module _ (z : Layout) (words : List ℕ) (seats : ℕ → SeatView) (r : Ring z 
       let here : (r.cells (p % z.slots)).place ≡ p = same_place z.slots (r.cells (p % z.slots)).place p pos ok.slot (omega (arith, claimed_at, room)) (omega (arith, last, counted, lt)) in
       subst (HasContent z words seats p) (content_is i lt) (go (r.cells (p % z.slots)).place (r.cells (p % z.slots)).filler p here ok.lies (r.filling (p % z.slots) near))
     where
-      go : (q : ℕ) (f : Option ℕ) (p : ℕ) → q ≡ p → Lies z.slots r.head r.log (get_or words (slot_word (p % z.slots)) 0) q f → FillerStands (length z.roles) r.log seats q f → HasContent z words seats p (r.log p)
+      go : (q : ℕ) (f : Option ℕ) (p : ℕ) → q ≡ p → Lies z.slots r.head r.log (get_or words (slot_word (p % z.slots)) 0) q f
+          → FillerStands (length z.roles) r.log seats q f → HasContent z words seats p (r.log p)
       go q None p e lies fills = inl (subst (λ y. get_or words (slot_word (p % z.slots)) 0 ≡ face z.slots y (r.log y)) e lies)
       go q (Some n) p e lies fills = inr (n, subst (λ y. HasClaimed (seats n).stage y (r.log y)) e fills.2)
 

@@ -1,6 +1,7 @@
 -- Which slots a step moved, and what it added to the history of values, by what it added to the seat's own entries; and the same of
 -- steps in a row.
-use Rattle.std.proofs.Common.{◌≡◌, ℕ, ◌<◌, Bool, true, false, List, [], ◌∷◌, ◌++◌, suc, length, Option, Some, None, Result, Ok, Err, OnOk, IfErr, sym, refl, ap, ◌∙◌, subst, arith, append-nil, append_assoc, length-append}
+use Rattle.std.proofs.Common.{◌≡◌, ℕ, ◌<◌, Bool, true, false, List, [], ◌∷◌, ◌++◌, suc, length, Option, Some, None, Result, Ok, Err, OnOk, IfErr, sym}
+use Rattle.std.proofs.Common.{refl, ap, ◌∙◌, subst, arith, append-nil, append_assoc, length-append}
 use Rattle.std.proofs.Math.Logic.{∥∥₁_elim}
 use Rattle.std.proofs.Math.Nat.{ℕ_set}
 use Rattle.std.proofs.lemmas.List.{append_cancel_left}
@@ -26,7 +27,8 @@ use Rattle.ring_queue.specs.Seats.{Sits, HasNoSlot, KeepsSlots, deeds_of, view}
 use Rattle.ring_queue.specs.Hands.{AddsOwn, GivesSlot, HasSlot, IsLoaded, PopMoves, TakesSlot, TurnMoves}
 
 -- the slot of what is pushed is ready
-pub ready_push : {T : Type 0} (b : Bool) (slots n body : ℕ) (me : Me (Option T) (Beside T)) → (b ≡ true → (x : T) × (me.1 ≡ (body, Some x) ∷ []) × (me.0.hand ≡ some body) × (body < slots)) → IsReadyBy b slots n (pushes n (body ∷ [])) me
+pub ready_push : {T : Type 0} (b : Bool) (slots n body : ℕ) (me : Me (Option T) (Beside T))
+    → (b ≡ true → (x : T) × (me.1 ≡ (body, Some x) ∷ []) × (me.0.hand ≡ some body) × (body < slots)) → IsReadyBy b slots n (pushes n (body ∷ [])) me
 ready_push true slots n body me l = let q = l refl in (refl, (q.0, q.1, q.2, q.3))
 ready_push false slots n body me l = tt
 
@@ -134,14 +136,16 @@ module _ {T : Type 0} (z : Layout) where
   still_loaded body s t k loaded carried = let l = loaded carried in (l.0, k.held ∙ l.1, k.hand ∙ l.2, l.3)
 
   -- a push behind steps that move none
-  pub gives_after : (body : ℕ) (s t u : Seat T) (out : Result (Unit {0}) Refusal) → (view t).number ≡ (view s).number → KeepsSlots s t → OnOk out (GivesSlot z body t u) → OnOk out (GivesSlot z body s u)
+  pub gives_after : (body : ℕ) (s t u : Seat T) (out : Result (Unit {0}) Refusal) → (view t).number ≡ (view s).number → KeepsSlots s t
+      → OnOk out (GivesSlot z body t u) → OnOk out (GivesSlot z body s u)
   gives_after body s t u (Ok x) number k gives = then_gives body s t u number k gives
   gives_after body s t u (Err e) number k gives = tt
 
   module _ (id : TableId) where
     -- a seat of a ring that carries values has seen as many deeds as entries
     length-deeds : (s : Seat T) → Sits z id s → z.carries ≡ true → length (deeds_of s) ≡ length (view s).seen
-    length-deeds s is carried = ∥∥₁_elim is.valued (ℕ_set (length (deeds_of s)) (length (view s).seen)) (λ k. length-matches (view s).seen (deeds_of s) (subst (λ (b : Bool). KnowsBy b z (view s).seen s.token.me.0) carried k).matches)
+    length-deeds s is carried = ∥∥₁_elim is.valued (ℕ_set (length (deeds_of s)) (length (view s).seen))
+        (λ k. length-matches (view s).seen (deeds_of s) (subst (λ (b : Bool). KnowsBy b z (view s).seen s.token.me.0) carried k).matches)
 
     -- where nothing more is seen of the queue, nothing more is seen of its values
     same_deeds : (s t : Seat T) → Sits z id s → Sits z id t → z.carries ≡ true → KeepsSlots s t → (view t).seen ≡ (view s).seen → deeds_of t ≡ deeds_of s

@@ -1,5 +1,6 @@
 -- One of many changed, and what the seats have in reserve together.
-use Rattle.std.proofs.Common.{◌⊎◌, ⊎_elim, inl, inr, List, [], ◌∷◌, ◌++◌, length, set, Some, slice_get, ◌∙◌, ◌≡◌, ◌≢◌, ℕ, zero, suc, ◌+◌, ◌*◌, ◌<◌, ◌≤◌, if◌then◌else◌, sym, refl, ap, subst, arith, ne_eqb}
+use Rattle.std.proofs.Common.{◌⊎◌, ⊎_elim, inl, inr, List, [], ◌∷◌, ◌++◌, length, set, Some, slice_get, ◌∙◌, ◌≡◌, ◌≢◌, ℕ, zero, suc, ◌+◌, ◌*◌, ◌<◌}
+use Rattle.std.proofs.Common.{◌≤◌, if◌then◌else◌, sym, refl, ap, subst, arith, ne_eqb}
 use Rattle.std.proofs.lemmas.Bool.{eq-eqb}
 use mathlib.Core.Logic.{dite}
 use native.Mathlib.Decide.{dec_le}

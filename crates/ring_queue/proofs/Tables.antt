@@ -53,7 +53,8 @@ module _ (z : Layout) (s : State ℕ View) (h : Holds z s) (id : ℕ) (v : SeatV
         owner = h.owner;
         fits = λ j i u o a b. (all j i u o a b).0;
         owned = λ j i u o a b. let q = all j i u o a b in (q.1, q.2);
-        kept = λ j m n there. ⊎_elim (λ (q : (j ≡ id) × (seated v' ≡ keeper m n)). let e = q.1 in cc) (λ (q : (j ≢ id) × (get_elem? s.views j ≡ some (keeper m n))). h.kept j m n q.1) (at_set s.views id j (seated v') (keeper m n) there);
+        kept = λ j m n there. ⊎_elim (λ (q : (j ≡ id) × (seated v' ≡ keeper m n)). let e = q.1 in cc)
+            (λ (q : (j ≢ id) × (get_elem? s.views j ≡ some (keeper m n))). h.kept j m n q.1) (at_set s.views id j (seated v') (keeper m n) there);
         undealt = λ n over. put_else h.seats v.number n v' (λ e. let lt = own.1 in omega (arith, lt, over, e)) ∙ h.undealt n over;
       }
 
@@ -96,7 +97,8 @@ module _ (z : Layout) (words : List ℕ) (seats : ℕ → SeatView) (r : Ring z 
       }
 
   -- a step that changes no word and no count of places in reserve, of a seat that has claimed no place, keeps the ring
-  pub looks : (v' : SeatView) → Rests v.stage → v'.credits ≡ v.credits → SeatOk z r.head r.tail (r.head + length r.values) r.log r.cells r.history v.number v' → Became z words (put seats v.number v') r.history
+  pub looks : (v' : SeatView) → Rests v.stage → v'.credits ≡ v.credits → SeatOk z r.head r.tail (r.head + length r.values) r.log r.cells r.history
+      v.number v' → Became z words (put seats v.number v') r.history
   looks v' rested same ok =
       let totals : total (length z.roles) (put seats v.number v') ≡ total (length z.roles) seats = total_same (length z.roles) seats (put seats v.number v')
       (λ k. put_each seats v.number k v' (λ q (u : SeatView). u.credits ≡ (seats q).credits) (same ∙ ap (λ (u : SeatView). u.credits) (sym is)) (λ _. refl)) in

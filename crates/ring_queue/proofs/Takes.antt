@@ -1,5 +1,6 @@
 -- A pop takes the front, or many at one step.
-use Rattle.std.proofs.Common.{◌≡◌, ◌≢◌, ℕ, suc, ◌+◌, ◌/◌, ◌%◌, ◌^◌, ◌<◌, ◌≤◌, nat_eq, inl, inr, List, [], ◌∷◌, ◌++◌, length, get_or, set, Some, None, slice_get, sym, refl, ap, ◌∙◌, subst, arith, append-nil, append_assoc, ne_eqb}
+use Rattle.std.proofs.Common.{◌≡◌, ◌≢◌, ℕ, suc, ◌+◌, ◌/◌, ◌%◌, ◌^◌, ◌<◌, ◌≤◌, nat_eq, inl, inr, List, [], ◌∷◌, ◌++◌, length, get_or, set, Some, None}
+use Rattle.std.proofs.Common.{slice_get, sym, refl, ap, ◌∙◌, subst, arith, append-nil, append_assoc, ne_eqb}
 use prog.Atomic.{either}
 use Rattle.std.proofs.lemmas.Bool.{eq-eqb}
 use Rattle.std.proofs.lemmas.List.{set-get_or}
@@ -61,7 +62,8 @@ module _ (z : Layout) (words : List ℕ) (seats : ℕ → SeatView) (w : ℕ) (w
   its_value some = payload_some (r.log r.head) (r.fits r.head) (let q = says in omega (arith, q, some)) ∙ ap (λ x. Some (record { from = x / 2 ^ 48; body = x % 2 ^ 48 })) (sym says)
 
   abbrev One : Type 0
-  One = (r' : Ring z (set words 16 (r.head + 1)) (put seats v.number (after_one c w))) × (r'.head ≡ r.head + 1) × (r'.tail ≡ r.tail) × (r'.history ≡ r.history ++ Pop v.number (taken_in w) ∷ []) × (r'.cells ≡ r.cells) × (r'.log ≡ r.log)
+  One = (r' : Ring z (set words 16 (r.head + 1)) (put seats v.number (after_one c w))) × (r'.head ≡ r.head + 1) × (r'.tail ≡ r.tail)
+      × (r'.history ≡ r.history ++ Pop v.number (taken_in w) ∷ []) × (r'.cells ≡ r.cells) × (r'.log ≡ r.log)
 
   -- the first value is popped
   pop_one : 0 < w % 2 ^ 63 → IsPermitted (permits_of z) (Pop v.number (taken_in w)) → One
@@ -102,7 +104,8 @@ record Pops (z : Layout) (words : List ℕ) (seats : ℕ → SeatView) (ws : Lis
 abbrev IsValue : ℕ → Type 0
 IsValue w = 0 < w % 2 ^ 63
 
-pop_all : (ws : List ℕ) (w : ℕ) (z : Layout) (words : List ℕ) (seats : ℕ → SeatView) (c : Popping z words seats (w ∷ ws)) → AreValues (w ∷ ws) → ((value : Taken) → IsPermitted (permits_of z) (Pop c.seat.number value)) → Pops z words seats (w ∷ ws) c
+pop_all : (ws : List ℕ) (w : ℕ) (z : Layout) (words : List ℕ) (seats : ℕ → SeatView) (c : Popping z words seats (w ∷ ws)) → AreValues (w ∷ ws)
+    → ((value : Taken) → IsPermitted (permits_of z) (Pop c.seat.number value)) → Pops z words seats (w ∷ ws) c
 pop_all [] w z words seats c some permit =
     let one = pop_one z words seats w [] c (All-head IsValue w [] some) (permit (taken_in w)) in
     record { seat = after_one c w; number = refl; stage = refl; head = refl; credits = refl; seen = refl; mine = refl; notes = refl; ring = (one.0, one.3) }
@@ -129,7 +132,8 @@ pop_all (w' ∷ ws) w z words seats c some permit =
     } in
     let more = pop_all ws w' z (set words 16 (c.ring.head + 1)) (put seats n v1) c1 (All-tail IsValue w (w' ∷ ws) some) permit in
     let head = more.head in
-    let onward : one.0.history ++ pops n (w' ∷ ws) ≡ c.ring.history ++ pops n (w ∷ w' ∷ ws) = ap (λ h. h ++ pops n (w' ∷ ws)) one.3 ∙ append_assoc c.ring.history (Pop n (taken_in w) ∷ []) (pops n (w' ∷ ws)) in
+    let onward : one.0.history ++ pops n (w' ∷ ws) ≡ c.ring.history ++ pops n (w ∷ w' ∷ ws) =
+    ap (λ h. h ++ pops n (w' ∷ ws)) one.3 ∙ append_assoc c.ring.history (Pop n (taken_in w) ∷ []) (pops n (w' ∷ ws)) in
     record {
       seat = more.seat;
       number = more.number;
@@ -140,7 +144,12 @@ pop_all (w' ∷ ws) w z words seats c some permit =
       mine = more.mine ∙ append_assoc c.seat.mine (Pop n (taken_in w) ∷ []) (pops n (w' ∷ ws));
       notes = more.notes;
       ring = subst (λ (y : List ℕ × (ℕ → SeatView) × List Entry). keeps.Became z y.0 y.1 y.2)
-          (λ i. ((set_twice words 16 (c.ring.head + 1) (one.0.head + length (w' ∷ ws)) ∙ ap (set words 16) (let q : one.0.head + length (w' ∷ ws) ≡ c.ring.head + length (w ∷ w' ∷ ws) = omega (arith, head1, many) in q)) i, put_twice seats n v1 more.seat i, onward i))
+          (λ i. (
+            (set_twice words 16 (c.ring.head + 1) (one.0.head + length (w' ∷ ws)) ∙ ap (set words 16)
+                (let q : one.0.head + length (w' ∷ ws) ≡ c.ring.head + length (w ∷ w' ∷ ws) = omega (arith, head1, many) in q)) i,
+            put_twice seats n v1 more.seat i,
+            onward i,
+          ))
           more.ring;
     }
 
@@ -157,7 +166,8 @@ module _ (z : Layout) (words : List ℕ) (seats : ℕ → SeatView) (r : Ring z 
 
   -- Head is raised, or another raised it
   takes_fronts : (w : ℕ) (ws : List ℕ) → v.stage ≡ found (w ∷ ws) → AreValues (w ∷ ws) → ((value : Taken) → IsPermitted (permits_of z) (Pop v.number value))
-      → (v' : SeatView) × (v'.number ≡ v.number) × (r' : Ring z (set words 16 (raised (length (w ∷ ws)))) (put seats v.number v')) × Extends (pops v.number (w ∷ ws)) r.history v r'.history v' × FrontsTaken z (w ∷ ws) v h v'
+      → (v' : SeatView) × (v'.number ≡ v.number) × (r' : Ring z (set words 16 (raised (length (w ∷ ws)))) (put seats v.number v'))
+      × Extends (pops v.number (w ∷ ws)) r.history v r'.history v' × FrontsTaken z (w ∷ ws) v h v'
   takes_fronts w ws at some permit = same_or_not h v.head won lost
     where
       count : ℕ
@@ -166,10 +176,18 @@ module _ (z : Layout) (words : List ℕ) (seats : ℕ → SeatView) (r : Ring z 
       rested : Rests v.stage
       rested = subst Rests (sym at) tt
 
-      won : h ≡ v.head → (v' : SeatView) × (v'.number ≡ v.number) × (r' : Ring z (set words 16 (raised count)) (put seats v.number v')) × Extends (pops v.number (w ∷ ws)) r.history v r'.history v' × FrontsTaken z (w ∷ ws) v h v'
+      won : h ≡ v.head → (v' : SeatView) × (v'.number ≡ v.number) × (r' : Ring z (set words 16 (raised count)) (put seats v.number v'))
+          × Extends (pops v.number (w ∷ ws)) r.history v r'.history v' × FrontsTaken z (w ∷ ws) v h v'
       won same =
           let here : v.head ≡ r.head = sym same ∙ r.head_is in
-          let c : Popping z words seats (w ∷ ws) = record { ring = r; seat = v; its = is; rested = rested; filled = subst (Stands z.slots r.head r.tail (r.head + length r.values) r.log r.cells v) at fit.stage here } in
+          let c : Popping z words seats (w ∷ ws) = record {
+            ring = r;
+            seat = v;
+            its = is;
+            rested = rested;
+            filled =
+                subst (Stands z.slots r.head r.tail (r.head + length r.values) r.log r.cells v) at fit.stage here;
+          } in
           let all = pop_all ws w z words seats c some permit in
           let word : r.head + count ≡ raised count = ap (λ x. x + count) (sym here) ∙ ap (λ b. either b (v.head + count) h) (sym (eq-eqb h v.head same)) in
           let made = subst (λ x. keeps.Became z (set words 16 x) (put seats v.number all.seat) (r.history ++ pops v.number (w ∷ ws))) word all.ring in
@@ -190,12 +208,14 @@ module _ (z : Layout) (words : List ℕ) (seats : ℕ → SeatView) (r : Ring z 
             },
           )
 
-      lost : h ≢ v.head → (v' : SeatView) × (v'.number ≡ v.number) × (r' : Ring z (set words 16 (raised count)) (put seats v.number v')) × Extends (pops v.number (w ∷ ws)) r.history v r'.history v' × FrontsTaken z (w ∷ ws) v h v'
+      lost : h ≢ v.head → (v' : SeatView) × (v'.number ≡ v.number) × (r' : Ring z (set words 16 (raised count)) (put seats v.number v'))
+          × Extends (pops v.number (w ∷ ws)) r.history v r'.history v' × FrontsTaken z (w ∷ ws) v h v'
       lost ne =
           let v' : SeatView = record { number = v.number; stage = rests; head = h; credits = v.credits; seen = r.history; mine = v.mine; notes = v.notes } in
           let ok = saw_all z words seats r v is v' refl refl refl (notes_stay z words seats r v is) (let q = r.head_is in omega (arith, q)) fit.few tt in
           let made : keeps.Became z (set words 16 (raised count)) (put seats v.number v') r.history =
-          subst (λ us. keeps.Became z us (put seats v.number v') r.history) (sym (ap (λ b. set words 16 (either b (v.head + count) h)) (ne_eqb h v.head ne) ∙ set-get_or words 16 0)) (looks z words seats r v is v' rested refl ok) in
+          subst (λ us. keeps.Became z us (put seats v.number v') r.history) (sym (ap (λ b. set words 16 (either b (v.head + count) h))
+          (ne_eqb h v.head ne) ∙ set-get_or words 16 0)) (looks z words seats r v is v' rested refl ok) in
           let ring = made.0 in
           let b = fit.behind in
           let q = r.head_is in (
@@ -214,6 +234,7 @@ module _ (z : Layout) (words : List ℕ) (seats : ℕ → SeatView) (r : Ring z 
 
   -- the same of any words, one at least
   pub takes_words : (taken : List ℕ) → 1 ≤ length taken → v.stage ≡ found taken → AreValues taken → ((value : Taken) → IsPermitted (permits_of z) (Pop v.number value))
-      → (v' : SeatView) × (v'.number ≡ v.number) × (r' : Ring z (set words 16 (raised (length taken))) (put seats v.number v')) × Extends (pops v.number taken) r.history v r'.history v' × FrontsTaken z taken v h v'
+      → (v' : SeatView) × (v'.number ≡ v.number) × (r' : Ring z (set words 16 (raised (length taken))) (put seats v.number v'))
+      × Extends (pops v.number taken) r.history v r'.history v' × FrontsTaken z taken v h v'
   takes_words [] some at values permit = absurd (let f : 1 ≤ 0 = some in omega (arith, f))
   takes_words (w ∷ ws) some at values permit = takes_fronts w ws at values permit

@@ -49,18 +49,34 @@ two_not_one : (a b v : SeatView) → paired a b ≡ seated v → ⊥
 two_not_one a b v e = cc
 
 -- a seat is dealt
-pub deals_at : {T : Type 0} (z about : Layout) (id n : ℕ) (me : Me (Option T) (Beside T)) → about ≡ z → me.0.plain ≡ keeper z.slots n → Splits {S = Option T} (HoldsBy about) id me.0 (left_dealt me.0) (right_dealt me.0)
+pub deals_at : {T : Type 0} (z about : Layout) (id n : ℕ) (me : Me (Option T) (Beside T)) → about ≡ z → me.0.plain ≡ keeper z.slots n
+    → Splits {S = Option T} (HoldsBy about) id me.0 (left_dealt me.0) (right_dealt me.0)
 deals_at {T} z about id n me same is =
     lift_splits about.carries about id me.0 (left_dealt me.0) (right_dealt me.0)
     (λ es. subst (λ (y : Layout × View). Splits {S = ℕ} (HoldsWith y.0 es) id y.1 (dealt_left y.1) (dealt_right y.1)) (λ i. (sym same i, sym is i)) (deals z es id n))
     refl refl
     (λ ds b. (
-      record { rest = b.rest; begins = b.begins; matches = λ v e. absurd (not_seated z.slots n v (ap dealt_left (sym is) ∙ e)); pair = λ v u e y. absurd (not_paired z.slots n v u (ap dealt_left (sym is) ∙ e)); others = b.others },
-      record { rest = ds; begins = refl; matches = λ v e. subst (λ (y : View). Matches {T = T} (knows y).seen []) (ap dealt_right (sym is) ∙ e) tt; pair = λ v u e y. absurd (new_alone z.slots n v u (ap dealt_right (sym is) ∙ e)); others = tt },
+      record {
+        rest = b.rest;
+        begins = b.begins;
+        matches = λ v e. absurd (not_seated z.slots n v (ap dealt_left (sym is) ∙ e));
+        pair =
+            λ v u e y. absurd (not_paired z.slots n v u (ap dealt_left (sym is) ∙ e));
+        others = b.others;
+      },
+      record {
+        rest = ds;
+        begins = refl;
+        matches = λ v e. subst (λ (y : View). Matches {T = T} (knows y).seen []) (ap dealt_right (sym is) ∙ e) tt;
+        pair = λ v u e y. absurd (new_alone z.slots n v u (ap dealt_right (sym is) ∙ e));
+        others = tt;
+      },
     ))
 
 -- a seat with the token of a number that was dealt
-pub dealt : {T : Type 0} (z : Layout) (t : TableId) (n : ℕ) (role : Role) (k : Token (Option T) (Beside T)) (place near : ℕ) → IsPlanned z → place ≡ z.slots → 1 ≤ n → slice_get z.roles (n - 1) ≡ Some role → k.table_id ≡ t → k.me.0.plain ≡ seated (new_seat z.slots n) → k.me.0.deeds ≡ [] → HasNone k.me
+pub dealt : {T : Type 0} (z : Layout) (t : TableId) (n : ℕ) (role : Role) (k : Token (Option T) (Beside T)) (place near : ℕ) → IsPlanned z
+    → place ≡ z.slots → 1 ≤ n → slice_get z.roles (n - 1) ≡ Some role → k.table_id ≡ t → k.me.0.plain ≡ seated (new_seat z.slots n)
+    → k.me.0.deeds ≡ [] → HasNone k.me
     → IsDealt z t n record { token = k; number = n; role = role; head = place; credits = 0; near = near }
 dealt z t n role k place near planned first least permits table me none_done none_out =
     let is : knows k.me.0.plain ≡ new_seat z.slots n = ap knows me in
@@ -87,14 +103,19 @@ dealt z t n role k place near planned first least permits table me none_done non
     }
 
 -- a spare token
-pub spares_at : {T : Type 0} (key : Layout) (id : ℕ) (me : Me (Option T) (Beside T)) (v : SeatView) → me.0.plain ≡ seated v → Splits {S = Option T} (HoldsBy key) id me.0 (left_as_it_is me.0) knows_nothing
+pub spares_at : {T : Type 0} (key : Layout) (id : ℕ) (me : Me (Option T) (Beside T)) (v : SeatView) → me.0.plain ≡ seated v
+    → Splits {S = Option T} (HoldsBy key) id me.0 (left_as_it_is me.0) knows_nothing
 spares_at key id me v is =
     lift_splits key.carries key id me.0 (left_as_it_is me.0) knows_nothing
     (λ es. subst (λ (y : View). Splits {S = ℕ} (HoldsWith key es) id y y spent) (sym is) (spares key es id v)) refl refl
-    (λ ds b. (record { rest = b.rest; begins = b.begins; matches = b.matches; pair = b.pair; others = b.others }, record { rest = ds; begins = refl; matches = λ v e. cc; pair = λ v u e y. cc; others = tt }))
+    (λ ds b. (
+      record { rest = b.rest; begins = b.begins; matches = b.matches; pair = b.pair; others = b.others },
+      record { rest = ds; begins = refl; matches = λ v e. cc; pair = λ v u e y. cc; others = tt },
+    ))
 
 -- two seats become one
-pub pairs_at : {T : Type 0} (key : Layout) (id other : ℕ) (me him : Me (Option T) (Beside T)) (v w : SeatView) → me.0.plain ≡ seated v → him.0.plain ≡ seated w → him.0.hand ≡ none → Joins {S = Option T} (HoldsBy key) id me.0 other him.0 (both_beside me.0 him.0) knows_nothing
+pub pairs_at : {T : Type 0} (key : Layout) (id other : ℕ) (me him : Me (Option T) (Beside T)) (v w : SeatView) → me.0.plain ≡ seated v
+    → him.0.plain ≡ seated w → him.0.hand ≡ none → Joins {S = Option T} (HoldsBy key) id me.0 other him.0 (both_beside me.0 him.0) knows_nothing
 pairs_at key id other me him v w is his none_out =
     let both : both_of me.0.plain him.0.plain ≡ paired v w = λ i. both_of (is i) (his i) in
     lift_joins key.carries key id other me.0 him.0 (both_beside me.0 him.0) knows_nothing
@@ -111,7 +132,8 @@ pairs_at key id other me him v w is his none_out =
     ))
 
 -- two seats that are one have seen all
-pub meets_at : {T : Type 0} (key : Layout) (slots id : ℕ) (me : Me (Option T) (Beside T)) (v w : SeatView) → me.0.plain ≡ paired v w → Allows {S = Option T} (HoldsBy key) slots id me 0 (λ n. n) (λ n m. MeetsBeside key.carries key me m)
+pub meets_at : {T : Type 0} (key : Layout) (slots id : ℕ) (me : Me (Option T) (Beside T)) (v w : SeatView) → me.0.plain ≡ paired v w
+    → Allows {S = Option T} (HoldsBy key) slots id me 0 (λ n. n) (λ n m. MeetsBeside key.carries key me m)
 meets_at {T} key slots id me v w is =
     let at : Me (Option T) (Beside T) = (record { plain = paired v w; deeds = me.0.deeds; hand = me.0.hand; others = me.0.others }, me.1) in
     let back : at ≡ me = (λ i. (record { plain = sym is i; deeds = me.0.deeds; hand = me.0.hand; others = me.0.others }, me.1)) in
@@ -119,12 +141,30 @@ meets_at {T} key slots id me v w is =
     (lift_meets key slots id v w me.0.deeds me.0.hand me.0.others me.1 key.carries)
 
 -- one seat becomes two
-pub parts_at : {T : Type 0} (key : Layout) (id : ℕ) (me : Me (Option T) (Beside T)) (v w : SeatView) → me.0.plain ≡ paired v w → v.seen ≡ w.seen → Splits {S = Option T} (HoldsBy key) id me.0 (first_beside_of me.0) (second_beside_of me.0)
+pub parts_at : {T : Type 0} (key : Layout) (id : ℕ) (me : Me (Option T) (Beside T)) (v w : SeatView) → me.0.plain ≡ paired v w → v.seen ≡ w.seen
+    → Splits {S = Option T} (HoldsBy key) id me.0 (first_beside_of me.0) (second_beside_of me.0)
 parts_at key id me v w is met =
-    lift_splits key.carries key id me.0 (first_beside_of me.0) (second_beside_of me.0) (λ es. subst (λ (y : View). Splits {S = ℕ} (HoldsWith key es) id y (first_of y) (second_of y)) (sym is) (parts key es id v w)) refl refl
+    lift_splits key.carries key id me.0 (first_beside_of me.0) (second_beside_of me.0)
+    (λ es. subst (λ (y : View). Splits {S = ℕ} (HoldsWith key es) id y (first_of y) (second_of y)) (sym is) (parts key es id v w)) refl refl
     (λ ds b. (
-      record { rest = b.rest; begins = b.begins; matches = λ o e. subst (λ (k : SeatView). Matches k.seen me.0.deeds) (ap knows (ap first_of (sym is) ∙ e)) (b.pair v w is met); pair = λ o u e y. absurd (one_not_two v o u (ap first_of (sym is) ∙ e)); others = b.others },
-      record { rest = b.rest; begins = b.begins; matches = λ o e. subst (λ (k : SeatView). Matches k.seen me.0.deeds) (ap knows (ap second_of (sym is) ∙ e)) (subst (λ (x : List Entry). Matches x me.0.deeds) met (b.pair v w is met)); pair = λ o u e y. absurd (one_not_two w o u (ap second_of (sym is) ∙ e)); others = tt },
+      record {
+        rest = b.rest;
+        begins = b.begins;
+        matches = λ o e. subst (λ (k : SeatView). Matches k.seen me.0.deeds)
+            (ap knows (ap first_of (sym is) ∙ e)) (b.pair v w is met);
+        pair = λ o u e y. absurd (one_not_two v o u (ap first_of (sym is) ∙ e));
+        others =
+            b.others;
+      },
+      record {
+        rest = b.rest;
+        begins = b.begins;
+        matches = λ o e. subst (λ (k : SeatView). Matches k.seen me.0.deeds)
+            (ap knows (ap second_of (sym is) ∙ e)) (subst (λ (x : List Entry). Matches x me.0.deeds) met (b.pair v w is met));
+        pair =
+            λ o u e y. absurd (one_not_two w o u (ap second_of (sym is) ∙ e));
+        others = tt;
+      },
     ))
 
 -- the token that two others joined into
@@ -136,14 +176,24 @@ pub enters : (T : Type 0) (key : Layout) (slots : ℕ) → Enters {S = Option T}
 enters T key slots s h count small = let q = lift_enters {T = T} key.carries key slots 0 (omega arith) (λ es. enters_with key es 0 0) s h count small in (q.0, q.1, ap (λ u. (u, [])) q.2)
 
 -- a token that gathers takes in one of a seat
-pub gathers_token : {T : Type 0} (key : Layout) (t : TableId) (k : Token (Option T) (Beside T)) (s : Seat T) (seats : List (Seat T)) → HasGathered t k seats → HasToken t s → Joins {S = Option T} (HoldsBy key) k.id k.me.0 s.token.id s.token.me.0 (both_beside k.me.0 s.token.me.0) knows_nothing
+pub gathers_token : {T : Type 0} (key : Layout) (t : TableId) (k : Token (Option T) (Beside T)) (s : Seat T) (seats : List (Seat T))
+    → HasGathered t k seats → HasToken t s → Joins {S = Option T} (HoldsBy key) k.id k.me.0 s.token.id s.token.me.0 (both_beside k.me.0 s.token.me.0)
+    knows_nothing
 gathers_token key t k s seats g has =
     let vs = map view seats in
     let both : both_of k.me.0.plain s.token.me.0.plain ≡ gathered (vs ++ view s ∷ []) = λ i. both_of (g.seat i) (has.seat i) in
     lift_joins key.carries key k.id s.token.id k.me.0 s.token.me.0 (both_beside k.me.0 s.token.me.0) knows_nothing
-    (λ es. subst (λ (y : View × View). Joins {S = ℕ} (HoldsWith key es) k.id y.0 s.token.id y.1 (both_of y.0 y.1) spent) (λ i. (sym g.seat i, sym has.seat i)) (gathers key es k.id s.token.id vs (view s))) refl (sym (none_hand s.token.me.0.hand has.none_out.1))
+    (λ es. subst (λ (y : View × View). Joins {S = ℕ} (HoldsWith key es) k.id y.0 s.token.id y.1 (both_of y.0 y.1) spent)
+    (λ i. (sym g.seat i, sym has.seat i)) (gathers key es k.id s.token.id vs (view s))) refl (sym (none_hand s.token.me.0.hand has.none_out.1))
     (λ ds b c. (
-      record { rest = b.rest; begins = b.begins; matches = λ v e. absurd (many_not_one (vs ++ view s ∷ []) v (sym both ∙ e)); pair = λ v u e y. absurd (many_not_two (vs ++ view s ∷ []) v u (sym both ∙ e)); others = ((c.rest, c.begins), b.others) },
+      record {
+        rest = b.rest;
+        begins = b.begins;
+        matches = λ v e. absurd (many_not_one (vs ++ view s ∷ []) v (sym both ∙ e));
+        pair =
+            λ v u e y. absurd (many_not_two (vs ++ view s ∷ []) v u (sym both ∙ e));
+        others = ((c.rest, c.begins), b.others);
+      },
       record { rest = ds; begins = refl; matches = λ v e. cc; pair = λ v u e y. cc; others = tt },
     ))
   where
@@ -154,7 +204,8 @@ gathers_token key t k s seats g has =
     many_not_two us v u e = cc
 
 -- a token that took in one more
-pub took_in : {T : Type 0} (t : TableId) (k k' : Token (Option T) (Beside T)) (seats : List (Seat T)) (s : Seat T) → HasGathered t k seats → HasToken t s → k'.table_id ≡ k.table_id → k'.me ≡ (both_beside k.me.0 s.token.me.0, k.me.1) → HasGathered t k' (seats ++ s ∷ [])
+pub took_in : {T : Type 0} (t : TableId) (k k' : Token (Option T) (Beside T)) (seats : List (Seat T)) (s : Seat T) → HasGathered t k seats
+    → HasToken t s → k'.table_id ≡ k.table_id → k'.me ≡ (both_beside k.me.0 s.token.me.0, k.me.1) → HasGathered t k' (seats ++ s ∷ [])
 took_in {T} t k k' seats s g has same is =
     record {
       table = same ∙ g.table;
@@ -179,13 +230,16 @@ pub bring_tokens : {T : Type 0} (q : RingQueue T) (seats : List (Seat T)) → Al
 bring_tokens q seats ready apart = λ k d lt. let h = ready k d lt in record { table = h.sits.table; seat = h.sits.seat; none_out = apart k d lt }
 
 -- at the end the words of the queue are those of a ring whose seats are those handed in
-pub ends : {T : Type 0} (z key : Layout) (seats : List (Seat T)) (id : ℕ) (w : Beside T) (words : List ℕ) (slots : List (Option T)) → key ≡ z → w.plain ≡ gathered (map view seats) → Final {S = Option T} (Seen (HoldsBy key) id w) words slots → Ends z seats (take (words_of z) words)
+pub ends : {T : Type 0} (z key : Layout) (seats : List (Seat T)) (id : ℕ) (w : Beside T) (words : List ℕ) (slots : List (Option T)) → key ≡ z
+    → w.plain ≡ gathered (map view seats) → Final {S = Option T} (Seen (HoldsBy key) id w) words slots → Ends z seats (take (words_of z) words)
 ends {T} z key seats id w words slots same is t =
     let plain = lift_final key.carries key id w words slots t in
     ends_at z seats id (take (words_of z) words) [] (subst (λ (y : Layout × View). Final {S = ℕ} (Seen (Holds y.0) id y.1) (take (words_of y.0) words) []) (λ i. (same i, is i)) plain)
 
 -- the same of a table that carries no values: its words are the queue's
-pub ends_alone : {T : Type 0} (z key : Layout) (t : TableId) (seats : List (Seat T)) (id : ℕ) (w : Beside T) (words : List ℕ) (slots : List (Option T)) → IsTable z key t → z.carries ≡ false → length words ≡ t.words → w.plain ≡ gathered (map view seats) → Final {S = Option T} (Seen (HoldsBy key) id w) words slots → Ends z seats words
+pub ends_alone : {T : Type 0} (z key : Layout) (t : TableId) (seats : List (Seat T)) (id : ℕ) (w : Beside T) (words : List ℕ)
+    (slots : List (Option T)) → IsTable z key t → z.carries ≡ false → length words ≡ t.words → w.plain ≡ gathered (map view seats)
+    → Final {S = Option T} (Seen (HoldsBy key) id w) words slots → Ends z seats words
 ends_alone z key t seats id w words slots laid numbers count is f =
     let none_of : slots_of z ≡ 0 = ap (λ (b : Bool). if b then z.slots else 0) numbers in
     let all = laid.words in

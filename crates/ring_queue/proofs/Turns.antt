@@ -41,10 +41,15 @@ is_ahead z old between seen place e h = record { between = between; rest = []; p
 
 -- turns that failed since a step failed since any step before
 pub failed_since : {T : Type 0} (z : Layout) (first more old : List Entry) (from turns : ℕ) (t : Seat T) → old ≡ first ++ more → HaveFailed z old from turns t → HaveFailed z first from turns t
-failed_since z first more old from turns t e f = (f.0, ⊎_elim (λ (le : from + turns ≤ t.head). inl le) (λ (w : WasAhead z old (view t).seen from). inr (was_since z first more old (view t).seen from e w)) f.1)
+failed_since z first more old from turns t e f = (
+  f.0,
+  ⊎_elim (λ (le : from + turns ≤ t.head). inl le)
+      (λ (w : WasAhead z old (view t).seen from). inr (was_since z first more old (view t).seen from e w)) f.1,
+)
 
 -- one turn more failed
-pub failed_more : {T : Type 0} (z : Layout) (old before : List Entry) (from turns : ℕ) (s t : Seat T) → (view s).seen ≡ old ++ before → SeesMore (known_of s) (known_of t) → HaveFailed z old from turns s
+pub failed_more : {T : Type 0} (z : Layout) (old before : List Entry) (from turns : ℕ) (s t : Seat T) → (view s).seen ≡ old ++ before
+    → SeesMore (known_of s) (known_of t) → HaveFailed z old from turns s
     → HaveFailed z (view s).seen s.head 1 t → HaveFailed z old from (turns + 1) t
 failed_more z old before from turns s t since more f late =
     let g = failed_since z old before (view s).seen s.head 1 t since late in
@@ -72,8 +77,13 @@ turn_after z s t u Failed f same g =
 pub end_failed : {T : Type 0} (z : Layout) (s t u : Seat T) → EndSays z s t Ahead → SeesMore (known_of t) (known_of u) → t.head ≤ u.head → TurnSays z s u Failed
 end_failed z s t u f more le =
     let same = f.2 in
-    let then = is_ahead z (view s).seen f.0.between (view t).seen s.head f.0.seen f.1 in
-    (sees_then (known_of s) (known_of t) (known_of u) f.0 more, (omega (arith, le, same), inr (was_ahead z (view s).seen (view t).seen more.between (view u).seen s.head s.head more.seen (omega arith) then)))
+    let then = is_ahead z (view s).seen f.0.between (view t).seen s.head f.0.seen f.1 in (
+      sees_then (known_of s) (known_of t) (known_of u) f.0 more,
+      (
+        omega (arith, le, same),
+        inr (was_ahead z (view s).seen (view t).seen more.between (view u).seen s.head s.head more.seen (omega arith) then),
+      ),
+    )
 
 -- a pop whose head was another's
 pub head_raised : {T : Type 0} (z : Layout) (s u : Seat T) → SeesMore (known_of s) (known_of u) → s.head < u.head → TurnSays z s u Failed
@@ -94,7 +104,8 @@ pub done_after : {T : Type 0} (a b c d : Known) (body : ℕ) (r : Result T Refus
 done_after a b c d body r f g = on_ok_weaker r (pushed_after a c d body (sees_then a b c f g))
 
 -- and of its refusal
-pub refused_after : {T : Type 0} (a b c d : Known) (r : Result T Refusal) → SeesMore a b → SeesMore b c → IfErr r (λ refusal. (refusal ≡ IsClosed) × FoundShut c d) → IfErr r (λ refusal. PushRefused a refusal d)
+pub refused_after : {T : Type 0} (a b c d : Known) (r : Result T Refusal) → SeesMore a b → SeesMore b c
+    → IfErr r (λ refusal. (refusal ≡ IsClosed) × FoundShut c d) → IfErr r (λ refusal. PushRefused a refusal d)
 refused_after a b c d r f g = IfErr-weaker r _ _ (λ refusal h. subst (λ x. PushRefused a x d) (sym h.0) (push_refused_then a c d IsClosed (sees_then a b c f g) h.1))
 
 -- pushes that are done after their seat saw more

@@ -27,7 +27,8 @@ module _ (T : Type 0) (z : Layout) where
   empties (suc n) (suc i) lt = empties n i (omega arith)
 
   one_view : (j : ℕ) (w : Beside T) → get_elem? (first_beside z ∷ []) j ≡ some w → Begins {T = T} [] w
-  one_view zero w e = subst (Begins {T = T} []) (some-injective (first_beside z) w e) (record { rest = []; begins = refl; matches = λ v is. absurd (not_seated v is); pair = λ v u is same. absurd (not_paired v u is); others = tt })
+  one_view zero w e = subst (Begins {T = T} []) (some-injective (first_beside z) w e)
+      (record { rest = []; begins = refl; matches = λ v is. absurd (not_seated v is); pair = λ v u is same. absurd (not_paired v u is); others = tt })
     where
       not_seated : (v : SeatView) → keeper z.slots 1 ≡ seated v → ⊥
       not_seated v is = cc
@@ -37,8 +38,14 @@ module _ (T : Type 0) (z : Layout) where
   one_view (suc j) w e = absurd (some-ne-none w (sym e))
 
 -- the rule holds of a new table, in which such words lie, with so many flags
-pub opens_first : (T : Type 0) (z : Layout) (slots flags : ℕ) (words given : List ℕ) → IsPlanned z → slots ≡ z.slots → flags ≡ slots_of z → given ≡ words → AreFirst slots flags words → HoldsBy {T = T} z (opening {S = Option T} given (replicate {A = Option T} flags None) (first_beside z))
-opens_first T z slots flags words given planned same flagged is first = record { base = h.0; values = subst (λ (es : List Entry). CarriedBy {T = T} z.carries z es (opening {S = Option T} given (replicate {A = Option T} flags None) (first_beside z))) (sym h.1) (go z.carries flagged) }
+pub opens_first : (T : Type 0) (z : Layout) (slots flags : ℕ) (words given : List ℕ) → IsPlanned z → slots ≡ z.slots → flags ≡ slots_of z
+    → given ≡ words → AreFirst slots flags words → HoldsBy {T = T} z (opening {S = Option T} given (replicate {A = Option T} flags None)
+    (first_beside z))
+opens_first T z slots flags words given planned same flagged is first = record {
+  base = h.0;
+  values = subst (λ (es : List Entry). CarriedBy {T = T} z.carries z es
+      (opening {S = Option T} given (replicate {A = Option T} flags None) (first_beside z))) (sym h.1) (go z.carries flagged);
+}
   where
     m : ℕ
     m = words_of z
@@ -79,7 +86,8 @@ opens_first T z slots flags words given planned same flagged is first = record {
     }
 
 -- it is laid out for its plan
-pub laid_first : (z about : Layout) (slots flags : ℕ) (t : TableId) (words given : List ℕ) → IsPlanned z → about ≡ z → slots ≡ z.slots → flags ≡ slots_of z → t.words ≡ length given → given ≡ words → AreFirst slots flags words → t.slots ≡ flags → IsTable z about t
+pub laid_first : (z about : Layout) (slots flags : ℕ) (t : TableId) (words given : List ℕ) → IsPlanned z → about ≡ z → slots ≡ z.slots
+    → flags ≡ slots_of z → t.words ≡ length given → given ≡ words → AreFirst slots flags words → t.slots ≡ flags → IsTable z about t
 laid_first z about slots flags t words given planned key same flagged count is first there =
     let wide = first.wide in
     let all = ap length is in

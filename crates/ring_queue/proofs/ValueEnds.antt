@@ -1,5 +1,6 @@
 -- The end of a ring that carries values: those left are what the history of values leads to.
-use Rattle.std.proofs.Common.{◌≡◌, ℕ, zero, suc, ◌+◌, ◌-◌, ◌*◌, ◌%◌, ◌^◌, ◌<◌, ◌≤◌, true, false, Bool, if◌then◌else◌, nat_eq, nat_le, IsTrue, List, [], ◌∷◌, map, length, take, mod-lt, Option, Some, sym, refl, ap, subst, ◌∙◌, append-nil, arith}
+use Rattle.std.proofs.Common.{◌≡◌, ℕ, zero, suc, ◌+◌, ◌-◌, ◌*◌, ◌%◌, ◌^◌, ◌<◌, ◌≤◌, true, false, Bool, if◌then◌else◌, nat_eq, nat_le, IsTrue, List}
+use Rattle.std.proofs.Common.{[], ◌∷◌, map, length, take, mod-lt, Option, Some, sym, refl, ap, subst, ◌∙◌, append-nil, arith}
 use Rattle.std.specs.List.{All}
 use Rattle.std.proofs.lemmas.List.{get_or-take}
 use mathlib.Core.Option.{some}
@@ -53,7 +54,8 @@ pop_of : Place → ℕ
 pop_of (queued p) = p
 pop_of place = 0
 
-values_end : {T : Type 0} (z : Layout) (seats : List (Seat T)) (id : ℕ) (w : Beside T) (words : List ℕ) (slots : List (Option T)) → z.carries ≡ true → w.plain ≡ gathered (map view seats) → Final {S = Option T} (Seen (HoldsBy z) id w) words slots → ValuesEnd z seats words slots w
+values_end : {T : Type 0} (z : Layout) (seats : List (Seat T)) (id : ℕ) (w : Beside T) (words : List ℕ) (slots : List (Option T)) → z.carries ≡ true
+    → w.plain ≡ gathered (map view seats) → Final {S = Option T} (Seen (HoldsBy z) id w) words slots → ValuesEnd z seats words slots w
 unfolding pop_of
 values_end {T} z seats id w words slots carries is f =
     let s = f.0 in
@@ -67,7 +69,8 @@ values_end {T} z seats id w words slots carries is f =
         all = h.base.seats;
         ring = h.base.ring;
         fits = λ k x got. h.base.fits id k u (view x) at_id (got_map view seats k x got);
-        apart = λ k l a b x y e. ap (λ (q : ℕ × ℕ). q.1) (sym (h.base.owned id k u (view a) at_id (got_map view seats k a x)).0 ∙ (ap h.base.owner e ∙ (h.base.owned id l u (view b) at_id (got_map view seats l b y)).0));
+        apart = λ k l a b x y e. ap (λ (q : ℕ × ℕ). q.1) (sym (h.base.owned id k u (view a) at_id (got_map view seats k a x)).0 ∙
+            (ap h.base.owner e ∙ (h.base.owned id l u (view b) at_id (got_map view seats l b y)).0));
       };
       deeds = c.rides.deeds;
       q = c.rides.q;
@@ -84,8 +87,11 @@ values_end {T} z seats id w words slots carries is f =
     })
 
 -- the same at the names of a call
-pub values_end_as : {T : Type 0} (z key : Layout) (seats : List (Seat T)) (id : ℕ) (w : Beside T) (words : List ℕ) (slots : List (Option T)) → key ≡ z → z.carries ≡ true → w.plain ≡ gathered (map view seats) → Final {S = Option T} (Seen (HoldsBy key) id w) words slots → ValuesEnd z seats words slots w
-values_end_as z key seats id w words slots same carries is f = subst (λ (y : Layout). ValuesEnd y seats words slots w) same (values_end key seats id w words slots (ap (λ (y : Layout). y.carries) same ∙ carries) is f)
+pub values_end_as : {T : Type 0} (z key : Layout) (seats : List (Seat T)) (id : ℕ) (w : Beside T) (words : List ℕ) (slots : List (Option T)) → key ≡ z
+    → z.carries ≡ true → w.plain ≡ gathered (map view seats) → Final {S = Option T} (Seen (HoldsBy key) id w) words slots
+    → ValuesEnd z seats words slots w
+values_end_as z key seats id w words slots same carries is f = subst (λ (y : Layout). ValuesEnd y seats words slots w) same
+    (values_end key seats id w words slots (ap (λ (y : Layout). y.carries) same ∙ carries) is f)
 
 -- a history leads to one list of values, shut or not
 leads_one : (es : List Entry) (s t : Bool) (us vs : List Taken) → Leads es s us → Leads es t vs → (us ≡ vs) × (s ≡ t)
@@ -110,7 +116,9 @@ few_values slots words place (suc k) = go (nat_eq (word_of slots words place % 2
     go true few = omega arith
     go false few = omega (arith, few)
 
-module _ {T : Type 0} (q : RingQueue T) (seats : List (Seat T)) (words : List ℕ) (slots : List (Option T)) (w : Beside T) (e : ValuesEnd q.plan seats words slots w) (at_rest : All (λ s. Rests (view s).stage) seats) (every : AreAll (permits_of q.plan) (map known_of seats)) where
+module _ {T : Type 0} (q : RingQueue T) (seats : List (Seat T)) (words : List ℕ) (slots : List (Option T)) (w : Beside T)
+    (e : ValuesEnd q.plan seats words slots w) (at_rest : All (λ s. Rests (view s).stage) seats)
+    (every : AreAll (permits_of q.plan) (map known_of seats)) where
   abbrev z : Layout
   z = q.plan
 
@@ -142,7 +150,9 @@ module _ {T : Type 0} (q : RingQueue T) (seats : List (Seat T)) (words : List �
   room_there = let room = few_left z first seats e.ends at_rest every in omega (arith, room, head_same, tail_same)
 
   -- the ring is closed by these seats, where that is told of its end
-  pub closes_values : (rest : Rest) → ((ds : List (Deed T)) → AllBegin w.others ds → EachBegins seats ds) → left_of rest ≡ values_from z.slots words (head_in words) (tail_in words - head_in words) → taken_of rest + z.slots ≡ head_in words → whole_of rest ≡ true → was_shut_of rest ≡ was_shut_in words
+  pub closes_values : (rest : Rest) → ((ds : List (Deed T)) → AllBegin w.others ds → EachBegins seats ds)
+      → left_of rest ≡ values_from z.slots words (head_in words) (tail_in words - head_in words) → taken_of rest + z.slots ≡ head_in words
+      → whole_of rest ≡ true → was_shut_of rest ≡ was_shut_in words
       → ClosesValues q seats rest slots
   closes_values rest begin left taken whole shut =
       let c = closes_all z first seats e.ends at_rest every rest (left ∙ sym values_same) (taken ∙ sym head_same) whole (shut ∙ sym shut_same) in
@@ -151,7 +161,8 @@ module _ {T : Type 0} (q : RingQueue T) (seats : List (Seat T)) (words : List �
         closes = c.0;
         deeds = e.deeds;
         matches = subst (λ (es : List Entry). Matches es e.deeds) (sym c.1) e.matches;
-        runs = subst (λ (y : List Taken × Bool). Runs [] false e.deeds (values_of slots y.0) y.1) (λ i. (numbers.0 i, numbers.1 i)) (subst (λ vs. Runs [] false e.deeds vs e.shut) (sym (values-number_of slots e.q e.lie e.apart)) e.runs);
+        runs = subst (λ (y : List Taken × Bool). Runs [] false e.deeds (values_of slots y.0) y.1) (λ i. (numbers.0 i, numbers.1 i))
+            (subst (λ vs. Runs [] false e.deeds vs e.shut) (sym (values-number_of slots e.q e.lie e.apart)) e.runs);
         begins = begin e.deeds e.others;
         few = let count = ap length left in let few = few_values z.slots words (head_in words) (tail_in words - head_in words) in let room = room_there in omega (arith, count, few, room);
         lie = subst (λ (ts : List Taken). IsTrue (all_lie slots ts)) numbers.0 (all_lie-number_of slots e.q e.lie e.apart);

@@ -83,8 +83,11 @@ module _ {T : Type 0} where
   -- what became of the slots and of the history of values, by the entries that a step added; what a pop took stood in front
   abbrev pub Effect : (me : ℕ) (es : List Entry) (w : Beside T) (held : List (ℕ × Option T)) (w' : Beside T) (held' : List (ℕ × Option T)) → Type 0
   Effect me [] w held w' held' = (held' ≡ held) × (w'.hand ≡ w.hand) × ((between : List (Deed T)) × (w'.deeds ≡ w.deeds ++ between))
-  Effect me (Push n b ∷ es) w held w' held' = (x : T) × (held ≡ (b, Some x) ∷ []) × (held' ≡ []) × (w'.hand ≡ none) × ((between : List (Deed T)) × (w'.deeds ≡ (w.deeds ++ between) ++ pushed me x ∷ []))
-  Effect me (Pop n t ∷ es) w held w' held' = (x : T) × (held' ≡ (t.body, Some x) ∷ held) × (w'.hand ≡ some t.body) × ((between : List (Deed T)) × (w'.deeds ≡ (w.deeds ++ between) ++ popped me (item t.from x) ∷ []) × StoodFirst (w.deeds ++ between) (item t.from x))
+  Effect me (Push n b ∷ es) w held w' held' = (x : T) × (held ≡ (b, Some x) ∷ []) × (held' ≡ []) × (w'.hand ≡ none)
+      × ((between : List (Deed T)) × (w'.deeds ≡ (w.deeds ++ between) ++ pushed me x ∷ []))
+  Effect me (Pop n t ∷ es) w held w' held' = (x : T) × (held' ≡ (t.body, Some x) ∷ held) × (w'.hand ≡ some t.body)
+      × ((between : List (Deed T)) × (w'.deeds ≡ (w.deeds ++ between) ++ popped me (item t.from x) ∷ [])
+      × StoodFirst (w.deeds ++ between) (item t.from x))
   Effect me (Shut n ∷ es) w held w' held' = (held' ≡ held) × (w'.hand ≡ w.hand) × ((between : List (Deed T)) × (w'.deeds ≡ (w.deeds ++ between) ++ closed me ∷ []))
 
   -- the slots and the values are ready for what a step may add: the slot of what it pushes is out with the seat, with a value in it;
@@ -193,7 +196,8 @@ module _ {T : Type 0} where
 
   -- what two seats that are one are told when they meet: what each then knows of values is so
   abbrev pub MeetsBeside : Bool → Layout → Me (Option T) (Beside T) → Me (Option T) (Beside T) → Type 0
-  MeetsBeside carries z me me' = Met z (knows me.0.plain) (knows_second me.0.plain) (plain_me me') × (me'.1 ≡ me.1) × (me'.0.hand ≡ me.0.hand) × ∥ KnowsNow carries z (first_beside_of me'.0) ∥₁ × ∥ KnowsNow carries z (second_beside_of me'.0) ∥₁ × GrowsBy carries me.0 me'.0
+  MeetsBeside carries z me me' = Met z (knows me.0.plain) (knows_second me.0.plain) (plain_me me') × (me'.1 ≡ me.1) × (me'.0.hand ≡ me.0.hand)
+      × ∥ KnowsNow carries z (first_beside_of me'.0) ∥₁ × ∥ KnowsNow carries z (second_beside_of me'.0) ∥₁ × GrowsBy carries me.0 me'.0
 
   -- a view that goes on, but with this slot out with its seat
   abbrev pub with_hand : Beside T → maybe.Option ℕ → Beside T

@@ -26,7 +26,8 @@ all_places P [] h = All-nil P
 all_places P (x ∷ xs) h = All-cons P x xs (h 0 x refl) (all_places P xs (λ k y e. h (suc k) y e))
 
 -- each seat of a new queue may begin a call, and has no slot
-pub made_seats : {T : Type 0} (most credits limit : ℕ) (roles : List Role) (q : RingValues T) (seats : List (Seat T)) → IsMadeFor true most credits limit roles (ring_of q) seats → All (IsQueueSeat q) seats
+pub made_seats : {T : Type 0} (most credits limit : ℕ) (roles : List Role) (q : RingValues T) (seats : List (Seat T))
+    → IsMadeFor true most credits limit roles (ring_of q) seats → All (IsQueueSeat q) seats
 made_seats most credits limit roles q seats m = all_places (IsQueueSeat q) seats (λ k s e. let new = m.each k s e in record { ready = new.ready; none_out = new.none_out })
 
 module _ {T : Type 0} (most credits limit : ℕ) (roles : List Role) (r : RingQueue T) (seats : List (Seat T)) (m : IsMadeFor true most credits limit roles r seats) where

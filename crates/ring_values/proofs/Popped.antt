@@ -25,7 +25,8 @@ use Rattle.ring_values.proofs.Pushed.{value_is}
 known_still : {T : Type 0} (x y : Seat T) → KeepsKnown x y → known_by y ≡ known_by x
 known_still x y k = (λ i. record { number = (k.view i).number; seen = told [] (k.deeds i); mine = own_deeds (k.view i).number (told [] (k.deeds i)); notes = (k.view i).notes })
 
-module _ {T : Type 0} (r : RingQueue T) (carries : carries_of r ≡ true) (s x : Seat T) (is : IsRingSeat r s) (it : IsRingSeat r x) (none : HasNoSlot s) (taken : Taken) (takes : TakesSlot r.plan taken s x) where
+module _ {T : Type 0} (r : RingQueue T) (carries : carries_of r ≡ true) (s x : Seat T) (is : IsRingSeat r s) (it : IsRingSeat r x)
+    (none : HasNoSlot s) (taken : Taken) (takes : TakesSlot r.plan taken s x) where
   -- the slot of what was popped is out with the seat, with a value in it
   pub pop_slot : HasValue r.plan x taken.body
   pop_slot = ((takes carries).0, has_taken r.plan r.table.shared.table_id taken s x it.sits none carries takes)
@@ -36,5 +37,6 @@ module _ {T : Type 0} (r : RingQueue T) (carries : carries_of r ≡ true) (s x :
       let took = takes carries in
       let value : took.0 ≡ front.value = value_is x.token.me.1 taken.body took.0 front.value (has_taken r.plan r.table.shared.table_id taken s x it.sits none carries takes).out t.value.out in
       let its : as_item (item taken.from took.0) ≡ front = (λ i. record { from = sym t.from i; value = value i }) in
-      let deed : AddsDeed (known_by s) (did_pop (view s).number (as_item (item taken.from took.0))) (known_by x) = pop-deed r carries s x is it (Pop (view s).number taken) (item taken.from took.0) took.3 adds in
+      let deed : AddsDeed (known_by s) (did_pop (view s).number (as_item (item taken.from took.0))) (known_by x) =
+      pop-deed r carries s x is it (Pop (view s).number taken) (item taken.from took.0) took.3 adds in
       subst (λ q. AddsDeed (known_by s) (did_pop (view s).number front) q) (sym (known_still x y t.keeps)) (subst (λ q. AddsDeed (known_by s) (did_pop (view s).number q) (known_by x)) its deed)

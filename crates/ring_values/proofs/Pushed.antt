@@ -38,7 +38,8 @@ value_is {T} held slot x y e f = ap value_or (sym e ∙ f)
     value_or ((i, Some z) ∷ xs) = z
 
 -- a cause is one still, where its seat knows the same and its head is where it was
-caused_still : {T : Type 0} (z : Layout) (s x t : Seat T) (turns : ℕ) → view t ≡ view x → t.head ≡ x.head → (refusal : Refusal) → ring.PushRefused z s x turns refusal → ring.PushRefused z s t turns refusal
+caused_still : {T : Type 0} (z : Layout) (s x t : Seat T) (turns : ℕ) → view t ≡ view x → t.head ≡ x.head → (refusal : Refusal)
+    → ring.PushRefused z s x turns refusal → ring.PushRefused z s t turns refusal
 caused_still z s x t turns same head NoNode c = (c.0, subst (λ (w : SeatView). IsFull z w.seen) (sym same) c.1)
 caused_still z s x t turns same head (WornOut OfTail) c = (c.0, subst (λ (w : SeatView). IsWorn z w.seen) (sym same) c.1)
 caused_still z s x t turns same head Busy c = (c.0, subst (λ (n : ℕ). s.head + turns ≤ n) (sym head) c.1)
@@ -46,8 +47,10 @@ caused_still z s x t turns same head Closed c = subst (λ (w : SeatView). LeadsT
 caused_still z s x t turns same head _ c = absurd c
 
 -- the push of a slot's number was refused, and then the value came out of the slot, which was given back
-pub put_back : {T : Type 0} (r : RingQueue T) (s x y t : Seat T) (slot turns : ℕ) (refusal : Refusal) (value : T) → IsRingSeat r t → HasNoSlot t → KeepsName s x → KeepsSlots s x → KeepsKnown x y → KeepsKnown y t → HasSlot r.plan x slot (Some value)
-    → numbers.PushRefused (known_of s) refusal (known_of x) → StopsPush refusal → ring.PushRefused r.plan s x turns refusal → PutsSlot r s t slot turns (Err (record { refusal = refusal; value = value }))
+pub put_back : {T : Type 0} (r : RingQueue T) (s x y t : Seat T) (slot turns : ℕ) (refusal : Refusal) (value : T) → IsRingSeat r t → HasNoSlot t
+    → KeepsName s x → KeepsSlots s x → KeepsKnown x y → KeepsKnown y t → HasSlot r.plan x slot (Some value)
+    → numbers.PushRefused (known_of s) refusal (known_of x) → StopsPush refusal → ring.PushRefused r.plan s x turns refusal
+    → PutsSlot r s t slot turns (Err (record { refusal = refusal; value = value }))
 put_back r s x y t slot turns refusal value ready none name kept k l has refused stops caused =
     let same : view t ≡ view x = l.view ∙ k.view in
     record {

@@ -45,7 +45,8 @@ words-push permits numbers words n p a has = record {
         subst (λ k. get_or (words ++ number_of p ∷ []) k 0 ≡ number_of p) (sym e) (get_or-append_seam words (number_of p) [] 0),
         subst (λ k. HasPart permits k p) (sym (ap (λ k. get_or (numbers ++ n ∷ []) k 0) (e ∙ a.sized) ∙ get_or-append_seam numbers n [] 0)) has,
       ))
-      (λ other. let near : i < length words = omega (arith, l, length-append words (number_of p ∷ []), other) in let near' : i < length numbers = omega (arith, near, a.sized) in let old = a.parts i near in (
+      (λ other. let near : i < length words = omega (arith, l, length-append words (number_of p ∷ []), other) in let near' : i < length numbers =
+      omega (arith, near, a.sized) in let old = a.parts i near in (
         old.0,
         get_or-append words (number_of p ∷ []) 0 i near ∙ old.1,
         subst (λ k. HasPart permits k old.0) (sym (get_or-append numbers (n ∷ []) 0 i near')) old.2,

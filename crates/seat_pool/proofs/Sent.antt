@@ -28,12 +28,28 @@ use Rattle.std.specs.declared.alloc.Allocator as alloc
 
 module _ (S V K P A : RattleType) (r : rule.Ghosts P.Denot S.Denot V.Denot K.Denot) (a : alloc.Ghosts A.Denot) (ss : IsSend S) (send : IsSend A) (sync : IsSync A) (f : Frees a a.dealloc_token) where
   its_send : IsSend (table.the_row S V K P A r a)
-  its_send = declared_send (table.the_type S V K P A r a)
-      (table_send S V K P r ss, (as_row_send usize-field (search sendable), (as_row_send usize-field (search sendable), (lease_send u64 A a send f, (lease_send S A a send f, (as_row_send (row_field A) send, tt))))))
+  its_send = declared_send (table.the_type S V K P A r a) (
+    table_send S V K P r ss,
+    (
+      as_row_send usize-field (search sendable),
+      (
+        as_row_send usize-field (search sendable),
+        (lease_send u64 A a send f, (lease_send S A a send f, (as_row_send (row_field A) send, tt))),
+      ),
+    ),
+  )
 
   its_sync : IsSync (table.the_row S V K P A r a)
-  its_sync = declared_sync (table.the_type S V K P A r a)
-      (table_sync S V K P r ss, (as_row_sync usize-field (search sendable), (as_row_sync usize-field (search sendable), (lease_sync u64 A a send f, (lease_sync S A a send f, (as_row_sync (row_field A) sync, tt))))))
+  its_sync = declared_sync (table.the_type S V K P A r a) (
+    table_sync S V K P r ss,
+    (
+      as_row_sync usize-field (search sendable),
+      (
+        as_row_sync usize-field (search sendable),
+        (lease_sync u64 A a send f, (lease_sync S A a send f, (as_row_sync (row_field A) sync, tt))),
+      ),
+    ),
+  )
 
 module _ (Q S : RattleType) (fifo : Ghosts Q.Denot S.Denot) (send : IsSend Q) (sync : IsSync Q) (seat : IsSend S) where
   home_send : IsSend (home.the_row Q S)
@@ -46,10 +62,24 @@ module _ (Q S : RattleType) (fifo : Ghosts Q.Denot S.Denot) (send : IsSend Q) (s
   slot = search sendable depth 12
 
   store_send : IsSend (store.the_row Q S fifo)
-  store_send = declared_send (store.the_type Q S fifo) (home_send, (its_send (option.the_row S) (home.the_row Q S) (home.the_row Q S) (places.the_row Q) global.the_row (kept.ghosts Q S fifo kept.no_dict kept.no_dict kept.no_dict) ghosts slot heap.send heap.sync frees, tt))
+  store_send = declared_send (store.the_type Q S fifo) (
+    home_send,
+    (
+      its_send (option.the_row S) (home.the_row Q S) (home.the_row Q S)
+          (places.the_row Q) global.the_row (kept.ghosts Q S fifo kept.no_dict kept.no_dict kept.no_dict) ghosts slot heap.send heap.sync frees,
+      tt,
+    ),
+  )
 
   store_sync : IsSync (store.the_row Q S fifo)
-  store_sync = declared_sync (store.the_type Q S fifo) (home_sync, (its_sync (option.the_row S) (home.the_row Q S) (home.the_row Q S) (places.the_row Q) global.the_row (kept.ghosts Q S fifo kept.no_dict kept.no_dict kept.no_dict) ghosts slot heap.send heap.sync frees, tt))
+  store_sync = declared_sync (store.the_type Q S fifo) (
+    home_sync,
+    (
+      its_sync (option.the_row S) (home.the_row Q S) (home.the_row Q S)
+          (places.the_row Q) global.the_row (kept.ghosts Q S fifo kept.no_dict kept.no_dict kept.no_dict) ghosts slot heap.send heap.sync frees,
+      tt,
+    ),
+  )
 
   pub pool_send : IsSend (pool.the_row Q S fifo)
   pool_send = declared_send (pool.the_type Q S fifo) (Arc-send (store.the_row Q S fifo) store_send store_sync, tt)
@@ -58,8 +88,13 @@ module _ (Q S : RattleType) (fifo : Ghosts Q.Denot S.Denot) (send : IsSend Q) (s
   pool_sync = declared_sync (pool.the_type Q S fifo) (Arc-sync (store.the_row Q S fifo) store_send store_sync, tt)
 
   held_send : IsSend (held.the_row Q S fifo)
-  held_send = declared_send (held.the_type Q S fifo)
-      (search (crosses, sendable), (token_send (option.the_row S) (home.the_row Q S) slot, (as_row_send (row_field S) seat, (as_row_send usize-field (search sendable), (as_row_send part.the_field (search sendable depth 20), tt)))))
+  held_send = declared_send (held.the_type Q S fifo) (
+    search (crosses, sendable),
+    (
+      token_send (option.the_row S) (home.the_row Q S) slot,
+      (as_row_send (row_field S) seat, (as_row_send usize-field (search sendable), (as_row_send part.the_field (search sendable depth 20), tt))),
+    ),
+  )
 
   -- a lease may go to a thread
   pub leased_send : IsSend (lease.the_row Q S fifo)

@@ -12,5 +12,6 @@ module _ (bits : ℕ) (s : Shared) (r : Contents) where
   links_text-more zero some there = absurd (omega (arith, some))
   links_text-more (suc n) some there =
       let less : suc n - 1 ≡ n = omega arith in
-      ap (λ (b : Bool). if b then rest_text r else arrow_text (tail_node bits s) (node_in r) ++ decimal (node_in r) ++ links_text bits s n (contents_in bits (Next (node_in r)) s)) (ne_eqb (node_in r) 0 there)
+      ap (λ (b : Bool). if b then rest_text r else arrow_text (tail_node bits s) (node_in r) ++ decimal (node_in r) ++ links_text bits s n
+      (contents_in bits (Next (node_in r)) s)) (ne_eqb (node_in r) 0 there)
       ∙ ap (λ (k : ℕ). arrow_text (tail_node bits s) (node_in r) ++ decimal (node_in r) ++ links_text bits s k (contents_in bits (Next (node_in r)) s)) (sym less)

@@ -15,7 +15,8 @@ use Rattle.show_engine.specs.declared.framing.View.{View}
 use Rattle.show_engine.specs.Found.{BeginsFound, DrawsFound}
 use Rattle.show_engine.specs.Reasons.{found_picture}
 
-module _ {A : Type 0} (view : View) (given : Option (List ℕ)) (text : List ℕ) (ops : List Stamped) (answer : Placed) (steps : ℕ) (a b : SinkState) (result : Result A Refusal) (history : IsRecordOf given text ops) (answers : IsAnswer ops answer) (cause : HasCause ops steps answer) where
+module _ {A : Type 0} (view : View) (given : Option (List ℕ)) (text : List ℕ) (ops : List Stamped) (answer : Placed) (steps : ℕ) (a b : SinkState)
+    (result : Result A Refusal) (history : IsRecordOf given text ops) (answers : IsAnswer ops answer) (cause : HasCause ops steps answer) where
   pub draws_found : OnOk result (Appends a.contents b.contents (found_picture view text ops answer)) → OnOk result (DrawsFound view given steps a b)
   draws_found =
       on_ok_weaker result

@@ -1,5 +1,6 @@
 -- Texts that are truncated where a row ends.
-use Rattle.std.proofs.Common.{◌≡◌, ℕ, ◌+◌, ◌-◌, ◌<◌, ◌≤◌, suc, Bool, true, false, List, [], ◌∷◌, ◌++◌, length, take, replicate, refl, sym, ap, ◌∙◌, arith, length-append, if◌then◌else◌, decimal, nat_eq}
+use Rattle.std.proofs.Common.{◌≡◌, ℕ, ◌+◌, ◌-◌, ◌<◌, ◌≤◌, suc, Bool, true, false, List, [], ◌∷◌, ◌++◌, length, take, replicate, refl, sym, ap, ◌∙◌}
+use Rattle.std.proofs.Common.{arith, length-append, if◌then◌else◌, decimal, nat_eq}
 use Rattle.std.specs.Prelude.{leb}
 use Rattle.std.proofs.lemmas.List.{append-nil, length-replicate, length-take-le, take_all, take-append-le}
 use Rattle.std.proofs.lemmas.Bool.{leb-true, leb-false}

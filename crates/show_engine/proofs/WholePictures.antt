@@ -13,7 +13,9 @@ use Rattle.show_engine.specs.Reasons.{beside_text, operations_at, reason_picture
 use Rattle.show_engine.specs.Scales.{is_shown}
 use Rattle.show_engine.proofs.RowsBeside.{rows_beside-same}
 
-module _ (view : View) (text : List ℕ) (ops : List Stamped) (reason : Reason) (s : Scale) (lines : List (List ℕ)) (places rising : List ℕ) (places_are : places ≡ places_of reason) (scale_is : s ≡ scale_beside view (operations_at ops places)) (same : AreRising places rising) (lines_are : lines ≡ lines_in text) where
+module _ (view : View) (text : List ℕ) (ops : List Stamped) (reason : Reason) (s : Scale) (lines : List (List ℕ)) (places rising : List ℕ)
+    (places_are : places ≡ places_of reason) (scale_is : s ≡ scale_beside view (operations_at ops places)) (same : AreRising places rising)
+    (lines_are : lines ≡ lines_in text) where
   -- the rows and the last line are those of the reason's operations
   rows_of_reason : rows_beside s lines (header_of text) rising 1 ops ++ times_text s (count_by (is_shown s) ops) (length ops)
       ≡ beside_text (scale_beside view (operations_at ops (places_of reason))) text ops (places_of reason)

@@ -38,14 +38,16 @@ module _ {T : Type 0} (r : Arena) (s : Seat T) (prologue : Prologue) (b : ℕ) w
   pub kept_it : (t : Seat T) (p old new n : ℕ) → MayPush r s prologue b (exchange_at p old new) → HasValue r s b → DidStep r s t prologue E9 n → n ≢ old → KeepsSlots s t
   kept_it t p old new n may has did lost = moved_nothing r s t prologue E9 n did has.1.carries (lost_adds r s t prologue E9 p old new n may.line may.access did lost)
 
-  pub popped_it : (t : Seat T) (p old new n : ℕ) → MayPop r s prologue b (exchange_at p old new) → HasNoSlot s → carries_of r ≡ true → DidStep r s t prologue D13 n → n ≡ old → (x : T) × HasSlot r t b (Some x) × PoppedIt s t x
+  pub popped_it : (t : Seat T) (p old new n : ℕ) → MayPop r s prologue b (exchange_at p old new) → HasNoSlot s → carries_of r ≡ true
+      → DidStep r s t prologue D13 n → n ≡ old → (x : T) × HasSlot r t b (Some x) × PoppedIt s t x
   popped_it t p old new n may none_out carries did won =
       let added = won_pop r s t prologue p old new n may.line may.access did won in
       let a = after_prologue r.plan.setup (view s).number prologue (view s).actor in
       let moved = moved_pop r s t prologue D13 n did carries (view s).number a.val added none_out in
       (moved.0, subst (λ (k : ℕ). HasSlot r t k (Some moved.0)) may.carried moved.1, (a.val.from, moved.2))
 
-  pub missed_it : (t : Seat T) (p old new n : ℕ) → MayPop r s prologue b (exchange_at p old new) → HasNoSlot s → carries_of r ≡ true → DidStep r s t prologue D13 n → n ≢ old → HasNoSlot t × SeesMoreDeeds s t
+  pub missed_it : (t : Seat T) (p old new n : ℕ) → MayPop r s prologue b (exchange_at p old new) → HasNoSlot s → carries_of r ≡ true
+      → DidStep r s t prologue D13 n → n ≢ old → HasNoSlot t × SeesMoreDeeds s t
   missed_it t p old new n may none_out carries did lost =
       let kept = moved_nothing r s t prologue D13 n did carries (lost_adds r s t prologue D13 p old new n may.line may.access did lost) in
       ((ap length kept.same ∙ none_out.0, ap slots_in kept.hand ∙ none_out.1), kept.more)

@@ -45,7 +45,8 @@ module _ (all : Range) (waiting : List Range) (total : ℕ) (given : List Range)
       record { ranges = omega (arith, was, split, more); sums = h.sums; parts = h.parts }
 
   -- a part was told
-  pub adds_told : (waiting' : List Range) (total' : ℕ) (d : Told) → Adds all waiting total given told → part d → sum_by squares_of waiting' ≡ sum_by squares_of waiting + made d → total' ≡ total + added d
+  pub adds_told : (waiting' : List Range) (total' : ℕ) (d : Told) → Adds all waiting total given told → part d
+      → sum_by squares_of waiting' ≡ sum_by squares_of waiting + made d → total' ≡ total + added d
       → Adds all waiting' total' given (told ++ d ∷ [])
   adds_told waiting' total' d h fine wait add =
       let was = h.ranges in

@@ -116,4 +116,5 @@ module _ {Q S T : Type 0} {is_seat : Q → S → Type 0} {permits : Q → List P
             -- and each is answered where a worker found the queue shut and empty
             pub answered_so : {ends : List End} → ends ≡ map end_in ws → Any IsFinished ends → All IsAnswered os
             answered_so is any =
-                all_answered is_seat permits known answers queue seats takers giver split crew tasks.items (slots_in gather) new done.led ws here.led here.back rest closed (subst (Any IsFinished) is any) os told'
+                all_answered is_seat permits known answers queue seats takers giver split crew tasks.items (slots_in gather) new done.led ws here.led
+                here.back rest closed (subst (Any IsFinished) is any) os told'

@@ -1,5 +1,6 @@
 -- What is told of each task once the submitter and each worker have brought their seats back, and the queue is closed.
-use Rattle.std.proofs.Common.{◌≡◌, ◌∙◌, ◌+◌, ◌<◌, ◌≤◌, inl, inr, sym, refl, ap, subst, ℕ, zero, suc, List, [], ◌∷◌, ◌++◌, map, length, replicate, Option, Some, None, IsSomeAnd, slice_get, append-nil, length-append, eq-or-lt_of_le, arith}
+use Rattle.std.proofs.Common.{◌≡◌, ◌∙◌, ◌+◌, ◌<◌, ◌≤◌, inl, inr, sym, refl, ap, subst, ℕ, zero, suc, List, [], ◌∷◌, ◌++◌, map, length, replicate}
+use Rattle.std.proofs.Common.{Option, Some, None, IsSomeAnd, slice_get, append-nil, length-append, eq-or-lt_of_le, arith}
 use Rattle.std.specs.Global.{Vec}
 use Rattle.std.specs.List.{All, AllZip, Any, flat_map}
 use mathlib.Core.List.{IsPrefix}
@@ -44,7 +45,8 @@ tells-lists [] = refl
 tells-lists (w ∷ ws) = ap (λ l. map told_done w.done.items ++ l) (tells-lists ws)
 
 module _ {Q S T A : Type 0} (is_seat : Q → S → Type 0) (permits : Q → List Permit) (known : S → KnownOf (Numbered T)) (answers : T → A → Type 0) (queue : Q) where
-  pops_of : (ss : List S) (ws : List (Worked S A)) → AllZip (IsBack is_seat known answers queue) ss ws → ((s : S) → Lies s ss → (known s).mine ≡ []) → AllZip (Pops (OfItem answers)) (map known (map seat_in ws)) (map (λ (w : Worked S A). w.done.items) ws)
+  pops_of : (ss : List S) (ws : List (Worked S A)) → AllZip (IsBack is_seat known answers queue) ss ws → ((s : S) → Lies s ss → (known s).mine ≡ [])
+      → AllZip (Pops (OfItem answers)) (map known (map seat_in ws)) (map (λ (w : Worked S A). w.done.items) ws)
   pops_of [] [] h unused = tt
   pops_of [] (w ∷ ws) h unused = absurd h
   pops_of (s ∷ ss) [] h unused = absurd h
@@ -54,7 +56,8 @@ module _ {Q S T A : Type 0} (is_seat : Q → S → Type 0) (permits : Q → List
       let same = sym b.number in
       (record { items = b.ran.items; mine = b.ran.mine ∙ (λ i. none i ++ map (did_pop (same i)) b.ran.items); done = b.ran.done }, pops_of ss ws h.1 (λ x lies. unused x (inr lies)))
 
-  numbers_of : (ss : List S) (ws : List (Worked S A)) → AllZip (IsBack is_seat known answers queue) ss ws → (k : ℕ) (s : S) → slice_get ss k ≡ Some s → IsSomeAnd (slice_get (map known (map seat_in ws)) k) (λ k'. k'.number ≡ (known s).number)
+  numbers_of : (ss : List S) (ws : List (Worked S A)) → AllZip (IsBack is_seat known answers queue) ss ws → (k : ℕ) (s : S) → slice_get ss k ≡ Some s
+      → IsSomeAnd (slice_get (map known (map seat_in ws)) k) (λ k'. k'.number ≡ (known s).number)
   numbers_of [] ws h k s at = absurd (let e : None ≡ Some s = at in cc)
   numbers_of (t ∷ ss) [] h k s at = absurd h
   numbers_of (t ∷ ss) (w ∷ ws) h zero s at = h.0.number ∙ ap (λ x. (known x).number) (some_same t s at)
@@ -139,7 +142,8 @@ module _ {Q S T A : Type 0} (is_seat : Q → S → Type 0) (permits : Q → List
 
     -- what is told is what the submitter's, the workers' and the left tasks tell
     abbrev all_filled : List (Option (Outcome T A))
-    all_filled = telling.filled answers tasks g ks leads.offered.pushed leads.offered.ran dss pushes pops leads.offered.of leads.offered.answered leads.offered.each closed.history (was_shut_in rest) (left_in rest) closed.runs closed.own theirs
+    all_filled = telling.filled answers tasks g ks leads.offered.pushed leads.offered.ran dss pushes pops leads.offered.of leads.offered.answered
+        leads.offered.each closed.history (was_shut_in rest) (left_in rest) closed.runs closed.own theirs
 
     same_told : told_of (slots_in led.gather) (map done_in workers) (left_in rest) ≡ all_filled
     same_told =
@@ -159,13 +163,15 @@ module _ {Q S T A : Type 0} (is_seat : Q → S → Type 0) (permits : Q → List
 
     low_done : (w : Worked S A) → Lies w workers → (d : Done A) → Lies d w.done.items → d.number < length (slots_in led.gather)
     low_done w seat d lies =
-        let t = telling.of_done answers tasks g ks leads.offered.pushed leads.offered.ran dss pushes pops leads.offered.of leads.offered.answered leads.offered.each closed.history (was_shut_in rest) (left_in rest) closed.runs closed.own theirs
+        let t = telling.of_done answers tasks g ks leads.offered.pushed leads.offered.ran dss pushes pops leads.offered.of leads.offered.answered
+        leads.offered.each closed.history (was_shut_in rest) (left_in rest) closed.runs closed.own theirs
         w.done.items d (lies-map (λ (w : Worked S A). w.done.items) w workers seat) lies in
         subst (λ n. d.number < n) (sym long) (place_low tasks d.number t.task t.at)
 
     low_left : (x : ItemOf (Numbered T)) → Lies x (left_in rest) → x.value.number < length (slots_in led.gather)
     low_left x lies =
-        let t = telling.of_left answers tasks g ks leads.offered.pushed leads.offered.ran dss pushes pops leads.offered.of leads.offered.answered leads.offered.each closed.history (was_shut_in rest) (left_in rest) closed.runs closed.own theirs x lies in
+        let t = telling.of_left answers tasks g ks leads.offered.pushed leads.offered.ran dss pushes pops leads.offered.of leads.offered.answered
+        leads.offered.each closed.history (was_shut_in rest) (left_in rest) closed.runs closed.own theirs x lies in
         subst (λ n. x.value.number < n) (sym long) (place_low tasks x.value.number t.task t.at)
 
     -- each slot can be filled
@@ -176,12 +182,15 @@ module _ {Q S T A : Type 0} (is_seat : Q → S → Type 0) (permits : Q → List
               (all-lies (λ (w : Worked S A). All (λ (d : Done A). d.number < length (slots_in led.gather)) w.done.items) workers
               (λ w seat. all-lies (λ (d : Done A). d.number < length (slots_in led.gather)) w.done.items (low_done w seat)));
           left_within = all-lies (λ (x : ItemOf (Numbered T)). x.value.number < length (slots_in led.gather)) (left_in rest) low_left;
-          filled = subst (All IsFilled) (sym same_told) (telling.each_filled answers tasks g ks leads.offered.pushed leads.offered.ran dss pushes pops leads.offered.of leads.offered.answered leads.offered.each closed.history (was_shut_in rest) (left_in rest) closed.runs closed.own theirs);
+          filled = subst (All IsFilled) (sym same_told) (telling.each_filled answers tasks g ks leads.offered.pushed leads.offered.ran dss pushes pops
+              leads.offered.of leads.offered.answered leads.offered.each closed.history (was_shut_in rest) (left_in rest) closed.runs closed.own
+              theirs);
         }
 
     -- and then tells of its own task
     pub are_told : (os : List (Outcome T A)) → map (λ o. Some o) os ≡ told_of (slots_in led.gather) (map done_in workers) (left_in rest) → AreTold answers tasks os
-    are_told os same = telling.each_told answers tasks g ks leads.offered.pushed leads.offered.ran dss pushes pops leads.offered.of leads.offered.answered leads.offered.each closed.history (was_shut_in rest) (left_in rest) closed.runs closed.own theirs os (same ∙ same_told)
+    are_told os same = telling.each_told answers tasks g ks leads.offered.pushed leads.offered.ran dss pushes pops leads.offered.of
+        leads.offered.answered leads.offered.each closed.history (was_shut_in rest) (left_in rest) closed.runs closed.own theirs os (same ∙ same_told)
 
     -- where a worker found the queue shut and empty no task is left
     pub none_left : Any IsFinished (map end_in workers) → left_in rest ≡ []
@@ -191,10 +200,12 @@ module _ {Q S T A : Type 0} (is_seat : Q → S → Type 0) (permits : Q → List
         let b = zip-right (IsBack is_seat known answers queue) takers workers w.0 back w.1 in
         let k : KnownOf (Numbered T) = known w.0.seat in
         let ended : EndsSo k Finished = subst (EndsSo k) (w.2 ∙ any.4) b.2.ended in
-        let begins = lies-all (λ (k : KnownOf (Numbered T)). IsPrefix k.seen closed.history) k (g ∷ ks) closed.begins (inr (lies-map known w.0.seat (map seat_in workers) (lies-map seat_in w.0 workers w.1))) in
+        let begins = lies-all (λ (k : KnownOf (Numbered T)). IsPrefix k.seen closed.history) k (g ∷ ks) closed.begins
+        (inr (lies-map known w.0.seat (map seat_in workers) (lies-map seat_in w.0 workers w.1))) in
         left_none k.seen closed.history (left_in rest) (was_shut_in rest) begins ended closed.runs
 
-    answered_all : left_in rest ≡ [] → (p : ℕ × Outcome T A) → Lies p (map told_done leads.offered.ran ++ (flat_map (λ (ds : List (Done A)). map told_done ds) dss ++ map told_left (left_in rest))) → IsAnswered p.1
+    answered_all : left_in rest ≡ [] → (p : ℕ × Outcome T A) → Lies p (map told_done leads.offered.ran ++
+        (flat_map (λ (ds : List (Done A)). map told_done ds) dss ++ map told_left (left_in rest))) → IsAnswered p.1
     answered_all none p lies =
         let ran = map told_done leads.offered.ran in
         let done : List (ℕ × Outcome T A) = flat_map (λ (ds : List (Done A)). map told_done ds) dss in

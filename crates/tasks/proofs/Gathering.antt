@@ -52,7 +52,9 @@ module _ {T A : Type 0} where
   -- a slot is filled under whose number something was put
   pub fills-filled : (ss : List (Option (Outcome T A))) (ps : List (ℕ × Outcome T A)) (p : ℕ × Outcome T A) → Lies p ps → p.0 < length ss → Filled (fills ss ps) p.0
   fills-filled ss [] p h low = absurd h
-  fills-filled ss (q ∷ ps) p (inl e) low = fills-keeps (set ss q.0 (Some q.1)) ps p.0 (subst (λ n. Filled (set ss q.0 (Some q.1)) n) (ap (λ (r : ℕ × Outcome T A). r.0) e) (set-filled ss q.0 q.1 (subst (λ n. n < length ss) (sym (ap (λ (r : ℕ × Outcome T A). r.0) e)) low)))
+  fills-filled ss (q ∷ ps) p (inl e) low = fills-keeps (set ss q.0 (Some q.1)) ps p.0
+      (subst (λ n. Filled (set ss q.0 (Some q.1)) n) (ap (λ (r : ℕ × Outcome T A). r.0) e)
+      (set-filled ss q.0 q.1 (subst (λ n. n < length ss) (sym (ap (λ (r : ℕ × Outcome T A). r.0) e)) low)))
   fills-filled ss (q ∷ ps) p (inr h) low = fills-filled (set ss q.0 (Some q.1)) ps p h (subst (λ n. p.0 < n) (sym (length-set ss q.0 (Some q.1))) low)
 
   -- each slot is filled

@@ -150,7 +150,8 @@ module _ {N B : Type 0} (R : ItemOf N → B → Type 0) (g : KnownOf N) (ks : Li
   done_or_left v lies =
       let d : Deed N = did_push g.number v in
       let x : ItemOf N = item g.number v in
-      let there = of_history g d (inl refl) (subst (λ ds. Lies d ds) (sym pushes.mine) (lies-left d (map (did_push g.number) pushed) (map did_shut pushes.shuts) (lies-map (did_push g.number) v pushed lies))) in
+      let there = of_history g d (inl refl) (subst (λ ds. Lies d ds) (sym pushes.mine)
+      (lies-left d (map (did_push g.number) pushed) (map did_shut pushes.shuts) (lies-map (did_push g.number) v pushed lies))) in
       let value = lies-flat value_pushed x d history there (inl refl) in
       elim (lies-cases x (values_popped history) left (subst (λ xs. Lies x xs) (pushed-RunsTo history shut left runs) value)) [
         | inl h ↦ (

@@ -81,11 +81,19 @@ module _ {T A : Type 0} (answers : T → A → Type 0) where
               elim (done_or_left OfItem g ks pushed dss pushes pops history shut left runs ours theirs v (any-lies pushed a.0 v a.2 a.3)) [
                 | inl r ↦ (
                     let d = r.2 in
-                    let lies = lies-flat (λ (ds : List (Done A)). map told_done ds) (told_done d) r.0 dss r.1 (lies-map told_done d r.0 r.3) in
-                    (told_done d, lies-right (told_done d) (map told_done ran) (tell_done ++ tell_left) (lies-left (told_done d) tell_done tell_left lies), r.6.number ∙ ap (λ (y : Numbered T). y.number) r.5 ∙ a.4))
+                    let lies = lies-flat (λ (ds : List (Done A)). map told_done ds) (told_done d) r.0 dss r.1 (lies-map told_done d r.0 r.3) in (
+                      told_done d,
+                      lies-right (told_done d) (map told_done ran) (tell_done ++ tell_left)
+                          (lies-left (told_done d) tell_done tell_left lies),
+                      r.6.number ∙ ap (λ (y : Numbered T). y.number) r.5 ∙ a.4,
+                    ))
                 | inr r ↦ (
-                    let x = r.0 in
-                    (told_left x, lies-right (told_left x) (map told_done ran) (tell_done ++ tell_left) (lies-right (told_left x) tell_done tell_left (lies-map told_left x left r.2)), ap (λ (y : Numbered T). y.number) r.1 ∙ a.4))
+                    let x = r.0 in (
+                      told_left x,
+                      lies-right (told_left x) (map told_done ran) (tell_done ++ tell_left)
+                          (lies-right (told_left x) tell_done tell_left (lies-map told_left x left r.2)),
+                      ap (λ (y : Numbered T). y.number) r.1 ∙ a.4,
+                    ))
               ])
           | inr a ↦ (
               let d = a.1 in
@@ -104,7 +112,8 @@ module _ {T A : Type 0} (answers : T → A → Type 0) where
         all_filled filled (λ n low.
         let r = there n (subst (λ m. n < m) long low) in
         let p = r.0 in
-        let few : p.0 < length (replicate (length tasks) None) = subst (λ m. p.0 < m) (sym (length-replicate (length tasks) None)) (subst (λ m. m < length tasks) (sym r.2) (subst (λ m. n < m) long low)) in
+        let few : p.0 < length (replicate (length tasks) None) = subst (λ m. p.0 < m) (sym (length-replicate (length tasks) None))
+        (subst (λ m. m < length tasks) (sym r.2) (subst (λ m. n < m) long low)) in
         subst (Filled filled) r.2 (fills-filled (replicate (length tasks) None) tell_all p r.1 few))
 
     -- and tells of its own task

@@ -1,5 +1,6 @@
 -- What a worker has run, and what the submitter has offered, after one more.
-use Rattle.std.proofs.Common.{◌≡◌, ◌∙◌, ◌+◌, ◌⊎◌, inl, inr, sym, refl, ap, subst, ℕ, zero, suc, List, [], ◌∷◌, ◌++◌, map, length, drop, set, Option, Some, None, slice_get, append-nil, append_assoc, below_more, arith}
+use Rattle.std.proofs.Common.{◌≡◌, ◌∙◌, ◌+◌, ◌⊎◌, inl, inr, sym, refl, ap, subst, ℕ, zero, suc, List, [], ◌∷◌, ◌++◌, map, length, drop, set, Option}
+use Rattle.std.proofs.Common.{Some, None, slice_get, append-nil, append_assoc, below_more, arith}
 use Rattle.std.specs.List.{Any}
 use Rattle.std.proofs.lemmas.List.{map-append, length-append, length-set, get_or_append_left}
 use Rattle.std.proofs.lemmas.List.Elements.{All-nil, All-push}
@@ -92,7 +93,8 @@ module _ {T A : Type 0} (answers : T → A → Type 0) where
     this = record { number = n; task = t }
 
     -- one more task was pushed
-    pub offered_push : (refused : Option Refusal) → HasOffered answers tasks n refused k k1 slots slots1 → PushedOf k1 this k2 → slots2 ≡ slots1 → HasOffered answers tasks (n + 1) refused k k2 slots slots2
+    pub offered_push : (refused : Option Refusal) → HasOffered answers tasks n refused k k1 slots slots1 → PushedOf k1 this k2 → slots2 ≡ slots1
+        → HasOffered answers tasks (n + 1) refused k k2 slots slots2
     offered_push refused h p kept =
         record {
           pushed = h.pushed ++ this ∷ [];
@@ -111,7 +113,8 @@ module _ {T A : Type 0} (answers : T → A → Type 0) where
         }
 
     -- one more task was run where it was offered
-    pub offered_ran : (refused : Option Refusal) (refusal : Refusal) → HasOffered answers tasks n refused k k1 slots slots1 → RanHere answers this k1 k2 slots1 slots2 → HasOffered answers tasks (n + 1) (Some refusal) k k2 slots slots2
+    pub offered_ran : (refused : Option Refusal) (refusal : Refusal) → HasOffered answers tasks n refused k k1 slots slots1
+        → RanHere answers this k1 k2 slots1 slots2 → HasOffered answers tasks (n + 1) (Some refusal) k k2 slots slots2
     offered_ran refused refusal h r =
         let d = r.result in
         let told : IsAnswerOf answers tasks d = record { task = t; at = ap (slice_get tasks) r.of.number ∙ at; answer = r.of.answer } in
@@ -132,11 +135,13 @@ module _ {T A : Type 0} (answers : T → A → Type 0) where
         }
 
     -- one more task was offered
-    pub offered_next : (refused refused' : Option Refusal) → HasOffered answers tasks n refused k k1 slots slots1 → OffersNext answers this refused refused' k1 k2 slots1 slots2 → HasOffered answers tasks (n + 1) refused' k k2 slots slots2
+    pub offered_next : (refused refused' : Option Refusal) → HasOffered answers tasks n refused k k1 slots slots1
+        → OffersNext answers this refused refused' k1 k2 slots1 slots2 → HasOffered answers tasks (n + 1) refused' k k2 slots slots2
     offered_next refused refused' h (inl r) = subst (λ u. HasOffered answers tasks (n + 1) u k k2 slots slots2) (sym r.0) (offered_push refused h r.1 r.2)
     offered_next refused refused' h (inr r) = subst (λ u. HasOffered answers tasks (n + 1) u k k2 slots slots2) (sym r.1) (offered_ran refused r.0 h r.2)
 
   -- there are as many slots as before
-  pub next_long : (x : Numbered T) (refused refused' : Option Refusal) (k k' : KnownOf (Numbered T)) (slots slots' : List (Option (Outcome T A))) → OffersNext answers x refused refused' k k' slots slots' → length slots' ≡ length slots
+  pub next_long : (x : Numbered T) (refused refused' : Option Refusal) (k k' : KnownOf (Numbered T)) (slots slots' : List (Option (Outcome T A)))
+      → OffersNext answers x refused refused' k k' slots slots' → length slots' ≡ length slots
   next_long x refused refused' k k' slots slots' (inl r) = ap length r.2
   next_long x refused refused' k k' slots slots' (inr r) = ap length r.2.put ∙ length-set slots r.2.result.number (Some (Answered r.2.result.answer))

@@ -37,7 +37,8 @@ module _ (each : World → World → Move → List ℕ) (a b : SinkState) (text 
       ap (λ (ms : List Move). world_after ms start) (t.split ∙ ap (λ (ms : List Move). t.before ++ ms) none ∙ append-nil t.before) ∙ t.led
 
   -- some more were made and told
-  pub HasTold-more : (c : SinkState) (w v : World) (held after : List ℕ) (left chunk rest : List Move) → HasTold each a b text start moves w held left → left ≡ chunk ++ rest → world_after chunk w ≡ Some v
+  pub HasTold-more : (c : SinkState) (w v : World) (held after : List ℕ) (left chunk rest : List Move) → HasTold each a b text start moves w held left
+      → left ≡ chunk ++ rest → world_after chunk w ≡ Some v
       → Sends b.contents c.contents (held ++ moves_text each chunk w) after → c.failures ≡ b.failures → HasTold each a c text start moves v after rest
   HasTold-more c w v held after left chunk rest t parts led sends quiet =
       let more = Sends-trans a.contents b.contents c.contents (text ++ moves_text each t.before start) held (moves_text each chunk w) after t.sends sends in
@@ -52,7 +53,8 @@ module _ (each : World → World → Move → List ℕ) (a b : SinkState) (text 
       }
 
   -- where the telling of some stopped, a prefix of the whole was told
-  pub HasTold-stopped : (c : SinkState) (w v : World) (held : List ℕ) (left chunk rest : List Move) → HasTold each a b text start moves w held left → left ≡ chunk ++ rest → world_after chunk w ≡ Some v
+  pub HasTold-stopped : (c : SinkState) (w v : World) (held : List ℕ) (left chunk rest : List Move) → HasTold each a b text start moves w held left
+      → left ≡ chunk ++ rest → world_after chunk w ≡ Some v
       → TakesPrefix b.contents c.contents (held ++ moves_text each chunk w) → TakesPrefix a.contents c.contents (text ++ moves_text each moves start)
   HasTold-stopped c w v held left chunk rest t parts led begun =
       let some = TakesPrefix-trans a.contents b.contents c.contents (text ++ moves_text each t.before start) held (moves_text each chunk w) t.sends begun in
@@ -106,7 +108,8 @@ pub TakesPrefix-none : (a : SinkState) (text : List ℕ) → TakesPrefix a.conte
 TakesPrefix-none a text = (text, Sends-none a.contents text)
 
 -- what is refused is told
-pub Tells-refused : {A : Type 0} (a b : SinkState) (text held : List ℕ) (refusal : Refusal) → TakesPrefix a.contents b.contents text → StopsTelling refusal a b → Tells {A = A} a b text held (Err refusal)
+pub Tells-refused : {A : Type 0} (a b : SinkState) (text held : List ℕ) (refusal : Refusal) → TakesPrefix a.contents b.contents text
+    → StopsTelling refusal a b → Tells {A = A} a b text held (Err refusal)
 Tells-refused a b text held refusal begun stops = record { ok = tt; quiet = tt; prefix = begun; cause = stops }
 
 -- what is put is told
@@ -120,7 +123,8 @@ Tells-written a b text (Ok done) writes = record { ok = Sends-all a.contents b.c
 Tells-written a b text (Err refusal) writes = record { ok = tt; quiet = tt; prefix = writes.prefix; cause = StopsTelling-write a b refusal writes.only_write writes.cause }
 
 -- the moves of one event more, which are these
-module _ (each : World → World → Move → List ℕ) (a b c : SinkState) (text : List ℕ) (start : World) (events : List Event) (i : ℕ) (event : Event) (within : i < length events) (is : event ≡ get_or events i event) (w : World) (held : List ℕ)
+module _ (each : World → World → Move → List ℕ) (a b c : SinkState) (text : List ℕ) (start : World) (events : List Event) (i : ℕ) (event : Event)
+    (within : i < length events) (is : event ≡ get_or events i event) (w : World) (held : List ℕ)
     (chunk : List Move) (same : chunk ≡ moves_of_event event) (told : HasTold each a b text start (moves_of events) w held (moves_of (drop i events))) where
   parts : moves_of (drop i events) ≡ chunk ++ moves_of (drop (i + 1) events)
   parts = moves_of-drop events i event within is ∙ ap (λ (ms : List Move). ms ++ moves_of (drop (i + 1) events)) (sym same)
@@ -163,7 +167,8 @@ Tells-then a b c text held more after (Err refusal) sends quiet tells = record {
 }
 
 -- where the telling of a text is refused, so is that of a longer one
-pub Tells-longer : {A B : Type 0} (a b : SinkState) (text held more after : List ℕ) (refusal : Refusal) → Tells {A = A} a b text held (Err refusal) → Tells {A = B} a b (text ++ more) after (Err refusal)
+pub Tells-longer : {A B : Type 0} (a b : SinkState) (text held more after : List ℕ) (refusal : Refusal) → Tells {A = A} a b text held (Err refusal)
+    → Tells {A = B} a b (text ++ more) after (Err refusal)
 Tells-longer a b text held more after refusal tells = record { ok = tt; quiet = tt; prefix = TakesPrefix-longer a.contents b.contents text more tells.prefix; cause = tells.cause }
 
 -- where a telling is refused, nothing is said of what is held back

@@ -16,7 +16,8 @@ use Rattle.trace_engine.proofs.HasCounted.{HasCounted}
 
 module _ (start : World) (events : List Event) where
   -- the next event is refused
-  pub IsCount-refused : (w : World) (i made steps : ℕ) (event : Event) (refusal : Refusal) → HasCounted start events w i → made ≡ i → i < length events → event ≡ get_or events i event → steps ≡ w.steps
+  pub IsCount-refused : (w : World) (i made steps : ℕ) (event : Event) (refusal : Refusal) → HasCounted start events w i → made ≡ i
+      → i < length events → event ≡ get_or events i event → steps ≡ w.steps
       → IsMoveRefusal refusal → EventRefused w event refusal → IsCount start events (record { made = made; steps = steps; refusal = Some refusal })
   IsCount-refused w i made steps event refusal so_far counted within is same kind refused =
       let at : i ≡ made = sym counted in

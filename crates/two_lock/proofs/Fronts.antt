@@ -1,5 +1,6 @@
 -- The lines of a pop under the lock, from B2 to B6.
-use Rattle.std.proofs.Common.{◌≡◌, ℕ, ◌+◌, Bool, true, false, nat_eq, if◌then◌else◌, Option, Some, List, [], ◌∷◌, ◌++◌, length, sym, refl, ap, subst, ◌∙◌, append-nil, append_assoc, ⊎_elim, inl, inr, ◌⊎◌}
+use Rattle.std.proofs.Common.{◌≡◌, ℕ, ◌+◌, Bool, true, false, nat_eq, if◌then◌else◌, Option, Some, List, [], ◌∷◌, ◌++◌, length, sym, refl, ap, subst}
+use Rattle.std.proofs.Common.{◌∙◌, append-nil, append_assoc, ⊎_elim, inl, inr, ◌⊎◌}
 use Rattle.counted_ref.specs.Ref.{ref_of, is_null, is_shut}
 use Rattle.line_table.specs.declared.lines.Line.{Line}
 use Rattle.line_table.specs.declared.lines.Line.TheVariants.{B2, B3, B4, B5, B6}
@@ -49,9 +50,11 @@ pub to_b6_empty : {T : Type 0} (r : Arena) (s t : Seat T) (l : Line) (a b : Runn
 to_b6_empty r s t l a b h f e = subst (λ k. CallIsAt r t continues k b) e (stands_next r s t B3 l a b h f tt)
 
 pub to_b4 : {T : Type 0} (r : Arena) (s t : Seat T) (l : Line) (a b : Running) → CallIsAt r s continues B3 a → Follows r s t continues B3 a (Goes l b) → (l ≡ B6 → ⊥) → CallIsAt r t continues B4 b
-to_b4 r s t l a b h f other = subst (λ k. CallIsAt r t continues k b) (go (is_null (ref_of r.plan.setup.bits f.found)) (is_shut r.plan.setup.bits (ref_of r.plan.setup.bits f.found)) f.leads_to) (stands_next r s t B3 l a b h f tt)
+to_b4 r s t l a b h f other = subst (λ k. CallIsAt r t continues k b) (go (is_null (ref_of r.plan.setup.bits f.found))
+    (is_shut r.plan.setup.bits (ref_of r.plan.setup.bits f.found)) f.leads_to) (stands_next r s t B3 l a b h f tt)
   where
-    go : (p q : Bool) → Goes l b ≡ (let c = record a { next = ref_of r.plan.setup.bits f.found } in if p then Goes B6 (record c { due = Some IsEmpty }) else if q then Goes B6 (record c { due = Some (IsRefused Closed) }) else Goes B4 c) → l ≡ B4
+    go : (p q : Bool) → Goes l b ≡ (let c = record a { next = ref_of r.plan.setup.bits f.found } in if p then Goes B6
+        (record c { due = Some IsEmpty }) else if q then Goes B6 (record c { due = Some (IsRefused Closed) }) else Goes B4 c) → l ≡ B4
     go true q e = absurd (other (same_line l B6 b _ e))
     go false true e = absurd (other (same_line l B6 b _ e))
     go false false e = same_line l B4 b _ e
@@ -60,7 +63,9 @@ to_b4 r s t l a b h f other = subst (λ k. CallIsAt r t continues k b) (go (is_n
 pub found_end : {T : Type 0} (r : Arena) (s t : Seat T) (l : Line) (a b : Running) → (f : Follows r s t continues B3 a (Goes l b)) → l ≡ B6 → (b.due ≡ Some IsEmpty) ⊎ (b.due ≡ Some (IsRefused Closed))
 found_end r s t l a b f is = go (is_null (ref_of r.plan.setup.bits f.found)) (is_shut r.plan.setup.bits (ref_of r.plan.setup.bits f.found)) f.leads_to
   where
-    go : (p q : Bool) → Goes l b ≡ (let c = record a { next = ref_of r.plan.setup.bits f.found } in if p then Goes B6 (record c { due = Some IsEmpty }) else if q then Goes B6 (record c { due = Some (IsRefused Closed) }) else Goes B4 c) → (b.due ≡ Some IsEmpty) ⊎ (b.due ≡ Some (IsRefused Closed))
+    go : (p q : Bool) → Goes l b ≡ (let c = record a { next = ref_of r.plan.setup.bits f.found } in if p then Goes B6
+        (record c { due = Some IsEmpty }) else if q then Goes B6 (record c { due = Some (IsRefused Closed) }) else Goes B4 c) → (b.due ≡ Some IsEmpty)
+        ⊎ (b.due ≡ Some (IsRefused Closed))
     go true q e = inl (ap (λ (x : Running). x.due) (same_registers l B6 b _ e))
     go false true e = inr (ap (λ (x : Running). x.due) (same_registers l B6 b _ e))
     go false false e = absurd (let g : B6 ≡ B4 = sym is ∙ same_line l B4 b _ e in cc)
@@ -80,16 +85,19 @@ to_b5 r s t l a b h f other = subst (λ k. CallIsAt r t continues k b) (go (nat_
 pub found_worn : {T : Type 0} (r : Arena) (s t : Seat T) (l : Line) (a b : Running) → Follows r s t continues B4 a (Goes l b) → l ≡ B6 → b.due ≡ Some (IsRefused (WornOut OfHead))
 found_worn r s t l a b f is = go (nat_eq a.head.count r.plan.setup.limit) f.leads_to
   where
-    go : (p : Bool) → Goes l b ≡ (let c = record a { val = f.found } in if p then Goes B6 (record c { due = Some (IsRefused (WornOut OfHead)) }) else Goes B5 c) → b.due ≡ Some (IsRefused (WornOut OfHead))
+    go : (p : Bool) → Goes l b ≡ (let c = record a { val = f.found } in if p then Goes B6 (record c { due = Some (IsRefused (WornOut OfHead)) }) else
+        Goes B5 c) → b.due ≡ Some (IsRefused (WornOut OfHead))
     go true e = ap (λ (x : Running). x.due) (same_registers l B6 b _ e)
     go false e = absurd (let g : B6 ≡ B5 = sym is ∙ same_line l B5 b _ e in cc)
 
 -- after B5
 pub to_b6_value : {T : Type 0} (r : Arena) (s t : Seat T) (l : Line) (a b : Running) → CallIsAt r s continues B5 a → Follows r s t continues B5 a (Goes l b) → CallIsAt r t continues B6 b
-to_b6_value r s t l a b h f = subst (λ k. CallIsAt r t continues k b) (same_line l B6 b (record a { node = a.head.node; mark = a.next.count; due = Some (IsValue a.val) }) f.leads_to) (stands_next r s t B5 l a b h f tt)
+to_b6_value r s t l a b h f = subst (λ k. CallIsAt r t continues k b) (same_line l B6 b
+    (record a { node = a.head.node; mark = a.next.count; due = Some (IsValue a.val) }) f.leads_to) (stands_next r s t B5 l a b h f tt)
 
 -- the last line, B6
-module _ {T : Type 0} (r : Arena) (s t : Seat T) (a : Running) (out : Outcome Running) (h : CallIsAt r s continues B6 a) (f : Follows r s t continues B6 a out) (due : Option Reply) (is : a.due ≡ due) where
+module _ {T : Type 0} (r : Arena) (s t : Seat T) (a : Running) (out : Outcome Running) (h : CallIsAt r s continues B6 a)
+    (f : Follows r s t continues B6 a out) (due : Option Reply) (is : a.due ≡ due) where
   abbrev pub last : Event
   last = event r s t continues B6 f.found f.did
 
@@ -115,17 +123,20 @@ module _ {T : Type 0} (r : Arena) (s t : Seat T) (a : Running) (out : Outcome Ru
   silent_due k = subst IsSilent (sym told_of) k
 
 -- the queue was found empty, or shut and empty
-pub saw_empty : {T : Type 0} (r : Arena) (s u t x : Seat T) (a b c : Running) (l k : Line) (out : Outcome Running) → CallIsAt r s continues B2 a → Follows r s u continues B2 a (Goes l b) → Follows r u t continues B3 b (Goes k c) → k ≡ B6 → Follows r t x continues B6 c out → Fronts r s x out
+pub saw_empty : {T : Type 0} (r : Arena) (s u t x : Seat T) (a b c : Running) (l k : Line) (out : Outcome Running) → CallIsAt r s continues B2 a
+    → Follows r s u continues B2 a (Goes l b) → Follows r u t continues B3 b (Goes k c) → k ≡ B6 → Follows r t x continues B6 c out → Fronts r s x out
 saw_empty r s u t x a b c l k out h f2 f3 is f6 = ⊎_elim none shut (found_end r u t k b c f3 is)
   where
     at : CallIsAt r t continues B6 c
     at = to_b6_empty r u t k b c (to_b3 r s u l a b h f2) f3 is
 
     w : ExtendsPath (view s) (view t) (event r s u continues B2 f2.found f2.did ∷ event r u t continues B3 f3.found f3.did ∷ [])
-    w = walk_then (view s) (view u) (view t) (event r s u continues B2 f2.found f2.did ∷ []) (event r u t continues B3 f3.found f3.did ∷ []) (walk_on r s u continues B2 f2.found f2.did refl tt) (walk_on r u t continues B3 f3.found f3.did refl tt)
+    w = walk_then (view s) (view u) (view t) (event r s u continues B2 f2.found f2.did ∷ []) (event r u t continues B3 f3.found f3.did ∷ [])
+        (walk_on r s u continues B2 f2.found f2.did refl tt) (walk_on r u t continues B3 f3.found f3.did refl tt)
 
     slots : KeepsSlots s x
-    slots = then_slots s t x (then_slots s u t (quiet_slots r s u continues B2 f2.found f2.did refl) (quiet_slots r u t continues B3 f3.found f3.did refl)) (quiet_slots r t x continues B6 f6.found f6.did refl)
+    slots = then_slots s t x (then_slots s u t (quiet_slots r s u continues B2 f2.found f2.did refl)
+        (quiet_slots r u t continues B3 f3.found f3.did refl)) (quiet_slots r t x continues B6 f6.found f6.did refl)
 
     none : c.due ≡ Some IsEmpty → Fronts r s x out
     none due =
@@ -142,7 +153,9 @@ saw_empty r s u t x a b c l k out h f2 f3 is f6 = ⊎_elim none shut (found_end 
           never = refl;
           fronted = record {
             over = ap (λ y. y.line) o;
-            path = f6.did.told.path ∙ ap (λ p. p ++ event r t x continues B6 f6.found f6.did ∷ []) w.path ∙ append_assoc (view s).path (event r s u continues B2 f2.found f2.did ∷ event r u t continues B3 f3.found f3.did ∷ []) (event r t x continues B6 f6.found f6.did ∷ []);
+            path = f6.did.told.path ∙ ap (λ p. p ++ event r t x continues B6 f6.found f6.did ∷ []) w.path ∙ append_assoc (view s).path
+                (event r s u continues B2 f2.found f2.did ∷ event r u t continues B3 f3.found f3.did ∷ [])
+                (event r t x continues B6 f6.found f6.did ∷ []);
             found = record {
               number = f6.did.told.number ∙ w.number;
               between = w.rest;
@@ -168,13 +181,16 @@ saw_empty r s u t x a b c l k out h f2 f3 is f6 = ⊎_elim none shut (found_end 
           never = refl;
           fronted = record {
             over = ap (λ y. y.line) o;
-            finds = then_shut_empty (view s) (view t) (view x) (event r s u continues B2 f2.found f2.did ∷ event r u t continues B3 f3.found f3.did ∷ []) (event r t x continues B6 f6.found f6.did ∷ []) w (shut_empty_on r t x continues B6 f6.found f6.did refl replies (λ y. y));
+            finds = then_shut_empty (view s) (view t) (view x) (event r s u continues B2 f2.found f2.did ∷ event r u t continues B3 f3.found f3.did ∷
+                []) (event r t x continues B6 f6.found f6.did ∷ []) w (shut_empty_on r t x continues B6 f6.found f6.did refl replies (λ y. y));
             cause = stopped_at r t x continues B6 f6.found f6.did s (event r s u continues B2 f2.found f2.did ∷ event r u t continues B3 f3.found f3.did ∷ []) Closed w replies;
           };
         }
 
 -- the lines before B5 or before a refusal
-module _ {T : Type 0} (r : Arena) (s u t v : Seat T) (a b c d : Running) (l k j : Line) (h : CallIsAt r s continues B2 a) (f2 : Follows r s u continues B2 a (Goes l b)) (f3 : Follows r u t continues B3 b (Goes k c)) (more : k ≡ B6 → ⊥) (f4 : Follows r t v continues B4 c (Goes j d)) where
+module _ {T : Type 0} (r : Arena) (s u t v : Seat T) (a b c d : Running) (l k j : Line) (h : CallIsAt r s continues B2 a)
+    (f2 : Follows r s u continues B2 a (Goes l b)) (f3 : Follows r u t continues B3 b (Goes k c)) (more : k ≡ B6 → ⊥)
+    (f4 : Follows r t v continues B4 c (Goes j d)) where
   abbrev looks : List Event
   looks = event r s u continues B2 f2.found f2.did ∷ event r u t continues B3 f3.found f3.did ∷ event r t v continues B4 f4.found f4.did ∷ []
 
@@ -184,11 +200,13 @@ module _ {T : Type 0} (r : Arena) (s u t v : Seat T) (a b c d : Running) (l k j 
   pub look_walk : ExtendsPath (view s) (view v) looks
   look_walk =
       walk_then (view s) (view t) (view v) (event r s u continues B2 f2.found f2.did ∷ event r u t continues B3 f3.found f3.did ∷ []) (event r t v continues B4 f4.found f4.did ∷ [])
-      (walk_then (view s) (view u) (view t) (event r s u continues B2 f2.found f2.did ∷ []) (event r u t continues B3 f3.found f3.did ∷ []) (walk_on r s u continues B2 f2.found f2.did refl tt) (walk_on r u t continues B3 f3.found f3.did refl tt))
+      (walk_then (view s) (view u) (view t) (event r s u continues B2 f2.found f2.did ∷ []) (event r u t continues B3 f3.found f3.did ∷ [])
+      (walk_on r s u continues B2 f2.found f2.did refl tt) (walk_on r u t continues B3 f3.found f3.did refl tt))
       (walk_on r t v continues B4 f4.found f4.did refl tt)
 
   look_slots : KeepsSlots s v
-  look_slots = then_slots s t v (then_slots s u t (quiet_slots r s u continues B2 f2.found f2.did refl) (quiet_slots r u t continues B3 f3.found f3.did refl)) (quiet_slots r t v continues B4 f4.found f4.did refl)
+  look_slots = then_slots s t v (then_slots s u t (quiet_slots r s u continues B2 f2.found f2.did refl)
+      (quiet_slots r u t continues B3 f3.found f3.did refl)) (quiet_slots r t v continues B4 f4.found f4.did refl)
 
   look_stored : KeepsStored s v
   look_stored = then_stored s t v (then_stored s u t f2.did.stored f3.did.stored) f4.did.stored
@@ -209,7 +227,8 @@ module _ {T : Type 0} (r : Arena) (s u t v : Seat T) (a b c d : Running) (l k j 
         never = refl;
         fronted = record {
           over = ap (λ y. y.line) o;
-          walks = walk_then (view s) (view v) (view x) looks (event r v x continues B6 f6.found f6.did ∷ []) look_walk (walk_on r v x continues B6 f6.found f6.did refl (silent_due r v x d out at f6 (Some (IsRefused (WornOut OfHead))) due tt));
+          walks = walk_then (view s) (view v) (view x) looks (event r v x continues B6 f6.found f6.did ∷ []) look_walk
+              (walk_on r v x continues B6 f6.found f6.did refl (silent_due r v x d out at f6 (Some (IsRefused (WornOut OfHead))) due tt));
           is = refl;
           cause = stopped_at r v x continues B6 f6.found f6.did s looks (WornOut OfHead) look_walk (reply_is r v x d out at f6 (Some (IsRefused (WornOut OfHead))) due);
         };

@@ -43,7 +43,8 @@ module _ {T : Type 0} (r : Arena) (s t : Seat T) (prologue : Prologue) (n : ℕ)
   out_at l d = outcome_at r.plan.setup d.told.was (view s).number b l
 
   -- a step with this outcome leads on to a line
-  leads : (l : Line) (d : DidStep r s t prologue l n) (o : MachineOutcome) → out_at l d ≡ o → (k : Line) (c : Running) → o.actor.line ≡ Some k → ((x : Option ℕ) → AgreesAt k (record o.actor { entry = x }) c) → CallIsAt r t continues k c
+  leads : (l : Line) (d : DidStep r s t prologue l n) (o : MachineOutcome) → out_at l d ≡ o → (k : Line) (c : Running) → o.actor.line ≡ Some k
+      → ((x : Option ℕ) → AgreesAt k (record o.actor { entry = x }) c) → CallIsAt r t continues k c
   leads l d o e k c line knows = record { before = goes_on r s t prologue l n d o e k line; knows = settled r s t prologue l n d o e (λ x. AgreesAt k x c) knows }
 
   module _ (h : CallIsAt r s prologue B1 a) (d : DidStep r s t prologue B1 n) where
@@ -77,9 +78,14 @@ module _ {T : Type 0} (r : Arena) (s t : Seat T) (prologue : Prologue) (n : ℕ)
       went : (p q : Bool) → is_null (ref_of r.plan.setup.bits n) ≡ p → is_shut r.plan.setup.bits (ref_of r.plan.setup.bits n) ≡ q → out_at B3 d ≡ third (ref_of r.plan.setup.bits n) p q
       went p q e f = ap (λ x. third x (is_null x) (is_shut r.plan.setup.bits x)) (sym (ref_b3 r s t prologue n d)) ∙ (λ i. third (ref_of r.plan.setup.bits n) (e i) (f i))
 
-      go : (p q : Bool) → is_null (ref_of r.plan.setup.bits n) ≡ p → is_shut r.plan.setup.bits (ref_of r.plan.setup.bits n) ≡ q → StandsAt r t (let c = record a { next = ref_of r.plan.setup.bits n } in if p then Goes B6 (record c { due = Some IsEmpty }) else if q then Goes B6 (record c { due = Some (IsRefused Closed) }) else Goes B4 c)
-      go true q e f = leads B3 d (third (ref_of r.plan.setup.bits n) true q) (went true q e f) B6 (record a { next = ref_of r.plan.setup.bits n; due = Some IsEmpty }) refl (λ x. no_value _ _ IsEmpty (λ word g. cc) refl)
-      go false true e f = leads B3 d (third (ref_of r.plan.setup.bits n) false true) (went false true e f) B6 (record a { next = ref_of r.plan.setup.bits n; due = Some (IsRefused Closed) }) refl (λ x. no_value _ _ (IsRefused Closed) (λ word g. cc) refl)
+      go : (p q : Bool) → is_null (ref_of r.plan.setup.bits n) ≡ p → is_shut r.plan.setup.bits (ref_of r.plan.setup.bits n) ≡ q
+          → StandsAt r t (let c = record a { next = ref_of r.plan.setup.bits n } in if p then Goes B6 (record c { due = Some IsEmpty }) else if q then
+          Goes B6 (record c { due = Some (IsRefused Closed) }) else Goes B4 c)
+      go true q e f = leads B3 d (third (ref_of r.plan.setup.bits n) true q) (went true q e f) B6
+          (record a { next = ref_of r.plan.setup.bits n; due = Some IsEmpty }) refl (λ x. no_value _ _ IsEmpty (λ word g. cc) refl)
+      go false true e f = leads B3 d (third (ref_of r.plan.setup.bits n) false true) (went false true e f) B6
+          (record a { next = ref_of r.plan.setup.bits n; due = Some (IsRefused Closed) }) refl
+          (λ x. no_value _ _ (IsRefused Closed) (λ word g. cc) refl)
       go false false e f = leads B3 d (third (ref_of r.plan.setup.bits n) false false) (went false false e f) B4 (record a { next = ref_of r.plan.setup.bits n }) refl (λ x. (h.knows, refl))
 
   pub after_b4 : CallIsAt r s prologue B4 a → (d : DidStep r s t prologue B4 n) → StandsAt r t (follow r.plan.setup a B4 n)
@@ -89,10 +95,13 @@ module _ {T : Type 0} (r : Arena) (s t : Seat T) (prologue : Prologue) (n : ℕ)
       fourth v p = let x = record b { val = v } in if p then goes B6 (record x { due = Some (reply.Refused (WornOut OfHead)) }) else goes B5 x
 
       went : (p : Bool) → nat_eq a.head.count r.plan.setup.limit ≡ p → out_at B4 d ≡ fourth (value_of n) p
-      went p e = ap (λ v. fourth v (nat_eq b.head.count r.plan.setup.limit)) (value_b4 r s t prologue n d) ∙ ap (fourth (value_of n)) (ap (λ (x : Ref). nat_eq x.count r.plan.setup.limit) h.knows.0 ∙ e)
+      went p e = ap (λ v. fourth v (nat_eq b.head.count r.plan.setup.limit)) (value_b4 r s t prologue n d) ∙ ap (fourth (value_of n))
+          (ap (λ (x : Ref). nat_eq x.count r.plan.setup.limit) h.knows.0 ∙ e)
 
-      go : (p : Bool) → nat_eq a.head.count r.plan.setup.limit ≡ p → StandsAt r t (let c = record a { val = n } in if p then Goes B6 (record c { due = Some (IsRefused (WornOut OfHead)) }) else Goes B5 c)
-      go true e = leads B4 d (fourth (value_of n) true) (went true e) B6 (record a { val = n; due = Some (IsRefused (WornOut OfHead)) }) refl (λ x. no_value _ _ (IsRefused (WornOut OfHead)) (λ word f. cc) refl)
+      go : (p : Bool) → nat_eq a.head.count r.plan.setup.limit ≡ p → StandsAt r t
+          (let c = record a { val = n } in if p then Goes B6 (record c { due = Some (IsRefused (WornOut OfHead)) }) else Goes B5 c)
+      go true e = leads B4 d (fourth (value_of n) true) (went true e) B6 (record a { val = n; due = Some (IsRefused (WornOut OfHead)) }) refl
+          (λ x. no_value _ _ (IsRefused (WornOut OfHead)) (λ word f. cc) refl)
       go false e = leads B4 d (fourth (value_of n) false) (went false e) B5 (record a { val = n }) refl (λ x. (h.knows.0, h.knows.1, refl))
 
   pub after_b5 : CallIsAt r s prologue B5 a → DidStep r s t prologue B5 n → CallIsAt r t continues B6 (record a { node = a.head.node; mark = a.next.count; due = Some (IsValue a.val) })
@@ -109,7 +118,8 @@ IsUnderLock B5 = Unit {0}
 IsUnderLock l = ⊥
 
 -- a line under the lock leads on to where its outcome says
-pub stands_next : {T : Type 0} (r : Arena) (s t : Seat T) (l k : Line) (a c : Running) → CallIsAt r s continues l a → Follows r s t continues l a (Goes k c) → IsUnderLock l → CallIsAt r t continues k c
+pub stands_next : {T : Type 0} (r : Arena) (s t : Seat T) (l k : Line) (a c : Running) → CallIsAt r s continues l a
+    → Follows r s t continues l a (Goes k c) → IsUnderLock l → CallIsAt r t continues k c
 stands_next r s t B2 k a c h f under = subst (StandsAt r t) (sym f.leads_to) (after_b2 r s t continues f.found a h f.did)
 stands_next r s t B3 k a c h f under = subst (StandsAt r t) (sym f.leads_to) (after_b3 r s t continues f.found a h f.did)
 stands_next r s t B4 k a c h f under = subst (StandsAt r t) (sym f.leads_to) (after_b4 r s t continues f.found a h f.did)

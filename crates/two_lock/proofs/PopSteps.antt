@@ -28,9 +28,14 @@ module _ {T : Type 0} (r : Arena) (s t : Seat T) (prologue : Prologue) (n : ℕ)
   ref_b2 d = read_back r.plan.setup.bits d.told.sized.split d.told.was.world.shared.head n (was_fits r.plan prologue B2 n (view s) (view t) d.told WordHead) d.told.found
 
   pub ref_b3 : (d : DidStep r s t prologue B3 n) → ref_of r.plan.setup.bits n ≡ (node_at d.told.was.world.shared (after_prologue r.plan.setup (view s).number prologue (view s).actor).head.node).next
-  ref_b3 d = read_back r.plan.setup.bits d.told.sized.split (node_at d.told.was.world.shared (after_prologue r.plan.setup (view s).number prologue (view s).actor).head.node).next n (was_fits r.plan prologue B3 n (view s) (view t) d.told (WordNext (after_prologue r.plan.setup (view s).number prologue (view s).actor).head.node)) d.told.found
+  ref_b3 d = read_back r.plan.setup.bits d.told.sized.split (node_at d.told.was.world.shared
+      (after_prologue r.plan.setup (view s).number prologue (view s).actor).head.node).next n
+      (was_fits r.plan prologue B3 n (view s) (view t) d.told (WordNext (after_prologue r.plan.setup (view s).number prologue
+      (view s).actor).head.node)) d.told.found
 
   pub value_b4 : (d : DidStep r s t prologue B4 n) → (node_at d.told.was.world.shared (after_prologue r.plan.setup (view s).number prologue (view s).actor).next.node).value ≡ value_of n
   value_b4 d =
-      let parts = value_parts (node_at d.told.was.world.shared (after_prologue r.plan.setup (view s).number prologue (view s).actor).next.node).value n (was_fits r.plan prologue B4 n (view s) (view t) d.told (WordValue (after_prologue r.plan.setup (view s).number prologue (view s).actor).next.node)) d.told.found in
+      let parts = value_parts (node_at d.told.was.world.shared (after_prologue r.plan.setup (view s).number prologue (view s).actor).next.node).value
+      n (was_fits r.plan prologue B4 n (view s) (view t) d.told (WordValue (after_prologue r.plan.setup (view s).number prologue
+      (view s).actor).next.node)) d.told.found in
       (λ i. record { from = parts.0 i; body = parts.1 i })

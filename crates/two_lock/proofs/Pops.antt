@@ -1,5 +1,6 @@
 -- Pops: turns at the lock, one after another, and what they answer.
-use Rattle.std.proofs.Common.{◌≡◌, ℕ, zero, suc, ◌+◌, ◌≤◌, Bool, true, false, nat_eq, if◌then◌else◌, [], ◌∷◌, ◌++◌, Option, Some, None, Result, Ok, Err, sym, refl, ap, subst, ◌∙◌, arith, add-one, ◌-◌, ◌<◌}
+use Rattle.std.proofs.Common.{◌≡◌, ℕ, zero, suc, ◌+◌, ◌≤◌, Bool, true, false, nat_eq, if◌then◌else◌, [], ◌∷◌, ◌++◌, Option, Some, None, Result, Ok}
+use Rattle.std.proofs.Common.{Err, sym, refl, ap, subst, ◌∙◌, arith, add-one, ◌-◌, ◌<◌}
 use Rattle.line_table.specs.declared.lines.Line.{Line}
 use Rattle.line_table.specs.declared.lines.Line.TheVariants.{B1, B2, F1}
 use Rattle.history.specs.declared.operations.Op.TheVariants.{Deq}
@@ -17,7 +18,8 @@ use Rattle.node_arena.specs.Turns.{failed_turns, at_b1}
 use Rattle.node_arena.specs.Paths.{ExtendsPath, added}
 use Rattle.free_list.specs.Gives.{GiveAnswers}
 use Rattle.node_arena.proofs.Known.{empty_before}
-use Rattle.node_arena.proofs.Paths.{no_walk, walk_then, then_stored, no_slots, then_slots, quiet_slots, added_is, ends_failed, failed-append, failed_behind, kept_seat, event, walk_on, to_is, failed_last}
+use Rattle.node_arena.proofs.Paths.{no_walk, walk_then, then_stored, no_slots, then_slots, quiet_slots, added_is, ends_failed, failed-append}
+use Rattle.node_arena.proofs.Paths.{failed_behind, kept_seat, event, walk_on, to_is, failed_last}
 use Rattle.node_arena.proofs.Loads.{kept_slots}
 use Rattle.two_lock.specs.Values.{IsTwoLock}
 use Rattle.arena_lines.specs.declared.outcomes.Outcome.{Outcome}
@@ -87,7 +89,9 @@ module _ {T : Type 0} (r : Arena) (s t u : Seat T) (n : ℕ) (g : Trying r s t n
       let y : IsBefore r u continues B2 = has_got e in
       let none : failed_turns (try ∷ []) ≡ 0 = (let z : at_b1 try.to ≡ 0 = ap at_b1 (to_is r t u (popping n) B1 f.found f.did ∙ y.line) in omega arith) in
       let name = then_stored s t u g.stored f.did.stored in
-      draws_late pop_worn r s u x (g.lines ++ try ∷ []) tried spent (spent + n) turns (omega (arith, failed-append g.lines (try ∷ []), g.failed, none)) o (record { number = name.number; role = name.role; keeps = name.keeps }) (then_slots s t u g.slots (quiet_slots r t u (popping n) B1 f.found f.did refl)) d
+      draws_late pop_worn r s u x (g.lines ++ try ∷ []) tried spent (spent + n) turns
+      (omega (arith, failed-append g.lines (try ∷ []), g.failed, none)) o (record { number = name.number; role = name.role; keeps = name.keeps })
+      (then_slots s t u g.slots (quiet_slots r t u (popping n) B1 f.found f.did refl)) d
 
 -- all turns failed
 pub pop_gives_up : {T : Type 0} (r : Arena) (s t : Seat T) (spent turns n : ℕ) → 1 ≤ n → spent + n ≡ turns → Trying r s t n → Draws pop_worn r s (keeping t None turns) spent turns (Err Busy)
@@ -116,19 +120,24 @@ module _ {T : Type 0} (r : Arena) (s t : Seat T) (failed turns : ℕ) where
   pop_worn_out Closed f = let k = f.fronted in draws_shut pop_worn r s t failed turns f.lines f.seat k.over f.empty f.stored f.slots k.finds k.cause
   pop_worn_out _ f = let k = f.fronted in draws_worn pop_worn r s t _ OfHead failed turns f.lines f.seat k.over f.empty f.stored f.slots k.walks k.is k.cause tt
 
-  pub pop_took : (x : Seat T) (l : Line) (a : Running) (h : Held) (out : Result (Unit {0}) Refusal) → keeps_of t ≡ false → failed < turns → Fronts r s t (Goes l a) → GiveAnswers r (keeping t (Some h) failed) x (turns - failed) out → Draws pop_worn r s x failed turns (Ok (Some (value_of a.val)))
+  pub pop_took : (x : Seat T) (l : Line) (a : Running) (h : Held) (out : Result (Unit {0}) Refusal) → keeps_of t ≡ false → failed < turns
+      → Fronts r s t (Goes l a) → GiveAnswers r (keeping t (Some h) failed) x (turns - failed) out
+      → Draws pop_worn r s x failed turns (Ok (Some (value_of a.val)))
   pop_took x l a h out keeps less f g = draws_taken pop_worn r s t x a.val h failed turns out f.lines (sym f.stored.keeps ∙ keeps) less f.seat f.stored f.slots f.fronted.acts f.never g
 
-  pub pop_kept : (l : Line) (a : Running) (h : Held) → h ≡ record { node = a.node; mark = a.mark } → keeps_of t ≡ true → failed < turns → Fronts r s t (Goes l a) → Draws pop_worn r s (keeping t (Some h) failed) failed turns (Ok (Some (value_of a.val)))
+  pub pop_kept : (l : Line) (a : Running) (h : Held) → h ≡ record { node = a.node; mark = a.mark } → keeps_of t ≡ true → failed < turns
+      → Fronts r s t (Goes l a) → Draws pop_worn r s (keeping t (Some h) failed) failed turns (Ok (Some (value_of a.val)))
   pop_kept l a h is keeps less f =
       let k = f.fronted in
-      draws_kept pop_worn r s t a.val h failed turns f.lines (sym f.stored.keeps ∙ keeps) less f.seat f.stored f.slots (record { over = k.over; due = k.due; node = k.node ∙ sym (ap (λ x. x.node) is); mark = k.mark ∙ sym (ap (λ x. x.mark) is) }) k.acts f.never
+      draws_kept pop_worn r s t a.val h failed turns f.lines (sym f.stored.keeps ∙ keeps) less f.seat f.stored f.slots
+      (record { over = k.over; due = k.due; node = k.node ∙ sym (ap (λ x. x.node) is); mark = k.mark ∙ sym (ap (λ x. x.mark) is) }) k.acts f.never
 
   pop_empty : failed < turns → Fronts r s t (Ends IsEmpty) → Draws pop_worn r s (keeping t None failed) failed turns (Ok None)
   pop_empty less f = let k = f.fronted in draws_empty pop_worn r s t failed turns f.lines less f.seat k.over f.empty f.stored f.slots k.path f.never k.found
 
   -- a pop that ends without a refusal found the queue empty
-  pub pop_ended : (answer : Reply) → ((refusal : Refusal) → answer ≡ IsRefused refusal → ⊥) → failed < turns → Fronts r s t (Ends answer) → Draws pop_worn r s (keeping t None failed) failed turns (Ok None)
+  pub pop_ended : (answer : Reply) → ((refusal : Refusal) → answer ≡ IsRefused refusal → ⊥) → failed < turns → Fronts r s t (Ends answer)
+      → Draws pop_worn r s (keeping t None failed) failed turns (Ok None)
   pop_ended IsEmpty other less f = pop_empty less f
   pop_ended (IsRefused refusal) other less f = absurd (other refusal refl)
   pop_ended IsDone other less f = absurd f.fronted

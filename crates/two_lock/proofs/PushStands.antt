@@ -27,7 +27,8 @@ module _ {T : Type 0} (r : Arena) (s t : Seat T) (prologue : Prologue) (n : ℕ)
   out_at l d = outcome_at r.plan.setup d.told.was (view s).number b l
 
   -- a step with this outcome leads on to a line
-  leads : (l : Line) (d : DidStep r s t prologue l n) (o : MachineOutcome) → out_at l d ≡ o → (k : Line) (c : Running) → o.actor.line ≡ Some k → HasNode o.actor c → ((x : Option ℕ) → AgreesAt k (record o.actor { entry = x }) c) → CallIsAt r t continues k c
+  leads : (l : Line) (d : DidStep r s t prologue l n) (o : MachineOutcome) → out_at l d ≡ o → (k : Line) (c : Running) → o.actor.line ≡ Some k
+      → HasNode o.actor c → ((x : Option ℕ) → AgreesAt k (record o.actor { entry = x }) c) → CallIsAt r t continues k c
   leads l d o e k c line hand knows =
       record {
         before = goes_on r s t prologue l n d o e k line;
@@ -66,14 +67,16 @@ module _ {T : Type 0} (r : Arena) (s t : Seat T) (prologue : Prologue) (n : ℕ)
     test p e = ap (λ k. same_ref k null) (sym (ref_a5 r s t prologue n d)) ∙ e
 
     -- the node was linked
-    pub won_a5 : same_ref (ref_of r.plan.setup.bits n) null ≡ true → CallIsAt r t continues A6 (record a { due = Some Done }) × (entries_at r.plan.setup d.told.was (view s).number b A5 ≡ Push (view s).number b.val.body ∷ [])
+    pub won_a5 : same_ref (ref_of r.plan.setup.bits n) null ≡ true → CallIsAt r t continues A6 (record a { due = Some Done })
+        × (entries_at r.plan.setup d.told.was (view s).number b A5 ≡ Push (view s).number b.val.body ∷ [])
     won_a5 e = (
       leads A5 d (fifth true) (ap fifth (test true e)) A6 (record a { due = Some Done }) refl h.hand (λ x. refl),
       ap (λ q. if q then Push (view s).number b.val.body ∷ [] else []) (test true e),
     )
 
     -- the queue was found shut
-    pub lost_a5 : same_ref (ref_of r.plan.setup.bits n) null ≡ false → CallIsAt r t continues A7 (record a { due = Some (IsRefused Closed) }) × (entries_at r.plan.setup d.told.was (view s).number b A5 ≡ [])
+    pub lost_a5 : same_ref (ref_of r.plan.setup.bits n) null ≡ false → CallIsAt r t continues A7 (record a { due = Some (IsRefused Closed) })
+        × (entries_at r.plan.setup d.told.was (view s).number b A5 ≡ [])
     lost_a5 e = (
       leads A5 d (fifth false) (ap fifth (test false e)) A7 (record a { due = Some (IsRefused Closed) }) refl h.hand (λ x. refl),
       ap (λ q. if q then Push (view s).number b.val.body ∷ [] else []) (test false e),
@@ -83,14 +86,16 @@ module _ {T : Type 0} (r : Arena) (s t : Seat T) (prologue : Prologue) (n : ℕ)
   after_a6 h d = leads A6 d (out_at A6 d) refl A7 a refl h.hand (λ x. h.knows)
 
   -- the lock was let go after a push
-  pub after_a7 : CallIsAt r s prologue A7 a → (d : DidStep r s t prologue A7 n) → a.due ≡ Some Done → ((view t).actor.line ≡ None) × ((view t).actor.pocket ≡ None) × ((out_at A7 d).reply ≡ Some reply.Done)
+  pub after_a7 : CallIsAt r s prologue A7 a → (d : DidStep r s t prologue A7 n) → a.due ≡ Some Done → ((view t).actor.line ≡ None)
+      × ((view t).actor.pocket ≡ None) × ((out_at A7 d).reply ≡ Some reply.Done)
   after_a7 h d due =
       let is : out_at A7 d ≡ left_with_node (d.told.was.world.steps + 1) (Some reply.Done) b = ap (λ q. left_with_node (d.told.was.world.steps + 1) q b) (h.knows ∙ ap told_by due) in
       let over = settled r s t prologue A7 n d _ is (λ x. (x.line ≡ None) × (x.pocket ≡ None)) (λ x. (refl, empty_before r s prologue A7 h.before)) in
       (over.0, over.1, ap (λ o. o.reply) is)
 
   -- and where the queue was found shut: the node is in the pocket
-  pub shut_a7 : CallIsAt r s prologue A7 a → (d : DidStep r s t prologue A7 n) → a.due ≡ Some (IsRefused Closed) → ((view t).actor.line ≡ None) × ((view t).actor.pocket ≡ Some (in_hand a)) × ((out_at A7 d).reply ≡ Some (reply.Refused Closed))
+  pub shut_a7 : CallIsAt r s prologue A7 a → (d : DidStep r s t prologue A7 n) → a.due ≡ Some (IsRefused Closed) → ((view t).actor.line ≡ None)
+      × ((view t).actor.pocket ≡ Some (in_hand a)) × ((out_at A7 d).reply ≡ Some (reply.Refused Closed))
   shut_a7 h d due =
       let is : out_at A7 d ≡ left_with_node (d.told.was.world.steps + 1) (Some (reply.Refused Closed)) b = ap (λ q. left_with_node (d.told.was.world.steps + 1) q b) (h.knows ∙ ap told_by due) in
       let over = settled r s t prologue A7 n d _ is (λ x. (x.line ≡ None) × (x.pocket ≡ Some (in_hand a))) (λ x. (refl, λ i. Some (record { node = h.hand.node i; mark = h.hand.mark i }))) in

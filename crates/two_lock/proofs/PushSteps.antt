@@ -26,4 +26,5 @@ module _ {T : Type 0} (r : Arena) (s t : Seat T) (prologue : Prologue) (n : ℕ)
   c = after_prologue r.plan.setup (view s).number prologue (view s).actor
 
   pub ref_a5 : (d : DidStep r s t prologue A5 n) → ref_of r.plan.setup.bits n ≡ (node_at d.told.was.world.shared c.tail.node).next
-  ref_a5 d = read_back r.plan.setup.bits d.told.sized.split (node_at d.told.was.world.shared c.tail.node).next n (was_fits r.plan prologue A5 n (view s) (view t) d.told (WordNext c.tail.node)) d.told.found
+  ref_a5 d = read_back r.plan.setup.bits d.told.sized.split (node_at d.told.was.world.shared c.tail.node).next n
+      (was_fits r.plan prologue A5 n (view s) (view t) d.told (WordNext c.tail.node)) d.told.found

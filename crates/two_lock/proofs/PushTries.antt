@@ -20,7 +20,9 @@ use Rattle.node_arena.specs.Paths.{ExtendsPath, FindsShut, StopsAPush, Acts, add
 use Rattle.node_arena.proofs.Noting.{IsSilent}
 use Rattle.node_arena.specs.Loads.{IsLoaded, GivesSlot}
 use Rattle.node_arena.proofs.Loads.{kept_slots, kept_gives, still_loaded, loaded_as, gives_slot, gives_then, then_gives}
-use Rattle.node_arena.proofs.Paths.{then_shut, shut_on, stopped_at, stopped_behind, last_held, walk_then, then_act, act_then, pass_then, then_stored, then_slots, quiet_slots, added_is, added_path, failed-append, failed_behind, kept_seat, ends_failed, event, walk_on, pass_on, act_on, to_is, failed_last}
+use Rattle.node_arena.proofs.Paths.{then_shut, shut_on, stopped_at, stopped_behind, last_held, walk_then, then_act, act_then, pass_then, then_stored}
+use Rattle.node_arena.proofs.Paths.{then_slots, quiet_slots, added_is, added_path, failed-append, failed_behind, kept_seat, ends_failed, event}
+use Rattle.node_arena.proofs.Paths.{walk_on, pass_on, act_on, to_is, failed_last}
 use Rattle.two_lock.specs.Values.{IsTwoLock}
 use Rattle.node_arena.specs.Machine.{value_of}
 use Rattle.arena_lines.specs.declared.outcomes.Outcome.{Outcome}
@@ -36,10 +38,13 @@ use Rattle.two_lock.proofs.Lines.{same_line}
 
 -- an actor that begins a push with this pocket
 abbrev set_out : {T : Type 0} → Arena → Seat T → ℕ → Option Held → Actor
-set_out r s body p = from_pocket (with_node r.plan.setup.kind) p (record (at_rest (view s).actor) { line = Some N1; op = Enq body; val = record { from = (view s).number; body = body }; due = None; entry = None })
+set_out r s body p = from_pocket (with_node r.plan.setup.kind) p (record (at_rest (view s).actor)
+    { line = Some N1; op = Enq body; val = record { from = (view s).number; body = body }; due = None; entry = None })
 
 -- a push with a full pocket sets out
-pub pushes_out : {T : Type 0} (r : Arena) (s : Seat T) (h : Held) (from body val : ℕ) (a : Running) → a ≡ registers_of h val → IsReady r s → pocket_of s ≡ Some h → IsTwoLock r → body < 2 ^ 48 → from ≡ s.number → val ≡ from * 2 ^ 48 + body → CallIsAt r s (begins (Enq (value_of a.val).body)) A1 a
+pub pushes_out : {T : Type 0} (r : Arena) (s : Seat T) (h : Held) (from body val : ℕ) (a : Running) → a ≡ registers_of h val → IsReady r s
+    → pocket_of s ≡ Some h → IsTwoLock r → body < 2 ^ 48 → from ≡ s.number → val ≡ from * 2 ^ 48 + body
+    → CallIsAt r s (begins (Enq (value_of a.val).body)) A1 a
 pushes_out r s h from body val a is i full two small same word = subst (λ (x : Running). CallIsAt r s (begins (Enq (value_of x.val).body)) A1 x) (sym is) out
   where
     e : (at_rest (view s).actor).pocket ≡ Some h
@@ -58,13 +63,15 @@ pushes_out r s h from body val a is i full two small same word = subst (λ (x : 
           hand = record {
             node = ap (λ p. (set_out r s (value_of val).body p).node) e;
             mark = ap (λ p. (set_out r s (value_of val).body p).mark) e;
-            val = ap (λ p. (set_out r s (value_of val).body p).val) e ∙ ap (λ (k : ℕ). record { from = k; body = (value_of val).body }) (sym (same ∙ i.seat.sits.number) ∙ sym (ap (λ (v : Taken). v.from) parts));
+            val = ap (λ p. (set_out r s (value_of val).body p).val) e ∙ ap (λ (k : ℕ). record { from = k; body = (value_of val).body })
+                (sym (same ∙ i.seat.sits.number) ∙ sym (ap (λ (v : Taken). v.from) parts));
           };
           knows = tt;
         }
 
 -- after A1
-pub to_a2 : {T : Type 0} (r : Arena) (s t : Seat T) (prologue : Prologue) (l : Line) (a b : Running) → CallIsAt r s prologue A1 a → Follows r s t prologue A1 a (Goes l b) → CallIsAt r t continues A2 b × (b ≡ a)
+pub to_a2 : {T : Type 0} (r : Arena) (s t : Seat T) (prologue : Prologue) (l : Line) (a b : Running) → CallIsAt r s prologue A1 a
+    → Follows r s t prologue A1 a (Goes l b) → CallIsAt r t continues A2 b × (b ≡ a)
 to_a2 r s t prologue l a b h f = let e : b ≡ a = same_registers l A2 b a f.leads_to in (subst (CallIsAt r t continues A2) (sym e) (after_a1 r s t prologue f.found a h f.did), e)
 
 -- after A2
@@ -72,7 +79,9 @@ pub to_a3 : {T : Type 0} (r : Arena) (s t : Seat T) (l : Line) (a b : Running) �
 to_a3 r s t l a b h f = let e : b ≡ a = same_registers l A3 b a f.leads_to in (subst (CallIsAt r t continues A3) (sym e) (after_a2 r s t continues f.found a h f.did), e)
 
 -- before its first try of the lock
-pub first_try : {T : Type 0} (r : Arena) (s u t : Seat T) (prologue : Prologue) (h : Held) (val spent : ℕ) (l k : Line) (a b c : Running) → a ≡ registers_of h val → CallIsAt r s prologue A1 a → Follows r s u prologue A1 a (Goes l b) → Follows r u t continues A2 b (Goes k c) → Trying r s t h val spent spent
+pub first_try : {T : Type 0} (r : Arena) (s u t : Seat T) (prologue : Prologue) (h : Held) (val spent : ℕ) (l k : Line) (a b c : Running)
+    → a ≡ registers_of h val → CallIsAt r s prologue A1 a → Follows r s u prologue A1 a (Goes l b) → Follows r u t continues A2 b (Goes k c)
+    → Trying r s t h val spent spent
 first_try r s u t prologue h val spent l k a b c is st f g =
     let one : Event = event r s u prologue A1 f.found f.did in
     let two : Event = event r u t continues A2 g.found g.did in
@@ -112,7 +121,8 @@ module _ {T : Type 0} (r : Arena) (t u : Seat T) (a : Running) (out : Outcome Ru
   lost e = lost_a3 r t u continues f.found a h f.did (found_is false e)
 
 -- a turn failed
-pub next_try : {T : Type 0} (r : Arena) (s t u : Seat T) (h : Held) (val spent n : ℕ) (a : Running) (out : Outcome Running) → a ≡ registers_of h val → Trying r s t h val spent n → Follows r t u continues A3 a out → has_lock out ≡ false → Trying r s u h val spent (n + 1)
+pub next_try : {T : Type 0} (r : Arena) (s t u : Seat T) (h : Held) (val spent n : ℕ) (a : Running) (out : Outcome Running) → a ≡ registers_of h val
+    → Trying r s t h val spent n → Follows r t u continues A3 a out → has_lock out ≡ false → Trying r s u h val spent (n + 1)
 next_try r s t u h val spent n a out is g follows e =
     let f : Follows r t u continues A3 (registers_of h val) out = subst (λ x. Follows r t u continues A3 x out) is follows in
     let try : Event = event r t u continues A3 f.found f.did in
@@ -134,17 +144,21 @@ pub to_a5 : {T : Type 0} (r : Arena) (s u : Seat T) (a b : Running) (l : Line) �
 to_a5 r s u a b l h f = subst (CallIsAt r u continues A5) (sym (same_registers l A5 b (record a { tail = ref_of r.plan.setup.bits f.found }) f.leads_to)) (after_a4 r s u continues f.found a h f.did)
 
 -- before A4 the slot of the body is still out with the seat
-pub loaded_at_a4 : {T : Type 0} (r : Arena) (s t u : Seat T) (h : Held) (val : ℕ) (a b : Running) (out : Outcome Running) (from body spent n : ℕ) → b ≡ registers_of h val → Trying r s t h val spent n → Follows r t u continues A3 a out → body < 2 ^ 48 → val ≡ from * 2 ^ 48 + body → IsLoaded r body s → IsLoaded r (value_of b.val).body u
+pub loaded_at_a4 : {T : Type 0} (r : Arena) (s t u : Seat T) (h : Held) (val : ℕ) (a b : Running) (out : Outcome Running) (from body spent n : ℕ)
+    → b ≡ registers_of h val → Trying r s t h val spent n → Follows r t u continues A3 a out → body < 2 ^ 48 → val ≡ from * 2 ^ 48 + body
+    → IsLoaded r body s → IsLoaded r (value_of b.val).body u
 loaded_at_a4 r s t u h val a b out from body spent n same g f small word loaded =
     let bodies : (value_of val).body ≡ body = ap (λ (v : Taken). v.body) (value_of-word val from body small word) in
     loaded_as r body (value_of b.val).body u (sym (ap (λ (x : Running). (value_of x.val).body) same ∙ bodies))
     (still_loaded r body s u (then_slots s t u g.slots (quiet_slots r t u continues A3 f.found f.did refl)) loaded)
 
 -- and before A5
-pub loaded_at_a5 : {T : Type 0} (r : Arena) (s u : Seat T) (a b : Running) (l : Line) → Follows r s u continues A4 a (Goes l b) → IsLoaded r (value_of a.val).body s → IsLoaded r (value_of b.val).body u
+pub loaded_at_a5 : {T : Type 0} (r : Arena) (s u : Seat T) (a b : Running) (l : Line) → Follows r s u continues A4 a (Goes l b)
+    → IsLoaded r (value_of a.val).body s → IsLoaded r (value_of b.val).body u
 loaded_at_a5 r s u a b l f loaded =
     let same : b ≡ record a { tail = ref_of r.plan.setup.bits f.found } = same_registers l A5 b (record a { tail = ref_of r.plan.setup.bits f.found }) f.leads_to in
-    loaded_as r (value_of a.val).body (value_of b.val).body u (sym (ap (λ (x : Running). (value_of x.val).body) same)) (still_loaded r (value_of a.val).body s u (quiet_slots r s u continues A4 f.found f.did refl) loaded)
+    loaded_as r (value_of a.val).body (value_of b.val).body u (sym (ap (λ (x : Running). (value_of x.val).body) same))
+    (still_loaded r (value_of a.val).body s u (quiet_slots r s u continues A4 f.found f.did refl) loaded)
 
 -- after A5: the node was linked, or the queue was found shut
 module _ {T : Type 0} (r : Arena) (s u : Seat T) (a b : Running) (l : Line) (h : CallIsAt r s continues A5 a) (f : Follows r s u continues A5 a (Goes l b)) where
@@ -178,7 +192,8 @@ pub to_a7 : {T : Type 0} (r : Arena) (s u : Seat T) (a b : Running) (l : Line) �
 to_a7 r s u a b l h f = subst (CallIsAt r u continues A7) (sym (same_registers l A7 b a f.leads_to)) (after_a6 r s u continues f.found a h f.did)
 
 -- A4 and A5
-module _ {T : Type 0} (r : Arena) (s u t : Seat T) (a b c : Running) (j k : Line) (h : CallIsAt r s continues A4 a) (f : Follows r s u continues A4 a (Goes j b)) (g : Follows r u t continues A5 b (Goes k c)) where
+module _ {T : Type 0} (r : Arena) (s u t : Seat T) (a b c : Running) (j k : Line) (h : CallIsAt r s continues A4 a)
+    (f : Follows r s u continues A4 a (Goes j b)) (g : Follows r u t continues A5 b (Goes k c)) where
   at_a5 : CallIsAt r u continues A5 b
   at_a5 = to_a5 r s u a b j h f
 
@@ -198,12 +213,18 @@ module _ {T : Type 0} (r : Arena) (s u t : Seat T) (a b c : Running) (j k : Line
       let at_a7 : CallIsAt r x continues A7 d = to_a7 r t x c d l won.0 m in
       let due : d.due ≡ Some Done = ap (λ (z : Running). z.due) (same_registers l A7 d c m.leads_to) ∙ won.1 in
       let over = after_a7 r x y continues o.found d at_a7 o.did due in
-      let acts : Acts (view u) (view t) (Push (view u).number (view u).actor.val.body) (event r u t continues A5 g.found g.did ∷ []) = act_on r u t continues A5 g.found g.did (Push (view u).number (view u).actor.val.body) won.3 tt in
+      let acts : Acts (view u) (view t) (Push (view u).number (view u).actor.val.body) (event r u t continues A5 g.found g.did ∷ []) =
+      act_on r u t continues A5 g.found g.did (Push (view u).number (view u).actor.val.body) won.3 tt in
       let before : Acts (view s) (view t) (Push (view s).number (value_of a.val).body) (event r s u continues A4 f.found f.did ∷ event r u t continues A5 g.found g.did ∷ []) =
-      then_act (view s) (view u) (view t) (Push (view u).number (view u).actor.val.body) (Push (view s).number (value_of a.val).body) (event r s u continues A4 f.found f.did ∷ []) (event r u t continues A5 g.found g.did ∷ []) (λ i. Push (first.number i) (body_is i)) first acts in
+      then_act (view s) (view u) (view t) (Push (view u).number (view u).actor.val.body) (Push (view s).number (value_of a.val).body)
+      (event r s u continues A4 f.found f.did ∷ []) (event r u t continues A5 g.found g.did ∷ []) (λ i. Push (first.number i) (body_is i)) first
+      acts in
       let quiet : IsSilent (view x).actor.due = subst IsSilent (sym (at_a7.knows ∙ ap told_by due)) tt in
-      let gave : GivesSlot r (value_of a.val).body s t = then_gives r (value_of a.val).body s u t (quiet_slots r s u continues A4 f.found f.did refl) (subst (λ (n : ℕ). GivesSlot r n u t) body_is (gives_slot r u t continues A5 g.found g.did (view u).number (view u).actor.val.body won.3)) in
-      let behind = pass_then (view t) (view x) (view y) (event r t x continues A6 m.found m.did ∷ []) (event r x y continues A7 o.found o.did ∷ []) (pass_on r t x continues A6 m.found m.did refl tt refl) (pass_on r x y continues A7 o.found o.did refl quiet refl) in
+      let gave : GivesSlot r (value_of a.val).body s t = then_gives r (value_of a.val).body s u t (quiet_slots r s u continues A4 f.found f.did refl)
+      (subst (λ (n : ℕ). GivesSlot r n u t) body_is (gives_slot r u t continues A5 g.found g.did (view u).number (view u).actor.val.body won.3))
+      in
+      let behind = pass_then (view t) (view x) (view y) (event r t x continues A6 m.found m.did ∷ []) (event r x y continues A7 o.found o.did ∷ [])
+      (pass_on r t x continues A6 m.found m.did refl tt refl) (pass_on r x y continues A7 o.found o.did refl quiet refl) in
       record {
         seat = o.did.seat;
         over = over.0;
@@ -215,7 +236,9 @@ module _ {T : Type 0} (r : Arena) (s u t : Seat T) (a b c : Running) (j k : Line
         never = refl;
         links = record {
           empty = over.1;
-          acts = act_then (view s) (view t) (view y) (Push (view s).number (value_of a.val).body) (event r s u continues A4 f.found f.did ∷ event r u t continues A5 g.found g.did ∷ []) (event r t x continues A6 m.found m.did ∷ event r x y continues A7 o.found o.did ∷ []) before behind;
+          acts = act_then (view s) (view t) (view y) (Push (view s).number (value_of a.val).body)
+              (event r s u continues A4 f.found f.did ∷ event r u t continues A5 g.found g.did ∷ [])
+              (event r t x continues A6 m.found m.did ∷ event r x y continues A7 o.found o.did ∷ []) before behind;
         };
       }
 
@@ -230,19 +253,24 @@ module _ {T : Type 0} (r : Arena) (s u t : Seat T) (a b c : Running) (j k : Line
         seat = o.did.seat;
         over = over.0;
         stored = then_stored s t y (then_stored s u t f.did.stored g.did.stored) o.did.stored;
-        slots = then_slots s t y (then_slots s u t (quiet_slots r s u continues A4 f.found f.did refl) (quiet_slots r u t continues A5 g.found g.did lost.3)) (quiet_slots r t y continues A7 o.found o.did refl);
+        slots = then_slots s t y (then_slots s u t (quiet_slots r s u continues A4 f.found f.did refl)
+            (quiet_slots r u t continues A5 g.found g.did lost.3)) (quiet_slots r t y continues A7 o.found o.did refl);
         lines = event r s u continues A4 f.found f.did ∷ event r u t continues A5 g.found g.did ∷ event r t y continues A7 o.found o.did ∷ [];
         never = refl;
         links = record {
           pocket = over.1 ∙ ap (λ q. Some q) (lost.2 ∙ ap in_hand same_b);
           is = refl;
-          finds = then_shut (view s) (view t) (view y) (event r s u continues A4 f.found f.did ∷ event r u t continues A5 g.found g.did ∷ []) (event r t y continues A7 o.found o.did ∷ []) walks (shut_on r t y continues A7 o.found o.did refl over.2);
+          finds = then_shut (view s) (view t) (view y) (event r s u continues A4 f.found f.did ∷ event r u t continues A5 g.found g.did ∷ [])
+              (event r t y continues A7 o.found o.did ∷ []) walks (shut_on r t y continues A7 o.found o.did refl over.2);
           cause = stopped_at r t y continues A7 o.found o.did s (event r s u continues A4 f.found f.did ∷ event r u t continues A5 g.found g.did ∷ []) Closed walks over.2;
         };
       }
 
 -- the body was pushed
-pub puts_it : {T : Type 0} (r : Arena) (s t u x : Seat T) (h : Held) (val : ℕ) (a b : Running) (out : Outcome Running) (from body spent n turns : ℕ) → a ≡ registers_of h val → b ≡ registers_of h val → Trying r s t h val spent n → Follows r t u continues A3 a out → has_lock out ≡ true → Links r u x b (Ok tt) → body < 2 ^ 48 → val ≡ from * 2 ^ 48 + body → n < turns → Puts push_worn r s (keeping x None n) h.node body spent turns (Ok tt)
+pub puts_it : {T : Type 0} (r : Arena) (s t u x : Seat T) (h : Held) (val : ℕ) (a b : Running) (out : Outcome Running) (from body spent n turns : ℕ)
+    → a ≡ registers_of h val → b ≡ registers_of h val → Trying r s t h val spent n → Follows r t u continues A3 a out → has_lock out ≡ true
+    → Links r u x b (Ok tt) → body < 2 ^ 48 → val ≡ from * 2 ^ 48 + body → n < turns
+    → Puts push_worn r s (keeping x None n) h.node body spent turns (Ok tt)
 puts_it r s t u x h val a b out from body spent n turns is same g follows won linked small word less =
     let f : Follows r t u continues A3 (registers_of h val) out = subst (λ x. Follows r t u continues A3 x out) is follows in
     let k : Links r u x (registers_of h val) (Ok tt) = subst (λ y. Links r u x y (Ok tt)) same linked in
@@ -252,14 +280,16 @@ puts_it r s t u x h val a b out from body spent n turns is same g follows won li
     let before : List Event = g.lines ++ try ∷ [] in
     let w : ExtendsPath (view s) (view u) before = walk_then (view s) (view t) (view u) g.lines (try ∷ []) g.walks (try_walk r t u (registers_of h val) out g.stands f) in
     let es : List Event = before ++ k.lines in
-    let acts : Acts (view s) (view x) (Push (view s).number body) es = then_act (view s) (view u) (view x) (Push (view u).number (value_of val).body) (Push (view s).number body) before k.lines (λ i. Push (w.number i) (bodies i)) w k.links.acts in
+    let acts : Acts (view s) (view x) (Push (view s).number body) es = then_act (view s) (view u) (view x) (Push (view u).number (value_of val).body)
+    (Push (view s).number body) before k.lines (λ i. Push (w.number i) (bodies i)) w k.links.acts in
     let e : added s x ≡ es = added_path s x es acts.path in
     let name = then_stored s u x (then_stored s t u g.stored f.did.stored) k.stored in
     let rest : at_rest (view x).actor ≡ (view x).actor = ap (out_of (view x).actor) k.over in
     record {
       ready = record { seat = kept_seat r x None n k.seat; free = ap (λ b. b.line) rest ∙ k.over; pocket = sym (ap (λ b. b.pocket) rest ∙ k.links.empty) };
       same = record { number = name.number; role = name.role; keeps = name.keeps };
-      slots = kept_gives r body s x None n (then_gives r body s u x (then_slots s t u g.slots (quiet_slots r t u continues A3 f.found f.did refl)) (subst (λ (b : ℕ). GivesSlot r b u x) bodies k.slots));
+      slots = kept_gives r body s x None n (then_gives r body s u x (then_slots s t u g.slots (quiet_slots r t u continues A3 f.found f.did refl))
+          (subst (λ (b : ℕ). GivesSlot r b u x) bodies k.slots));
       pushed = (
         subst (Acts (view s) (view x) (Push (view s).number body)) (sym e) acts,
         refl,
@@ -269,7 +299,9 @@ puts_it r s t u x h val a b out from body spent n turns is same g follows won li
     }
 
 -- the queue was found shut
-pub finds_it_shut : {T : Type 0} (r : Arena) (s t u x : Seat T) (h : Held) (val : ℕ) (a b : Running) (out : Outcome Running) (refusal : Refusal) (body spent n turns : ℕ) → a ≡ registers_of h val → b ≡ registers_of h val → Trying r s t h val spent n → Follows r t u continues A3 a out → has_lock out ≡ true → Links r u x b (Err refusal) → Puts push_worn r s (keeping x (Some h) n) h.node body spent turns (Err refusal)
+pub finds_it_shut : {T : Type 0} (r : Arena) (s t u x : Seat T) (h : Held) (val : ℕ) (a b : Running) (out : Outcome Running) (refusal : Refusal)
+    (body spent n turns : ℕ) → a ≡ registers_of h val → b ≡ registers_of h val → Trying r s t h val spent n → Follows r t u continues A3 a out
+    → has_lock out ≡ true → Links r u x b (Err refusal) → Puts push_worn r s (keeping x (Some h) n) h.node body spent turns (Err refusal)
 finds_it_shut r s t u x h val a b out refusal body spent n turns is same g follows won linked =
     let f : Follows r t u continues A3 (registers_of h val) out = subst (λ x. Follows r t u continues A3 x out) is follows in
     let k : Links r u x (registers_of h val) (Err refusal) = subst (λ y. Links r u x y (Err refusal)) same linked in
@@ -293,7 +325,8 @@ finds_it_shut r s t u x h val a b out refusal body spent n turns is same g follo
     }
 
 -- all turns failed
-pub gives_up_put : {T : Type 0} (r : Arena) (s t : Seat T) (h : Held) (val body spent turns : ℕ) → spent < turns → Trying r s t h val spent turns → Puts push_worn r s (keeping t (Some h) turns) h.node body spent turns (Err Busy)
+pub gives_up_put : {T : Type 0} (r : Arena) (s t : Seat T) (h : Held) (val body spent turns : ℕ) → spent < turns → Trying r s t h val spent turns
+    → Puts push_worn r s (keeping t (Some h) turns) h.node body spent turns (Err Busy)
 gives_up_put r s t h val body spent turns less g =
     let e : added s t ≡ g.lines = added_is s t g.lines g.walks in
     let k = g.stands in

@@ -34,7 +34,9 @@ module _ {T : Type 0} (r : Arena) (s t : Seat T) (prologue : Prologue) (n : ℕ)
   kept l h d = h.pocket ∙ sym d.stored.pocket
 
   -- a step with this outcome leads on to a line
-  leads : (l : Line) → CallIsAt r s prologue l a → (d : DidStep r s t prologue l n) (o : MachineOutcome) → out_at l d ≡ o → (k : Line) (c : Running) → o.actor.line ≡ Some k → o.actor.pocket ≡ b.pocket → ((x : Option ℕ) → AgreesAt k (record o.actor { entry = x }) c) → CallIsAt r t continues k c
+  leads : (l : Line) → CallIsAt r s prologue l a → (d : DidStep r s t prologue l n) (o : MachineOutcome) → out_at l d ≡ o → (k : Line) (c : Running)
+      → o.actor.line ≡ Some k → o.actor.pocket ≡ b.pocket → ((x : Option ℕ) → AgreesAt k (record o.actor { entry = x }) c)
+      → CallIsAt r t continues k c
   leads l h d o e k c line pocket knows =
       record {
         before = goes_on r s t prologue l n d o e k line;
@@ -66,7 +68,8 @@ module _ {T : Type 0} (r : Arena) (s t : Seat T) (prologue : Prologue) (n : ℕ)
         if p then record (goes S9 (record b { due = Some reply.Done })) { at = Some (d.told.was.world.steps + 1) } else goes S9 (record b { due = Some (reply.Refused Closed) })
 
     test : (p : Bool) → same_ref (ref_of r.plan.setup.bits n) null ≡ p → same_ref (node_at d.told.was.world.shared b.tail.node).next null ≡ p
-    test p e = ap (λ k. same_ref k null) (sym (read_back r.plan.setup.bits d.told.sized.split (node_at d.told.was.world.shared b.tail.node).next n (was_fits r.plan prologue S8 n (view s) (view t) d.told (WordNext b.tail.node)) d.told.found)) ∙ e
+    test p e = ap (λ k. same_ref k null) (sym (read_back r.plan.setup.bits d.told.sized.split (node_at d.told.was.world.shared b.tail.node).next n
+        (was_fits r.plan prologue S8 n (view s) (view t) d.told (WordNext b.tail.node)) d.told.found)) ∙ e
 
     abbrev added_there : List Entry
     added_there = entries_at r.plan.setup d.told.was (view s).number b S8

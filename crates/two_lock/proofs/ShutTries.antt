@@ -1,5 +1,6 @@
 -- A shut: it sets out, puts a closed end behind the last node, and its turns.
-use Rattle.std.proofs.Common.{◌≡◌, ℕ, zero, suc, ◌+◌, ◌≤◌, ◌<◌, Bool, true, false, nat_eq, if◌then◌else◌, List, [], ◌∷◌, ◌++◌, Some, None, Result, Ok, Err, OnOk, IfErr, sym, refl, ap, subst, ◌∙◌, arith, add-one, ⊎_elim, inl, inr, ◌⊎◌}
+use Rattle.std.proofs.Common.{◌≡◌, ℕ, zero, suc, ◌+◌, ◌≤◌, ◌<◌, Bool, true, false, nat_eq, if◌then◌else◌, List, [], ◌∷◌, ◌++◌, Some, None, Result, Ok}
+use Rattle.std.proofs.Common.{Err, OnOk, IfErr, sym, refl, ap, subst, ◌∙◌, arith, add-one, ⊎_elim, inl, inr, ◌⊎◌}
 use Rattle.line_table.specs.declared.lines.Line.{Line}
 use Rattle.line_table.specs.declared.lines.Line.TheVariants.{S6, S7, S8, S9}
 use Rattle.counted_ref.specs.Ref.{ref_of, null, same_ref}
@@ -16,7 +17,9 @@ use Rattle.node_arena.specs.Seats.{IsReady, KeepsStored, view}
 use Rattle.node_arena.specs.Turns.{failed_turns, at_s6}
 use Rattle.node_arena.specs.Paths.{ExtendsPath, FindsShut, StopsAPush, Acts, added}
 use Rattle.node_arena.proofs.Noting.{IsSilent}
-use Rattle.node_arena.proofs.Paths.{no_walk, walk_then, then_act, act_then, then_shut, then_stored, no_slots, then_slots, quiet_slots, added_is, added_path, ends_failed, failed-append, failed_behind, last_held, stopped_behind, event, walk_on, pass_on, act_on, shut_on, stopped_at, to_is, failed_last}
+use Rattle.node_arena.proofs.Paths.{no_walk, walk_then, then_act, act_then, then_shut, then_stored, no_slots, then_slots, quiet_slots, added_is}
+use Rattle.node_arena.proofs.Paths.{added_path, ends_failed, failed-append, failed_behind, last_held, stopped_behind, event, walk_on, pass_on, act_on}
+use Rattle.node_arena.proofs.Paths.{shut_on, stopped_at, to_is, failed_last}
 use Rattle.node_arena.proofs.Loads.{shut_slots}
 use Rattle.arena_lines.specs.declared.outcomes.Outcome.{Outcome}
 use Rattle.arena_lines.specs.declared.outcomes.Outcome.TheVariants.{Goes}
@@ -63,7 +66,8 @@ module _ {T : Type 0} (r : Arena) (s t : Seat T) (l : Line) (a b : Running) (h :
           (subst (CallIsAt r t continues S9) (sym same) k.0, inr (record { due = ap (λ (x : Running). x.due) same; adds = k.1 }))
 
 -- the lines under the lock
-module _ {T : Type 0} (r : Arena) (s u t : Seat T) (a b c : Running) (l k : Line) (h : CallIsAt r s continues S7 a) (f : Follows r s u continues S7 a (Goes l b)) (g : Follows r u t continues S8 b (Goes k c)) where
+module _ {T : Type 0} (r : Arena) (s u t : Seat T) (a b c : Running) (l k : Line) (h : CallIsAt r s continues S7 a)
+    (f : Follows r s u continues S7 a (Goes l b)) (g : Follows r u t continues S8 b (Goes k c)) where
   at_s8 : CallIsAt r u continues S8 b
   at_s8 = to_s8 r s u l a b h f
 
@@ -91,7 +95,8 @@ module _ {T : Type 0} (r : Arena) (s u t : Seat T) (a b c : Running) (l k : Line
           over = over;
           pocket = pocket;
           stored = then_stored s t x (then_stored s u t f.did.stored g.did.stored) m.did.stored;
-          slots = then_slots s t x (then_slots s u t (quiet_slots r s u continues S7 f.found f.did refl) (shut_slots r u t continues S8 g.found g.did (view u).number _ refl)) (quiet_slots r t x continues S9 m.found m.did refl);
+          slots = then_slots s t x (then_slots s u t (quiet_slots r s u continues S7 f.found f.did refl)
+              (shut_slots r u t continues S8 g.found g.did (view u).number _ refl)) (quiet_slots r t x continues S9 m.found m.did refl);
           lines = seven ∷ eight ∷ nine ∷ [];
           never = refl;
           shuts = subst (ShutOr r s x (seven ∷ eight ∷ nine ∷ [])) (sym is) shuts;
@@ -101,7 +106,8 @@ module _ {T : Type 0} (r : Arena) (s u t : Seat T) (a b c : Running) (l k : Line
     put p =
         let over = done_s9 r t x continues m.found c at_s9 m.did p.due in
         let acts : Acts (view u) (view t) (Shut (view u).number) (eight ∷ []) = act_on r u t continues S8 g.found g.did (Shut (view u).number) p.adds tt in
-        let before : Acts (view s) (view t) (Shut (view s).number) (seven ∷ eight ∷ []) = then_act (view s) (view u) (view t) (Shut (view u).number) (Shut (view s).number) (seven ∷ []) (eight ∷ []) (ap Shut first.number) first acts in
+        let before : Acts (view s) (view t) (Shut (view s).number) (seven ∷ eight ∷ []) = then_act (view s) (view u) (view t) (Shut (view u).number)
+        (Shut (view s).number) (seven ∷ []) (eight ∷ []) (ap Shut first.number) first acts in
         let quiet : IsSilent (view t).actor.due = subst IsSilent (sym (at_s9.knows ∙ ap told_by p.due)) tt in
         ended (Ok tt) (m.answers ∙ ap answer_of p.due) over.0 over.1
         (act_then (view s) (view t) (view x) (Shut (view s).number) (seven ∷ eight ∷ []) (nine ∷ []) before (pass_on r t x continues S9 m.found m.did refl quiet refl))

@@ -57,7 +57,8 @@ module _ (permits : List Permit) (me : ℕ) (only : OnlyPushes permits me) where
   May es = All (IsPermitted permits) es
 
   -- where one seat alone may push, and made no shut, nothing leads to a queue that is shut
-  stays_open : (es : List Entry) (values left : List Taken) → May es → count_by is_shut (own_entries me es) ≡ 0 → Plays (record { values = values; shut = false }) es (record { values = left; shut = true }) → ⊥
+  stays_open : (es : List Entry) (values left : List Taken) → May es → count_by is_shut (own_entries me es) ≡ 0
+      → Plays (record { values = values; shut = false }) es (record { values = left; shut = true }) → ⊥
   stays_open [] values left may none h = false≢true (ap (λ (q : Queue). q.shut) h)
   stays_open (Push seat body ∷ es) values left may none h =
       stays_open es _ left (All-tail (IsPermitted permits) (Push seat body) es may) (fewer (nat_eq seat me) (Push seat body) (own_entries me es) none) h.1

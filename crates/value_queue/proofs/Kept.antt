@@ -36,7 +36,8 @@ module _ {T : Type 0} (s x y : Seat T) (k : KeepsKnown x y) where
   stops_still _ f = subst (λ (v : SeatView). ExtendsPath (view s) v (drop (length (view s).path) v.path)) (sym k.view) f
 
   -- and its cause
-  pub cause_still : (worn : WornWord → Option Held → Type 0) (r : Arena) (node spent turns : ℕ) (refusal : Refusal) → PutRefused worn r s x node spent turns refusal → PutRefused worn r s y node spent turns refusal
+  pub cause_still : (worn : WornWord → Option Held → Type 0) (r : Arena) (node spent turns : ℕ) (refusal : Refusal)
+      → PutRefused worn r s x node spent turns refusal → PutRefused worn r s y node spent turns refusal
   cause_still worn r node spent turns Busy f =
       subst (λ es. (spent + failed_turns es ≡ turns) × FailedAt es × KeepsNode y node) (sym added_still)
       (f.0, f.1, subst (λ pocket. IsSomeAnd pocket (λ h. h.node ≡ node)) (sym k.stored.pocket) f.2)

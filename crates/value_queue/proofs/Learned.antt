@@ -1,5 +1,6 @@
 -- What a call tells its seat of values, by what it tells of entries and which deeds it adds.
-use Rattle.std.proofs.Common.{◌≡◌, ℕ, Bool, true, false, cond, nat_eq, List, [], ◌∷◌, ◌++◌, length, Result, Ok, Err, OnOk, IfErr, sym, refl, ap, subst, ◌∙◌, arith, append-nil, append_assoc, length-append}
+use Rattle.std.proofs.Common.{◌≡◌, ℕ, Bool, true, false, cond, nat_eq, List, [], ◌∷◌, ◌++◌, length, Result, Ok, Err, OnOk, IfErr, sym, refl, ap}
+use Rattle.std.proofs.Common.{subst, ◌∙◌, arith, append-nil, append_assoc, length-append}
 use Rattle.std.proofs.lemmas.Bool.{eq-eqb}
 use Rattle.std.proofs.lemmas.List.Elements.{filter-append}
 use Rattle.history.specs.declared.operations.Entry.{Entry}
@@ -51,10 +52,12 @@ module _ {T : Type 0} (r : Arena) (carries : carries_of r ≡ true) (s t : Seat 
   seen-adds : (d : slots.Deed T) (adds : AddsOwn s t d) → (between : List (Deed T)) × (seen_by t ≡ (seen_by s ++ between) ++ told (left_by [] (deeds_of s ++ adds.between)) (d ∷ []))
   seen-adds d adds = (
     told (left_by [] (deeds_of s)) adds.between,
-    ap (told []) adds.deeds ∙ (told-append [] (deeds_of s ++ adds.between) (d ∷ []) ∙ ap (λ ys. ys ++ told (left_by [] (deeds_of s ++ adds.between)) (d ∷ [])) (told-append [] (deeds_of s) adds.between)),
+    ap (told []) adds.deeds ∙ (told-append [] (deeds_of s ++ adds.between) (d ∷ []) ∙ ap
+        (λ ys. ys ++ told (left_by [] (deeds_of s ++ adds.between)) (d ∷ [])) (told-append [] (deeds_of s) adds.between)),
   )
 
-  mine-more : (number : (view t).number ≡ (view s).number) (mine : (view t).mine ≡ (view s).mine) (between : List (Deed T)) → seen_by t ≡ seen_by s ++ between → own_deeds (view t).number (seen_by t) ≡ own_deeds (view s).number (seen_by s)
+  mine-more : (number : (view t).number ≡ (view s).number) (mine : (view t).mine ≡ (view s).mine) (between : List (Deed T))
+      → seen_by t ≡ seen_by s ++ between → own_deeds (view t).number (seen_by t) ≡ own_deeds (view s).number (seen_by s)
   mine-more number mine between seen =
       let to : own_deeds (view t).number (seen_by t) ≡ own_deeds (view s).number (seen_by s ++ between) = (λ i. own_deeds (number i) (seen i)) in
       to ∙ own-more (view s).number (seen_by s) between (sym (ap length to) ∙ (length-mine r carries t it ∙ (ap length mine ∙ sym (length-mine r carries s is))))
@@ -65,7 +68,8 @@ module _ {T : Type 0} (r : Arena) (carries : carries_of r ≡ true) (s t : Seat 
       let seen = seen-more more in
       record { number = k.number; between = seen.0; seen = seen.1; mine = mine-more k.number k.mine seen.0 seen.1; notes = k.notes }
 
-  finds-deeds : (Leaves : List (Deed T) → Type 0) → SeesMoreDeeds s t → Leaves (seen_by t) → (view t).number ≡ (view s).number → (view t).mine ≡ (view s).mine → (view t).notes ≡ (view s).notes ++ length (view t).seen ∷ [] → FindsDone Leaves (known_by s) (known_by t)
+  finds-deeds : (Leaves : List (Deed T) → Type 0) → SeesMoreDeeds s t → Leaves (seen_by t) → (view t).number ≡ (view s).number
+      → (view t).mine ≡ (view s).mine → (view t).notes ≡ (view s).notes ++ length (view t).seen ∷ [] → FindsDone Leaves (known_by s) (known_by t)
   finds-deeds Leaves more leaves number mine notes =
       let seen = seen-more more in
       record {
@@ -100,11 +104,14 @@ module _ {T : Type 0} (r : Arena) (carries : carries_of r ≡ true) (s t : Seat 
   pop_refused-deeds _ more k = sees-deeds more k
 
   -- a deed was added
-  adds-deed : (e : Entry) (d : Deed T) (between : List (Deed T)) → doer_of d ≡ (view s).number → Adds (known_of s) e (known_of t) → seen_by t ≡ (seen_by s ++ between) ++ d ∷ [] → AddsDeed (known_by s) d (known_by t)
+  adds-deed : (e : Entry) (d : Deed T) (between : List (Deed T)) → doer_of d ≡ (view s).number → Adds (known_of s) e (known_of t)
+      → seen_by t ≡ (seen_by s ++ between) ++ d ∷ [] → AddsDeed (known_by s) d (known_by t)
   adds-deed e d between its k seen =
       let n = (view s).number in
       let to : own_deeds (view t).number (seen_by t) ≡ own_deeds n ((seen_by s ++ between) ++ d ∷ []) = (λ i. own_deeds (k.number i) (seen i)) in
-      let split : own_deeds n ((seen_by s ++ between) ++ d ∷ []) ≡ own_deeds n (seen_by s ++ between) ++ d ∷ [] = filter-append (λ y. nat_eq (doer_of y) n) (seen_by s ++ between) (d ∷ []) ∙ ap (λ ys. own_deeds n (seen_by s ++ between) ++ ys) (own-one n d its) in
+      let split : own_deeds n ((seen_by s ++ between) ++ d ∷ []) ≡ own_deeds n (seen_by s ++ between) ++ d ∷ [] =
+      filter-append (λ y. nat_eq (doer_of y) n) (seen_by s ++ between) (d ∷ []) ∙ ap (λ ys. own_deeds n (seen_by s ++ between) ++ ys)
+      (own-one n d its) in
       let one_more : length (own_deeds n (seen_by s ++ between)) ≡ length (own_deeds n (seen_by s)) =
       (let a = length-mine r carries t it in
       let b = length-mine r carries s is in

@@ -51,7 +51,8 @@ module _ {T : Type 0} (r : Arena) (carries : carries_of r ≡ true) (s t : Seat 
     deeds_then = take (length now) (seen_by t)
 
     matches_then : Matches now deeds_then
-    matches_then = subst (λ es. Matches es deeds_then) (ap (λ es. take (length now) es) (sym w.ends.1) ∙ first_of now w.ends.0) (Matches-take (length now) (view t).seen (seen_by t) (seen_matches r carries t it))
+    matches_then = subst (λ es. Matches es deeds_then) (ap (λ es. take (length now) es) (sym w.ends.1) ∙ first_of now w.ends.0)
+        (Matches-take (length now) (view t).seen (seen_by t) (seen_matches r carries t it))
 
     run_then : IsRun deeds_then
     run_then = run-first deeds_then (drop (length now) (seen_by t)) (subst IsRun (sym (take-append-drop (length now) (seen_by t))) (seen_runs r carries t it))

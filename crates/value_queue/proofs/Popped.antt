@@ -32,7 +32,8 @@ module _ {T : Type 0} (worn : WornWord → Type 0) (r : Arena) where
   draw_at_once s v x n turns out e f d = subst (λ u. Draws worn r u x 0 turns out) e (subst (λ m. Draws worn r v x m turns out) f d)
 
   -- the pop of a seat that first gave its node back
-  pub draw_after_give : (s u v x : Seat T) (spent n turns : ℕ) (out : Result (Option Taken) Refusal) → v ≡ u → n ≡ spent → KeepsName s u → KeepsSlots s u → HadNoEffect s u → spent ≡ failed_turns (added s u) → Draws worn r v x n turns out → Draws worn r s x 0 turns out
+  pub draw_after_give : (s u v x : Seat T) (spent n turns : ℕ) (out : Result (Option Taken) Refusal) → v ≡ u → n ≡ spent → KeepsName s u
+      → KeepsSlots s u → HadNoEffect s u → spent ≡ failed_turns (added s u) → Draws worn r v x n turns out → Draws worn r s x 0 turns out
   draw_after_give s u v x spent n turns out e f name slots w g d =
       let k : Draws worn r u x spent turns out = subst (λ y. Draws worn r y x spent turns out) e (subst (λ m. Draws worn r v x m turns out) f d) in
       draws_late worn r s u x (added s u) w 0 spent turns (omega (arith, g)) out name slots k
@@ -92,13 +93,15 @@ module _ {T : Type 0} (worn : WornWord → Type 0) (r : Arena) (carries : carrie
         let took = took_slot r taken s x d.ready.seat none carries d.slots in
         let value : took.0 ≡ front.value = one_value r x taken.body took.0 front.value took.1 t.value in
         let its : as_item (item taken.from took.0) ≡ front = (λ i. record { from = sym t.from i; value = value i }) in
-        let adds : AddsDeed (known_by s) (did_pop (view s).number (as_item (item taken.from took.0))) (known_by x) = pop-deed r carries s x is.seat d.ready.seat (Pop (view s).number taken) (item taken.from took.0) took.2 d.answer in
+        let adds : AddsDeed (known_by s) (did_pop (view s).number (as_item (item taken.from took.0))) (known_by x) =
+        pop-deed r carries s x is.seat d.ready.seat (Pop (view s).number taken) (item taken.from took.0) took.2 d.answer in
         let es = added_still s x y k in
         record {
           ready = t.ready;
           none_out = t.none_out;
           same = name_still s x y k d.same;
-          answer = subst (λ q. AddsDeed (known_by s) (did_pop (view s).number front) q) (sym (known_still x y k)) (subst (λ q. AddsDeed (known_by s) (did_pop (view s).number q) (known_by x)) its adds);
+          answer = subst (λ q. AddsDeed (known_by s) (did_pop (view s).number front) q) (sym (known_still x y k))
+              (subst (λ q. AddsDeed (known_by s) (did_pop (view s).number q) (known_by x)) its adds);
           few = subst (λ q. failed_turns q ≤ turns) (sym es) a.few;
           freed = λ off. ⊎_elim (λ p. inl (k.stored.pocket ∙ p)) (λ f. inr (ap failed_turns es ∙ f)) (a.freed off);
           kept = λ on. ap is_some k.stored.pocket ∙ a.kept on;

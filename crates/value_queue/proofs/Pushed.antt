@@ -59,7 +59,13 @@ value_is {T} held i j x y e f = ap value_or (sym e ∙ f)
 pub keeps_on : {T : Type 0} (s t u : Seat T) → KeepsKnown s t → KeepsKnown t u → KeepsKnown s u
 keeps_on s t u f g =
     record {
-      stored = record { number = g.stored.number ∙ f.stored.number; role = g.stored.role ∙ f.stored.role; keeps = g.stored.keeps ∙ f.stored.keeps; pocket = g.stored.pocket ∙ f.stored.pocket; failed = g.stored.failed ∙ f.stored.failed };
+      stored = record {
+        number = g.stored.number ∙ f.stored.number;
+        role = g.stored.role ∙ f.stored.role;
+        keeps = g.stored.keeps ∙ f.stored.keeps;
+        pocket = g.stored.pocket ∙ f.stored.pocket;
+        failed = g.stored.failed ∙ f.stored.failed;
+      };
       view = g.view ∙ f.view;
       deeds = g.deeds ∙ f.deeds;
     }
@@ -112,7 +118,8 @@ module _ {T : Type 0} (worn : WornWord → Option Held → Type 0) (r : Arena) (
     missed_since tries missed = record { seat = u; more = sees_on (view s) (view u) (added s u) h.lines; node = held.node; missed = missed }
 
     -- there was no slot
-    pub no_slot : (refusal : Refusal) → IsReady r v → KeepsKnown u v → (refusal ≡ Busy) × HasNoSlot v → FailedTries r u held.node (turns - spent) → AnswersPush worn r s v value turns (Err (back_with refusal value))
+    pub no_slot : (refusal : Refusal) → IsReady r v → KeepsKnown u v → (refusal ≡ Busy) × HasNoSlot v → FailedTries r u held.node (turns - spent)
+        → AnswersPush worn r s v value turns (Err (back_with refusal value))
     no_slot refusal ready k its missed =
         let busy : Busy ≡ refusal = sym its.0 in
         record {
@@ -144,7 +151,8 @@ module _ {T : Type 0} (worn : WornWord → Option Held → Type 0) (r : Arena) (
       put_since : (x : Seat T) (out : Result (Unit {0}) Refusal) → Puts worn r v x held.node body (spent + got.failed) turns out → PutsAnd (Unit {0}) worn r s x held.node body got.failed turns out
       put_since x out p =
           put_behind worn (Unit {0}) (Unit {0}) (λ y. y) r s u x (added s u) h.lines h.same held.node body got.failed (spent + got.failed) turns out (let b = h.spent.0 in omega (arith, b))
-          (put_behind worn (PutMoves r body v x out) (Unit {0}) (λ y. tt) r u v x [] no_lines same_name held.node body (spent + got.failed) (spent + got.failed) turns out (let z : failed_turns [] ≡ 0 = refl in omega (arith, z)) p)
+          (put_behind worn (PutMoves r body v x out) (Unit {0}) (λ y. tt) r u v x [] no_lines same_name held.node body (spent + got.failed)
+          (spent + got.failed) turns out (let z : failed_turns [] ≡ 0 = refl in omega (arith, z)) p)
 
       -- the value was pushed
       pub value_pushed : (x : Seat T) → Puts worn r v x held.node body (spent + got.failed) turns (Ok tt) → AnswersPush worn r s x value turns (Ok tt)
@@ -153,7 +161,8 @@ module _ {T : Type 0} (worn : WornWord → Option Held → Type 0) (r : Arena) (
           let gave = p.slots carries in
           let number : (view v).number ≡ (view s).number = ap (λ (w : SeatView). w.number) k.view ∙ h.slots.number in
           let its : gave.1.0 ≡ value = value_is v.token.me.1 body got.slot gave.1.0 value gave.1.1 has.out in
-          let adds : AddsOwn s x (pushed (view s).number value) = adds_from s v x (pushed (view v).number gave.1.0) (pushed (view s).number value) (λ i. pushed (number i) (its i)) (more_since k) gave.1.2 in
+          let adds : AddsOwn s x (pushed (view s).number value) = adds_from s v x (pushed (view v).number gave.1.0) (pushed (view s).number value)
+          (λ i. pushed (number i) (its i)) (more_since k) gave.1.2 in
           record {
             ready = n.ready;
             none_out = gave.0;
@@ -168,7 +177,9 @@ module _ {T : Type 0} (worn : WornWord → Option Held → Type 0) (r : Arena) (
           }
 
       -- it came back
-      pub value_back : (y x : Seat T) (refusal : Refusal) (out : Result (Unit {0}) (Unpushed T)) → Puts worn r v y held.node body (spent + got.failed) turns (Err refusal) → (b : TakesBack r y x got.slot refusal out) → AnswersPush worn r s x value turns (Err (back_with refusal b.value))
+      pub value_back : (y x : Seat T) (refusal : Refusal) (out : Result (Unit {0}) (Unpushed T))
+          → Puts worn r v y held.node body (spent + got.failed) turns (Err refusal) → (b : TakesBack r y x got.slot refusal out)
+          → AnswersPush worn r s x value turns (Err (back_with refusal b.value))
       value_back y x refusal out p b =
           let n = put_since y (Err refusal) p in
           let more : SeesMoreDeeds s x = more_still s y x b.keeps (more_on s v y (more_since k) p.slots.more) in

@@ -1,5 +1,6 @@
 -- Entries and deeds that go one by one.
-use Rattle.std.proofs.Common.{◌≡◌, ℕ, zero, suc, ◌-◌, ◌≤◌, Bool, true, false, cond, nat_eq, List, [], ◌∷◌, ◌++◌, length, take, IsSomeAnd, IsTrue, slice_get, sym, refl, ap, subst, ◌∙◌, arith, length-append}
+use Rattle.std.proofs.Common.{◌≡◌, ℕ, zero, suc, ◌-◌, ◌≤◌, Bool, true, false, cond, nat_eq, List, [], ◌∷◌, ◌++◌, length, take, IsSomeAnd, IsTrue}
+use Rattle.std.proofs.Common.{slice_get, sym, refl, ap, subst, ◌∙◌, arith, length-append}
 use Rattle.std.specs.Coded.{×_prop}
 use Rattle.std.proofs.Math.Nat.{ℕ_set}
 use Rattle.std.specs.List.{All}
@@ -56,27 +57,43 @@ module _ {A : Type 0} where
   -- a seat has as many deeds as entries
   pub length-own : (me : ℕ) (es : List Entry) (ds : List (Deed A)) → Matches es ds → length (own_deeds me ds) ≡ length (own_entries me es)
   length-own me [] [] h = refl
-  length-own me (Push n b ∷ es) (did_push m x ∷ ds) h = length-cond (nat_eq m me) (nat_eq n me) (did_push m x) (Push n b) (own_deeds me ds) (own_entries me es) (ap (λ k. nat_eq k me) h.0) (length-own me es ds h.1)
-  length-own me (Pop n t ∷ es) (did_pop m u ∷ ds) h = length-cond (nat_eq m me) (nat_eq n me) (did_pop m u) (Pop n t) (own_deeds me ds) (own_entries me es) (ap (λ k. nat_eq k me) h.0) (length-own me es ds h.2)
-  length-own me (Shut n ∷ es) (did_shut m ∷ ds) h = length-cond (nat_eq m me) (nat_eq n me) (did_shut m) (Shut n) (own_deeds me ds) (own_entries me es) (ap (λ k. nat_eq k me) h.0) (length-own me es ds h.1)
+  length-own me (Push n b ∷ es) (did_push m x ∷ ds) h = length-cond (nat_eq m me) (nat_eq n me) (did_push m x) (Push n b) (own_deeds me ds)
+      (own_entries me es) (ap (λ k. nat_eq k me) h.0) (length-own me es ds h.1)
+  length-own me (Pop n t ∷ es) (did_pop m u ∷ ds) h = length-cond (nat_eq m me) (nat_eq n me) (did_pop m u) (Pop n t) (own_deeds me ds)
+      (own_entries me es) (ap (λ k. nat_eq k me) h.0) (length-own me es ds h.2)
+  length-own me (Shut n ∷ es) (did_shut m ∷ ds) h = length-cond (nat_eq m me) (nat_eq n me) (did_shut m) (Shut n) (own_deeds me ds)
+      (own_entries me es) (ap (λ k. nat_eq k me) h.0) (length-own me es ds h.1)
   length-own me es ds h = absurd h
 
   -- each deed is permitted where its entry is
   pub permitted-Matches : (permits : List Permit) (es : List Entry) (ds : List (Deed A)) → Matches es ds → All (IsPermitted permits) es → All (IsPermittedDeed permits) ds
   permitted-Matches permits [] [] h may = All-nil (IsPermittedDeed permits)
   permitted-Matches permits (Push n b ∷ es) (did_push m x ∷ ds) h may =
-      All-cons (IsPermittedDeed permits) (did_push m x) ds (subst (λ k. (1 ≤ k) × IsSomeAnd (slice_get permits (k - 1)) (λ p. IsTrue p.pushes)) (sym h.0) (All-head (IsPermitted permits) (Push n b) es may)) (permitted-Matches permits es ds h.1 (All-tail (IsPermitted permits) (Push n b) es may))
+      All-cons (IsPermittedDeed permits) (did_push m x) ds (subst (λ k. (1 ≤ k) × IsSomeAnd (slice_get permits (k - 1)) (λ p. IsTrue p.pushes))
+      (sym h.0) (All-head (IsPermitted permits) (Push n b) es may)) (permitted-Matches permits es ds h.1
+      (All-tail (IsPermitted permits) (Push n b) es may))
   permitted-Matches permits (Pop n t ∷ es) (did_pop m u ∷ ds) h may =
-      All-cons (IsPermittedDeed permits) (did_pop m u) ds (subst (λ k. (1 ≤ k) × IsSomeAnd (slice_get permits (k - 1)) (λ p. IsTrue p.pops)) (sym h.0) (All-head (IsPermitted permits) (Pop n t) es may)) (permitted-Matches permits es ds h.2 (All-tail (IsPermitted permits) (Pop n t) es may))
+      All-cons (IsPermittedDeed permits) (did_pop m u) ds (subst (λ k. (1 ≤ k) × IsSomeAnd (slice_get permits (k - 1)) (λ p. IsTrue p.pops)) (sym h.0)
+      (All-head (IsPermitted permits) (Pop n t) es may)) (permitted-Matches permits es ds h.2 (All-tail (IsPermitted permits) (Pop n t) es may))
   permitted-Matches permits (Shut n ∷ es) (did_shut m ∷ ds) h may =
-      All-cons (IsPermittedDeed permits) (did_shut m) ds (subst (λ k. (1 ≤ k) × IsSomeAnd (slice_get permits (k - 1)) (λ p. IsTrue p.pushes)) (sym h.0) (All-head (IsPermitted permits) (Shut n) es may)) (permitted-Matches permits es ds h.1 (All-tail (IsPermitted permits) (Shut n) es may))
+      All-cons (IsPermittedDeed permits) (did_shut m) ds (subst (λ k. (1 ≤ k) × IsSomeAnd (slice_get permits (k - 1)) (λ p. IsTrue p.pushes))
+      (sym h.0) (All-head (IsPermitted permits) (Shut n) es may)) (permitted-Matches permits es ds h.1
+      (All-tail (IsPermitted permits) (Shut n) es may))
   permitted-Matches permits es ds h may = absurd h
 
   -- entries and deeds that go one by one leave as many values, and shut both queues or neither
-  pub left-Matches : (es : List Entry) (ds : List (Deed A)) (shut : Bool) (vs : List Taken) (q : List (ItemOf A)) (after : Queue) (q' : List (ItemOf A)) (shut' : Bool) → length vs ≡ length q → Plays (record { values = vs; shut = shut }) es after → Runs q shut ds q' shut' → Matches es ds → (length after.values ≡ length q') × (after.shut ≡ shut')
+  pub left-Matches : (es : List Entry) (ds : List (Deed A)) (shut : Bool) (vs : List Taken) (q : List (ItemOf A)) (after : Queue)
+      (q' : List (ItemOf A)) (shut' : Bool) → length vs ≡ length q → Plays (record { values = vs; shut = shut }) es after → Runs q shut ds q' shut'
+      → Matches es ds → (length after.values ≡ length q') × (after.shut ≡ shut')
   left-Matches [] [] shut vs q after q' shut' long h k m = (sym (ap (λ (x : Queue). length x.values) h) ∙ (long ∙ ap length k.0), sym (ap (λ (x : Queue). x.shut) h) ∙ k.1)
   left-Matches (Push n b ∷ es) (did_push m x ∷ ds) false vs q after q' shut' long h k e =
-      left-Matches es ds false (vs ++ record { from = n; body = b } ∷ []) (q ++ record { from = m; value = x } ∷ []) after q' shut' (let l : length vs ≡ length q = long in omega (arith, l, length-append vs (record { from = n; body = b } ∷ []), length-append q (record { from = m; value = x } ∷ []))) h.1 k.1 e.1
+      left-Matches es ds false (vs ++ record { from = n; body = b } ∷ []) (q ++ record { from = m; value = x } ∷ []) after q' shut'
+      (let l : length vs ≡ length q = long in omega (
+        arith,
+        l,
+        length-append vs (record { from = n; body = b } ∷ []),
+        length-append q (record { from = m; value = x } ∷ []),
+      )) h.1 k.1 e.1
   left-Matches (Push n b ∷ es) (did_push m x ∷ ds) true vs q after q' shut' long h k e = absurd (let bad : Refused Closed ≡ Done = h.0 in cc)
   left-Matches (Pop n t ∷ es) (did_pop m u ∷ ds) shut (v ∷ vs) q after q' shut' long h k e =
       left-Matches es ds shut vs k.0 after q' shut' (let l : length (v ∷ vs) ≡ length (u ∷ k.0) = long ∙ ap length k.1 in omega (arith, l)) h.1 k.2 e.2

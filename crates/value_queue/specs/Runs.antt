@@ -68,9 +68,15 @@ module _ {T : Type 0} where
   left_by-Runs q shut (closed n ∷ ds) q' shut' h = left_by-Runs q true ds q' shut' h.1
 
   -- and go one by one with the entries with which they went
-  pub Matches-told : (q : List (Item T)) (shut : Bool) (es : List Entry) (ds : List (slots.Deed T)) (q' : List (Item T)) (shut' : Bool) → slots.Runs q shut ds q' shut' → slots.Matches es ds → Matches es (told (map as_item q) ds)
+  pub Matches-told : (q : List (Item T)) (shut : Bool) (es : List Entry) (ds : List (slots.Deed T)) (q' : List (Item T)) (shut' : Bool)
+      → slots.Runs q shut ds q' shut' → slots.Matches es ds → Matches es (told (map as_item q) ds)
   Matches-told q shut [] [] q' shut' h k = tt
-  Matches-told q shut (Push n b ∷ es) (pushed m x ∷ ds) q' shut' h k = (k.0, subst (λ y. Matches es (told y ds)) (more_items q (slots.item m x)) (Matches-told (q ++ slots.item m x ∷ []) shut es ds q' shut' h.1 k.1))
-  Matches-told q shut (Pop n t ∷ es) (popped m u ∷ ds) q' shut' h k = subst (λ y. Matches (Pop n t ∷ es) (told (map as_item y) (popped m u ∷ ds))) (sym h.1) (k.0, k.1, Matches-told h.0 shut es ds q' shut' h.2 k.2)
+  Matches-told q shut (Push n b ∷ es) (pushed m x ∷ ds) q' shut' h k = (
+    k.0,
+    subst (λ y. Matches es (told y ds)) (more_items q (slots.item m x))
+        (Matches-told (q ++ slots.item m x ∷ []) shut es ds q' shut' h.1 k.1),
+  )
+  Matches-told q shut (Pop n t ∷ es) (popped m u ∷ ds) q' shut' h k = subst (λ y. Matches (Pop n t ∷ es) (told (map as_item y) (popped m u ∷ ds)))
+      (sym h.1) (k.0, k.1, Matches-told h.0 shut es ds q' shut' h.2 k.2)
   Matches-told q shut (Shut n ∷ es) (closed m ∷ ds) q' shut' h k = (k.0, Matches-told q true es ds q' shut' h.1 k.1)
   Matches-told q shut es ds q' shut' h k = absurd k

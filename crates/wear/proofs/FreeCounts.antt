@@ -1,6 +1,7 @@
 -- What Free counts: twice the nodes that were taken from the free list, and those that are in it. A step that takes one raises
 -- the count by one and leaves one less in the list, one that gives one back raises it and leaves one more.
-use Rattle.std.proofs.Common.{◌≡◌, ◌≢◌, ℕ, zero, suc, ◌+◌, ◌-◌, ◌*◌, ◌≤◌, ◌<◌, Bool, true, false, if◌then◌else◌, ◌⊎◌, inl, inr, List, [], ◌∷◌, ◌++◌, length, Option, Some, None, IfSome, refl, sym, ap, subst, ◌∙◌, arith}
+use Rattle.std.proofs.Common.{◌≡◌, ◌≢◌, ℕ, zero, suc, ◌+◌, ◌-◌, ◌*◌, ◌≤◌, ◌<◌, Bool, true, false, if◌then◌else◌, ◌⊎◌, inl, inr, List, [], ◌∷◌, ◌++◌}
+use Rattle.std.proofs.Common.{length, Option, Some, None, IfSome, refl, sym, ap, subst, ◌∙◌, arith}
 use Rattle.std.specs.List.{sum_by, range_with_len}
 use Rattle.std.proofs.Math.ListN.{length-set}
 use Rattle.std.proofs.lemmas.List.Sums.{sum_by-cons, sum_by_push}
@@ -45,7 +46,8 @@ module _ (f g : ℕ → ℕ) (you more : ℕ) (others : (n : ℕ) → n ≢ you 
   sum_more a zero low high = absurd (omega arith)
   sum_more a (suc k) low high = go (same_or_not a you) (sum_more (a + 1) k)
     where
-      go : (a ≡ you) ⊎ (a ≢ you) → (a + 1 ≤ you → you < a + 1 + k → sum_by g (range_with_len (a + 1) k) ≡ sum_by f (range_with_len (a + 1) k) + more) → sum_by g (range_with_len a (suc k)) ≡ sum_by f (range_with_len a (suc k)) + more
+      go : (a ≡ you) ⊎ (a ≢ you) → (a + 1 ≤ you → you < a + 1 + k → sum_by g (range_with_len (a + 1) k) ≡ sum_by f (range_with_len (a + 1) k) + more)
+          → sum_by g (range_with_len a (suc k)) ≡ sum_by f (range_with_len a (suc k)) + more
       go (inl e) rest = omega (arith, sum_by-cons g a (range_with_len (a + 1) k), sum_by-cons f a (range_with_len (a + 1) k), ap g e, ap f e, here, sum_above (a + 1) k (omega arith))
       go (inr d) rest = omega (arith, sum_by-cons g a (range_with_len (a + 1) k), sum_by-cons f a (range_with_len (a + 1) k), others a d, rest (omega arith) (omega arith))
 
@@ -127,11 +129,14 @@ module _ (t : Traced) (r : IsTraced t) (you : ℕ) (a : Actor) (is : actor_of t.
   -- it writes no node of the free list
   chain_stays : (l : Line) → a.line ≡ Some l → (free : List ℕ) → IsChain m.nodes m.free.node free → IsChain (after l).nodes m.free.node free
   chain_stays l at free chain =
-      let mv : Moving (λ w q. Unit {0}) (λ w k. Unit {0}) w you a (after l) (told l) = step_moving (queue_of_kind w.setup.kind) (steps_of_kind w.setup.kind) (λ w q. Unit {0}) (λ w k. Unit {0}) nothing w you a l reached (is_of_kind w.setup.kind) is at p in
+      let mv : Moving (λ w q. Unit {0}) (λ w k. Unit {0}) w you a (after l) (told l) = step_moving (queue_of_kind w.setup.kind)
+      (steps_of_kind w.setup.kind) (λ w q. Unit {0}) (λ w k. Unit {0}) nothing w you a l reached (is_of_kind w.setup.kind) is at p in
       let here : free ≡ mv.move.free = same_free w free mv.move.free chain mv.move.shape.free_chain in
-      let long : length (after l).nodes ≡ length m.nodes = (reached_in_range (step_at t you a l).world (traced_reached (step_at t you a l) (step_traced t you a l r is at))).shared.all_nodes ∙ sym range.shared.all_nodes in
+      let long : length (after l).nodes ≡ length m.nodes = (reached_in_range (step_at t you a l).world
+      (traced_reached (step_at t you a l) (step_traced t you a l r is at))).shared.all_nodes ∙ sym range.shared.all_nodes in
       chain_kept IsNull m.nodes (after l).nodes free m.free.node long
-      (λ k one stands. ap (λ (x : Node). x.next.node) (free_kept w.setup.bits m (after l) (elsewhere w) mv.front mv.rest mv.move.free a mv.move.shape mv.move.writes (λ n. elsewhere_one w you a n is) k one (subst (λ ns. 1 ≤ times k ns) here stands)))
+      (λ k one stands. ap (λ (x : Node). x.next.node) (free_kept w.setup.bits m (after l) (elsewhere w) mv.front mv.rest mv.move.free a mv.move.shape
+      mv.move.writes (λ n. elsewhere_one w you a n is) k one (subst (λ ns. 1 ≤ times k ns) here stands)))
       chain
 
   -- a step that leaves Free, and takes nothing
@@ -154,7 +159,8 @@ module _ (t : Traced) (r : IsTraced t) (you : ℕ) (a : Actor) (is : actor_of t.
       }
 
   -- a won one writes this Free, and the list is this one
-  won : (l : Line) → a.line ≡ Some l → (top : Ref) → after l ≡ put Free top m → (free : List ℕ) → IsChain m.nodes top.node free → top.count ≡ 2 * (nodes_taken t + takes_at l (told l).actor.line) + length free → Counts (step_at t you a l)
+  won : (l : Line) → a.line ≡ Some l → (top : Ref) → after l ≡ put Free top m → (free : List ℕ) → IsChain m.nodes top.node free
+      → top.count ≡ 2 * (nodes_taken t + takes_at l (told l).actor.line) + length free → Counts (step_at t you a l)
   won l at top words free chain counts =
       record {
         free = free;
@@ -163,12 +169,16 @@ module _ (t : Traced) (r : IsTraced t) (you : ℕ) (a : Actor) (is : actor_of t.
       }
 
   -- a take of the first free node
-  takes_one : a.line ≡ Some N4 → (free : List ℕ) → IsChain m.nodes m.free.node free → m.free.count ≡ 2 * nodes_taken t + length free → m.free ≡ a.top → after N4 ≡ put Free (raised w.setup a.top a.next.node) m → takes_at N4 (told N4).actor.line ≡ 1 → Counts (step_at t you a N4)
-  takes_one at [] chain counts was words takes = absurd (let some : 1 ≤ a.top.node = (stands_at w reached you a N4 is at).1 in let none : m.free.node ≡ 0 = chain in let top : m.free.node ≡ a.top.node = ap (λ (x : Ref). x.node) was in omega arith)
+  takes_one : a.line ≡ Some N4 → (free : List ℕ) → IsChain m.nodes m.free.node free → m.free.count ≡ 2 * nodes_taken t + length free → m.free ≡ a.top
+      → after N4 ≡ put Free (raised w.setup a.top a.next.node) m → takes_at N4 (told N4).actor.line ≡ 1 → Counts (step_at t you a N4)
+  takes_one at [] chain counts was words takes = absurd (let some : 1 ≤ a.top.node =
+      (stands_at w reached you a N4 is at).1 in let none : m.free.node ≡ 0 = chain in let top : m.free.node ≡ a.top.node =
+      ap (λ (x : Ref). x.node) was in omega arith)
   takes_one at (x ∷ xs) chain counts was words takes =
       let some : 1 ≤ a.top.node = (stands_at w reached you a N4 is at).1 in
       let top : m.free.node ≡ a.top.node = ap (λ (y : Ref). y.node) was in
-      let next : next_of m a.top.node ≡ a.next = (subst (λ l. Knows (queue_of_kind w.setup.kind) (λ k. Unit {0}) w.setup m (last_node (p.front ∷ p.rest)) a l) at (p.sound.actors you a is).knows).1 was in
+      let next : next_of m a.top.node ≡ a.next = (subst (λ l. Knows (queue_of_kind w.setup.kind) (λ k. Unit {0}) w.setup m
+      (last_node (p.front ∷ p.rest)) a l) at (p.sound.actors you a is).knows).1 was in
       let after_it : a.next.node ≡ next_in m.nodes m.free.node = sym (ap (λ (y : Ref). y.node) next) ∙ ap (next_in m.nodes) (sym top) in
       let no_end : a.next.node ≢ reserved_node w.setup.bits = λ e. free_goes_on w.setup.bits m.nodes m.free.node (x ∷ xs) (few_nodes w reached) (omega (arith, some, top)) chain (sym after_it ∙ e) in
       let room : a.top.count ≢ w.setup.limit = (fixed_at w reached you a N4 is at).room in
@@ -183,7 +193,9 @@ module _ (t : Traced) (r : IsTraced t) (you : ℕ) (a : Actor) (is : actor_of t.
       let used : a.node ≤ m.fresh = (actor_in_range w you a range is).registers.node in
       let low : a.node ≤ length m.nodes = omega (arith, used, range.shared.fresh, range.shared.all_nodes) in
       let no_end : a.node ≢ reserved_node w.setup.bits = below_closed w a.node range used in
-      let next : next_in m.nodes a.node ≡ a.top.node = ap (λ (y : Ref). y.node) (subst (λ l. Knows (queue_of_kind w.setup.kind) (λ k. Unit {0}) w.setup m (last_node (p.front ∷ p.rest)) a l) at (p.sound.actors you a is).knows) in
+      let next : next_in m.nodes a.node ≡ a.top.node = ap (λ (y : Ref). y.node)
+      (subst (λ l. Knows (queue_of_kind w.setup.kind) (λ k. Unit {0}) w.setup m (last_node (p.front ∷ p.rest)) a l) at
+      (p.sound.actors you a is).knows) in
       let room : a.top.count ≢ w.setup.limit = (fixed_at w reached you a F3 is at).room in
       won F3 at (raised w.setup a.top a.node) words (a.node ∷ h.free)
       (raised_node w.setup a.top a.node no_end room, some, low, subst (λ n. IsChain m.nodes n h.free) (ap (λ (y : Ref). y.node) was ∙ sym next) h.chain)

@@ -57,14 +57,27 @@ module _ (was : Traced) (r : IsTraced was) (free tail head : ℕ) (leaves : Leav
     head_by worn =
         let p : HasChains t.world = reached_chains t.world (traced_reached t g.reached) in
         let taken : count_by is_push t.history ≡ count_by is_pop t.history + length (values_of t.world.shared p.rest) =
-        pushes-Leads t.history (is_shut_chain t.world.setup.bits t.world.shared (p.front ∷ p.rest)) (values_of t.world.shared p.rest) (history_plays t g.reached (p.front ∷ p.rest) p.sound.shape.queue_chain) in
+        pushes-Leads t.history (is_shut_chain t.world.setup.bits t.world.shared (p.front ∷ p.rest)) (values_of t.world.shared p.rest)
+        (history_plays t g.reached (p.front ∷ p.rest) p.sound.shape.queue_chain) in
         omega (arith, worn, same_limit, pushes, g.fewer, by_head, leaves.of_head, taken, counts_pops t g.reached, counts_pops was r, (history_few was r).1)
 
   free_by : (t : Traced) → TakesFewer was t left → t.world.shared.free.count ≡ t.world.setup.limit → ⊥
   free_by t g worn =
       let now : FreeList t.world = free_list t.world (traced_reached t g.reached) in
       let first : FreeList was.world = free_list was.world (traced_reached was r) in
-      omega (arith, worn, ap (λ (s : Setup). s.limit) g.setup, ap (λ (s : Setup). s.size) g.setup, g.taken, g.fewer, by_free, leaves.of_free, free_counts t g.reached now.free now.chain, now.few, free_counts was r first.free first.chain)
+      omega (
+        arith,
+        worn,
+        ap (λ (s : Setup). s.limit) g.setup,
+        ap (λ (s : Setup). s.size) g.setup,
+        g.taken,
+        g.fewer,
+        by_free,
+        leaves.of_free,
+        free_counts t g.reached now.free now.chain,
+        now.few,
+        free_counts was r first.free first.chain,
+      )
 
 pub each_lasts : EachLasts pushes_left
 each_lasts was free tail head r leaves =

@@ -1,5 +1,6 @@
 -- The lemmas are the law.
-use Rattle.carriers.proofs.SmallRuns.{popped_from_nothing-fails, popped_from_behind-fails, popped_another-fails, popped_as_anothers-fails, popped_twice-fails, pushed_behind_a_shut-fails, shut_twice-fails}
+use Rattle.carriers.proofs.SmallRuns.{popped_from_nothing-fails, popped_from_behind-fails, popped_another-fails, popped_as_anothers-fails}
+use Rattle.carriers.proofs.SmallRuns.{popped_twice-fails, pushed_behind_a_shut-fails, shut_twice-fails}
 use Rattle.carriers.proofs.laws.wrong_histories_are_no_runs.Goals as goal
 
 pub returns-clause-nothing : goal.returns-clause-nothing

@@ -23,13 +23,16 @@ returns c =
     let four : app_of c.in_ok-command-5.command ≡ with_rule (with_rule (with_rule (with_rule (file_app (codes "show")) width) from) to) actor =
     c.in_ok-command-5.ensures.shape (ap (λ a. a.global) c.help-4.ensures ∙ c.number_option-actor.ensures.local) ∙ ap₂ with_rule three actor_is in
     let history_is : rule_of c.help-5.result ≡ flag_rule (codes "HISTORY") (codes "history") = ap rule_of c.help-5.ensures ∙ c.flag_option-history.ensures.rule in
-    let five : app_of c.in_ok-command-6.command ≡ with_rule (with_rule (with_rule (with_rule (with_rule (file_app (codes "show")) width) from) to) actor) (flag_rule (codes "HISTORY") (codes "history")) =
+    let five : app_of c.in_ok-command-6.command ≡ with_rule (with_rule (with_rule (with_rule (with_rule (file_app (codes "show")) width) from) to)
+    actor) (flag_rule (codes "HISTORY") (codes "history")) =
     c.in_ok-command-6.ensures.shape (ap (λ a. a.global) c.help-5.ensures ∙ c.flag_option-history.ensures.local) ∙ ap₂ with_rule four history_is in
     let page_is : rule_of c.help-6.result ≡ flag_rule (codes "HTML") (codes "html") = ap rule_of c.help-6.ensures ∙ c.flag_option-page.ensures.rule in
     let six : app_of c.in_ok-command-7.command
-    ≡ with_rule (with_rule (with_rule (with_rule (with_rule (with_rule (file_app (codes "show")) width) from) to) actor) (flag_rule (codes "HISTORY") (codes "history"))) (flag_rule (codes "HTML") (codes "html")) =
+    ≡ with_rule (with_rule (with_rule (with_rule (with_rule (with_rule (file_app (codes "show")) width) from) to) actor)
+    (flag_rule (codes "HISTORY") (codes "history"))) (flag_rule (codes "HTML") (codes "html")) =
     c.in_ok-command-7.ensures.shape (ap (λ a. a.global) c.help-6.ensures ∙ c.flag_option-page.ensures.local) ∙ ap₂ with_rule five page_is in
-    let base = with_rule (with_rule (with_rule (with_rule (with_rule (with_rule (file_app (codes "show")) width) from) to) actor) (flag_rule (codes "HISTORY") (codes "history"))) (flag_rule (codes "HTML") (codes "html")) in
+    let base = with_rule (with_rule (with_rule (with_rule (with_rule (with_rule (file_app (codes "show")) width) from) to) actor)
+    (flag_rule (codes "HISTORY") (codes "history"))) (flag_rule (codes "HTML") (codes "html")) in
     let why_is : rule_of c.help-7.result ≡ flag_rule (codes "WHY") (codes "why") = ap rule_of c.help-7.ensures ∙ c.flag_option-why.ensures.rule in
     let seven : app_of c.in_ok-command-8.command ≡ with_rule base (flag_rule (codes "WHY") (codes "why")) =
     c.in_ok-command-8.ensures.shape (ap (λ a. a.global) c.help-7.ensures ∙ c.flag_option-why.ensures.local) ∙ ap₂ with_rule six why_is in

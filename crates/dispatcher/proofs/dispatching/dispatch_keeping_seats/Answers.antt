@@ -25,5 +25,6 @@ returns-in-Ok-clause-went g c =
     let run = c.in-Ok.run' in
     both_ok c.gathered.result (λ d. d.seats.items ≡ run.giver.seat ∷ seats_in run.workers.items) (λ d. Came (length (jobs_in c.in_ok-gather.gather)) (numbers_in run.workers.items))
     (λ d. WentOver is_seat known queue c.args.giver c.args.takers.items (length jobs) d.seats.items)
-    (λ d same came. went_over is_seat known queue jobs c.args.giver c.args.takers.items run (length jobs) d.seats.items c.in-Ok.ensures.run (subst (λ n. Came n (numbers_in run.workers.items)) (ap length c.in_ok-gather.ensures.jobs) came) same)
+    (λ d same came. went_over is_seat known queue jobs c.args.giver c.args.takers.items run (length jobs) d.seats.items c.in-Ok.ensures.run
+    (subst (λ n. Came n (numbers_in run.workers.items)) (ap length c.in_ok-gather.ensures.jobs) came) same)
     c.gathered.ensures.seats c.gathered.ensures.came

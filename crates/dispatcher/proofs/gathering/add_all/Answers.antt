@@ -36,7 +36,9 @@ loop-result-preserved c =
       more = λ n h. was.more n (subst (λ rs. Contains (map number_in rs) n) (sym split) (Contains-append_right (number_in r ∷ []) (map number_in rest) n h));
       listed = λ all. All-tail (IsListed jobs) r rest (next all);
       fills = λ all p h.
-          let fill = filled_one c.loop-result.gather c.add.new.self r c.add.result (subst (λ js. IsListed js r) (sym was.jobs) (All-head (IsListed jobs) r rest (next all))) c.add.ensures.added c.add.ensures.refused c.add.ensures.refusal in
+          let fill = filled_one c.loop-result.gather c.add.new.self r c.add.result
+          (subst (λ js. IsListed js r) (sym was.jobs) (All-head (IsListed jobs) r rest (next all))) c.add.ensures.added c.add.ensures.refused
+          c.add.ensures.refusal in
           elim (was.fills all p h) [
             | inl k ↦ inl (fill p (inl k))
             | inr k ↦ elim (Contains-append_cases (number_in r ∷ []) (map number_in rest) (p + 1) (subst (λ rs. Contains (map number_in rs) (p + 1)) split k)) [

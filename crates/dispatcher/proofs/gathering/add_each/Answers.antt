@@ -50,6 +50,7 @@ loop-back-preserved g c =
               | inr m ↦ inr m
             ]
           ];
-      seats = ap (λ l. l ++ seats_in rest) c.push_reserved.ensures.items ∙ append_assoc c.loop-back.seats.items (w.seat ∷ []) (seats_in rest) ∙ ap (λ ws. c.loop-back.seats.items ++ seats_in ws) (sym split) ∙ was.seats;
+      seats = ap (λ l. l ++ seats_in rest) c.push_reserved.ensures.items ∙ append_assoc c.loop-back.seats.items (w.seat ∷ []) (seats_in rest) ∙ ap
+          (λ ws. c.loop-back.seats.items ++ seats_in ws) (sym split) ∙ was.seats;
       room = omega (arith, fewer, room, len, cap);
     }

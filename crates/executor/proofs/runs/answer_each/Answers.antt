@@ -14,6 +14,8 @@ loop-outcome-preserved g c =
     let room = c.loop-outcome.invariant.room in
     record {
       all = append_assoc before (o ∷ []) c.next.new.self.rest.items ∙ ap (λ l. before ++ l) (sym c.in-Some.ensures.steps.0) ∙ c.loop-outcome.invariant.all;
-      settled = subst (AreSettled g.T.Task.answers (before ++ o ∷ [])) (sym pushed.items) (zip-push (IsSettled g.T.Task.answers) before c.loop-outcome.answers.items o c.settle.result c.loop-outcome.invariant.settled c.settle.ensures);
+      settled = subst (AreSettled g.T.Task.answers (before ++ o ∷ [])) (sym pushed.items)
+          (zip-push (IsSettled g.T.Task.answers) before c.loop-outcome.answers.items o c.settle.result c.loop-outcome.invariant.settled
+          c.settle.ensures);
       room = omega (arith, fewer, len, cap, room);
     }

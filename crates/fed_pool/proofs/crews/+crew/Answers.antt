@@ -53,6 +53,7 @@ returns-clause-crew g t c =
     let both = zip-push Back c.pop.new.self.items ws c.in-Some.post c.join-served.result.0 crew.back c.join-served.ensures.first in
     record {
       led = crew.led;
-      back = subst (λ l. AllZip Back l c.push_reserved.new.self.items) (sym c.in-Some.ensures.items) (subst (λ l. AllZip Back (c.pop.new.self.items ++ c.in-Some.post ∷ []) l) (sym c.push_reserved.ensures.items) both);
+      back = subst (λ l. AllZip Back l c.push_reserved.new.self.items) (sym c.in-Some.ensures.items)
+          (subst (λ l. AllZip Back (c.pop.new.self.items ++ c.in-Some.post ∷ []) l) (sym c.push_reserved.ensures.items) both);
       room = c.push_reserved.ensures.capacity ∙ crew.room;
     }

@@ -27,7 +27,8 @@ returns-in-Ok-clause-leading g c =
     let given = c.in-Some.ensures in
     let more : c.in-Some.given ≡ l.given + 1 = omega (arith, given) in
     goes_tasks C.is_seat C.permits C.known D.is_seat D.permits D.known g.T.Task.answers g.F.Feed.stands _ _ l c.requires c.push.new.seat c.next.new.self _ _ c.push.ensures.seat c.push.ensures.number
-    (leads_pushed g.T.Task.answers (g.F.Feed.stands l.feed) k k' o o l.given l.awaited c.requires.so (g.F.Feed.stands c.next.new.self) c.in-Some-next.task c.in-Some-next.ensures.stands _ more _ refl c.in-Ok.ensures.pushed)
+    (leads_pushed g.T.Task.answers (g.F.Feed.stands l.feed) k k' o o l.given l.awaited c.requires.so (g.F.Feed.stands c.next.new.self)
+    c.in-Some-next.task c.in-Some-next.ensures.stands _ more _ refl c.in-Ok.ensures.pushed)
 
 pub returns-in-Err-clause-leading : goal.returns-in-Err-clause-leading
 returns-in-Err-clause-leading g c =
@@ -40,6 +41,9 @@ returns-in-Err-clause-leading g c =
     let of = subst (λ x. IsDoneOf g.T.Task.answers x c.run.result) c.in-Err.ensures.back c.run.ensures in
     let given = c.in-Some.ensures in
     let more : c.in-Some.given ≡ l.given + 1 = omega (arith, given) in
-    goes_tasks C.is_seat C.permits C.known D.is_seat D.permits D.known g.T.Task.answers g.F.Feed.stands _ _ l c.requires c.push.new.seat c.tell.new.self _ l.awaited c.push.ensures.seat c.push.ensures.number
-    (leads_ran g.T.Task.answers (g.F.Feed.stands l.feed) k k' o o l.given l.awaited c.requires.so (g.F.Feed.stands c.next.new.self) c.in-Some-next.task c.in-Some-next.ensures.stands _ more (g.F.Feed.stands c.tell.new.self) c.run.result of c.tell.ensures.stands c.push.ensures.number
+    goes_tasks C.is_seat C.permits C.known D.is_seat D.permits D.known g.T.Task.answers g.F.Feed.stands _ _ l c.requires c.push.new.seat
+    c.tell.new.self _ l.awaited c.push.ensures.seat c.push.ensures.number
+    (leads_ran g.T.Task.answers (g.F.Feed.stands l.feed) k k' o o l.given l.awaited c.requires.so (g.F.Feed.stands c.next.new.self)
+    c.in-Some-next.task c.in-Some-next.ensures.stands _ more (g.F.Feed.stands c.tell.new.self) c.run.result of c.tell.ensures.stands
+    c.push.ensures.number
     (refused_mine k k' _ c.in-Err.ensures.refused))

@@ -15,7 +15,8 @@ returns-clause-ended g c =
     let o = D.known l.results in
     let end = c.shut_or_stop-unshut.ensures in
     let same = shut_values k k' c.shut_or_stop-unshut.result end.shut in
-    let last = goes_tasks C.is_seat C.permits C.known D.is_seat D.permits D.known g.T.Task.answers g.F.Feed.stands _ _ l goes.leading c.shut_or_stop-unshut.new.seat l.feed l.given l.awaited end.seat end.number
+    let last = goes_tasks C.is_seat C.permits C.known D.is_seat D.permits D.known g.T.Task.answers g.F.Feed.stands _ _ l goes.leading
+    c.shut_or_stop-unshut.new.seat l.feed l.given l.awaited end.seat end.number
     (leads_on g.T.Task.answers (g.F.Feed.stands l.feed) k k' o o l.given l.awaited goes.leading.so end.number same.0 same.1 refl) in
     record {
       goes = goes_on C.is_seat C.permits C.known D.is_seat D.permits D.known g.T.Task.answers g.F.Feed.stands _ _ c.args.leader l _ goes last;

@@ -27,5 +27,7 @@ returns-in-Some-2-clause-leading g c =
     let front = c.in-Some-2.front in
     let popped = subst (λ a. PopAnswersOf o a o') c.in-Some-2.is c.in_ok-front.ensures.answer in
     let less = c.in-Some.ensures in
-    goes_results C.is_seat C.permits C.known D.is_seat D.permits D.known g.T.Task.answers g.F.Feed.stands _ _ l c.requires c.pop.new.seat c.tell.new.self c.in-Some.awaited c.pop.ensures.seat c.pop.ensures.number
-    (leads_told g.T.Task.answers (g.F.Feed.stands l.feed) k k o o' l.given l.awaited c.requires.so (g.F.Feed.stands c.tell.new.self) front.value c.tell.ensures.stands c.in-Some.awaited (omega (arith, less)) o.number front refl popped.mine)
+    goes_results C.is_seat C.permits C.known D.is_seat D.permits D.known g.T.Task.answers g.F.Feed.stands _ _ l c.requires c.pop.new.seat
+    c.tell.new.self c.in-Some.awaited c.pop.ensures.seat c.pop.ensures.number
+    (leads_told g.T.Task.answers (g.F.Feed.stands l.feed) k k o o' l.given l.awaited c.requires.so (g.F.Feed.stands c.tell.new.self) front.value
+    c.tell.ensures.stands c.in-Some.awaited (omega (arith, less)) o.number front refl popped.mine)

@@ -13,7 +13,8 @@ returns-in_err-front-clause-leading g c =
     let k = C.known l.tasks in
     let o = D.known l.results in
     let o' = D.known c.recv.new.seat in
-    goes_results C.is_seat C.permits C.known D.is_seat D.permits D.known g.T.Task.answers g.F.Feed.stands _ _ l c.requires.leading c.recv.new.seat l.feed l.awaited c.recv.ensures.seat c.recv.ensures.number
+    goes_results C.is_seat C.permits C.known D.is_seat D.permits D.known g.T.Task.answers g.F.Feed.stands _ _ l c.requires.leading c.recv.new.seat
+    l.feed l.awaited c.recv.ensures.seat c.recv.ensures.number
     (leads_same g.T.Task.answers (g.F.Feed.stands l.feed) k k o o' l.given l.awaited c.requires.leading.so refl refl (recv_refused_mine o o' _ c.in_err-front.ensures.refused))
 
 pub returns-clause-leading : goal.returns-clause-leading
@@ -28,6 +29,8 @@ returns-clause-leading g c =
     let got = c.in_ok-front.ensures.received in
     let some = c.requires.awaited in
     let n = got.last.number in
-    goes_results C.is_seat C.permits C.known D.is_seat D.permits D.known g.T.Task.answers g.F.Feed.stands _ _ l c.requires.leading c.recv.new.seat c.tell.new.self _ c.recv.ensures.seat c.recv.ensures.number
-    (leads_told g.T.Task.answers (g.F.Feed.stands l.feed) k k o o' l.given l.awaited c.requires.leading.so (g.F.Feed.stands c.tell.new.self) front.value c.tell.ensures.stands _ (omega (arith, some)) n front refl
+    goes_results C.is_seat C.permits C.known D.is_seat D.permits D.known g.T.Task.answers g.F.Feed.stands _ _ l c.requires.leading c.recv.new.seat
+    c.tell.new.self _ c.recv.ensures.seat c.recv.ensures.number
+    (leads_told g.T.Task.answers (g.F.Feed.stands l.feed) k k o o' l.given l.awaited c.requires.leading.so (g.F.Feed.stands c.tell.new.self)
+    front.value c.tell.ensures.stands _ (omega (arith, some)) n front refl
     (got.popped.mine ∙ (λ i. got.waited.mine i ++ did_pop n front ∷ [])))

@@ -26,10 +26,14 @@ loop-worker-preserved g c =
     let e1 = four.len in
     let e2 = four.capacity in
     record {
-      takers = ap (λ l. l ++ map taker_in rest) one.items ∙ append_assoc was.takers.items (w.post.taker ∷ []) (map taker_in rest) ∙ ap (λ r. was.takers.items ++ map taker_in r) (sym steps) ∙ c.loop-worker.invariant.takers;
-      givers = ap (λ l. l ++ map giver_in rest) two.items ∙ append_assoc was.givers.items (w.post.giver ∷ []) (map giver_in rest) ∙ ap (λ r. was.givers.items ++ map giver_in r) (sym steps) ∙ c.loop-worker.invariant.givers;
-      unsent = ap (λ l. l ++ map result_in rest) three.items ∙ append_assoc was.unsent.items (w.unsent ∷ []) (map result_in rest) ∙ ap (λ r. was.unsent.items ++ map result_in r) (sym steps) ∙ c.loop-worker.invariant.unsent;
-      ends = ap (λ l. l ++ map end_in rest) four.items ∙ append_assoc was.ends.items (w.end ∷ []) (map end_in rest) ∙ ap (λ r. was.ends.items ++ map end_in r) (sym steps) ∙ c.loop-worker.invariant.ends;
+      takers = ap (λ l. l ++ map taker_in rest) one.items ∙ append_assoc was.takers.items (w.post.taker ∷ []) (map taker_in rest) ∙ ap
+          (λ r. was.takers.items ++ map taker_in r) (sym steps) ∙ c.loop-worker.invariant.takers;
+      givers = ap (λ l. l ++ map giver_in rest) two.items ∙ append_assoc was.givers.items (w.post.giver ∷ []) (map giver_in rest) ∙ ap
+          (λ r. was.givers.items ++ map giver_in r) (sym steps) ∙ c.loop-worker.invariant.givers;
+      unsent = ap (λ l. l ++ map result_in rest) three.items ∙ append_assoc was.unsent.items (w.unsent ∷ []) (map result_in rest) ∙ ap
+          (λ r. was.unsent.items ++ map result_in r) (sym steps) ∙ c.loop-worker.invariant.unsent;
+      ends = ap (λ l. l ++ map end_in rest) four.items ∙ append_assoc was.ends.items (w.end ∷ []) (map end_in rest) ∙ ap
+          (λ r. was.ends.items ++ map end_in r) (sym steps) ∙ c.loop-worker.invariant.ends;
       room = record {
         takers = omega (arith, fewer, t0, t1, t2);
         givers = omega (arith, fewer, g0, g1, g2);

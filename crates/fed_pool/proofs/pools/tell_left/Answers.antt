@@ -5,7 +5,12 @@ use Rattle.fed_pool.proofs.Telling.{told_none, told_one, told_all, not_empty}
 use Rattle.fed_pool.proofs.pools.tell_left.Goals as goal
 
 pub loop-item-init : goal.loop-item-init
-loop-item-init g c = record { told = told_none (g.F.Feed.stands c.args.feed.now) _ _ (ap (λ r. map value_in (left_in r)) c.into_iter-item-iterator.ensures.into_iter_gives); kept = refl; same = λ none. refl }
+loop-item-init g c = record {
+  told = told_none (g.F.Feed.stands c.args.feed.now) _ _
+      (ap (λ r. map value_in (left_in r)) c.into_iter-item-iterator.ensures.into_iter_gives);
+  kept = refl;
+  same = λ none. refl;
+}
 
 pub loop-item-preserved : goal.loop-item-preserved
 loop-item-preserved g c =

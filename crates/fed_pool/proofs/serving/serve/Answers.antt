@@ -16,7 +16,9 @@ loop-preserved g c =
       post = c.serve_one.ensures.post;
       taker = c.serve_one.ensures.taker ∙ was.taker;
       giver = c.serve_one.ensures.giver ∙ was.giver;
-      served = serves_on g.T.Task.answers (C.known c.args.post.taker) (C.known c.loop.post.taker) (C.known c.serve_one.new.post.taker) (D.known c.args.post.giver) (D.known c.loop.post.giver) (D.known c.serve_one.new.post.giver) _ was.taker was.giver was.served c.in-Ok.ensures.served;
+      served = serves_on g.T.Task.answers (C.known c.args.post.taker) (C.known c.loop.post.taker) (C.known c.serve_one.new.post.taker)
+          (D.known c.args.post.giver) (D.known c.loop.post.giver) (D.known c.serve_one.new.post.giver) _ was.taker was.giver was.served
+          c.in-Ok.ensures.served;
     }
 
 pub returns-in-Err : goal.returns-in-Err
@@ -28,5 +30,7 @@ returns-in-Err g c =
       post = c.serve_one.ensures.post;
       taker_number = c.serve_one.ensures.taker ∙ was.taker;
       giver_number = c.serve_one.ensures.giver ∙ was.giver;
-      served = serves_on g.T.Task.answers (C.known c.args.post.taker) (C.known c.loop.post.taker) (C.known c.serve_one.new.post.taker) (D.known c.args.post.giver) (D.known c.loop.post.giver) (D.known c.serve_one.new.post.giver) _ was.taker was.giver was.served c.in-Err.ensures.served;
+      served = serves_on g.T.Task.answers (C.known c.args.post.taker) (C.known c.loop.post.taker) (C.known c.serve_one.new.post.taker)
+          (D.known c.args.post.giver) (D.known c.loop.post.giver) (D.known c.serve_one.new.post.giver) _ was.taker was.giver was.served
+          c.in-Err.ensures.served;
     }

@@ -12,7 +12,8 @@ use Rattle.first_letters.proofs.closing.left_behind.Goals as goal
 pub close-requires-clause-senders : goal.close-requires-clause-senders
 close-requires-clause-senders c κs =
     let o = c.in_ok-office in
-    put_back sender_queue (office_queue o.office) o.waiters.items c.pop.new.self.items c.push.new.self.items c.in-Some.waiter c.try_send.new.self c.in-Some.ensures.items o.ensures.queue.senders_are c.try_send.ensures.queue c.in-Ok.ensures.items
+    put_back sender_queue (office_queue o.office) o.waiters.items c.pop.new.self.items c.push.new.self.items c.in-Some.waiter c.try_send.new.self
+    c.in-Some.ensures.items o.ensures.queue.senders_are c.try_send.ensures.queue c.in-Ok.ensures.items
 
 pub returns-in-Ok-close : goal.returns-in-Ok-close
 returns-in-Ok-close c =

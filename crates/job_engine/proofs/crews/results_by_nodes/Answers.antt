@@ -19,4 +19,5 @@ results_over-requires-clause-crew g c κs within =
 pub returns-clause-over : goal.returns-clause-over
 returns-clause-over g c =
     let roles = c.deref.ensures.value ∙ c.in_ok-roles.ensures.roles in
-    IfOk-weaker c.results_over.result _ _ (λ r same. ap (λ q. plan_of (any_arena_of q)) same ∙ c.in_ok-queue.ensures.ok.plan ∙ ap (plan 24 c.args.kind c.args.nodes (2 ^ count_bits 24 - 1)) roles) c.results_over.ensures.same
+    IfOk-weaker c.results_over.result _ _ (λ r same. ap (λ q. plan_of (any_arena_of q)) same ∙ c.in_ok-queue.ensures.ok.plan ∙ ap
+    (plan 24 c.args.kind c.args.nodes (2 ^ count_bits 24 - 1)) roles) c.results_over.ensures.same

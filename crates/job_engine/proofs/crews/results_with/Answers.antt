@@ -10,4 +10,5 @@ returns-clause-went g c =
     let split = ap length c.in-Some.ensures.items in
     let parts = length-append c.pop.new.self.items (c.in-Some.giver ∷ []) in
     let count = c.requires.crew.count in
-    IfOk-weaker c.submit.result _ _ (λ d w. is_over g.Q.Fifo.is_seat g.Q.Fifo.known (queue_of c.args.queue.now) c.in-Some.giver c.pop.new.self.items c.args.workers (length c.args.jobs.now) d.seats.items (omega (arith, split, parts, count)) w) c.submit.ensures.went
+    IfOk-weaker c.submit.result _ _ (λ d w. is_over g.Q.Fifo.is_seat g.Q.Fifo.known (queue_of c.args.queue.now) c.in-Some.giver c.pop.new.self.items
+    c.args.workers (length c.args.jobs.now) d.seats.items (omega (arith, split, parts, count)) w) c.submit.ensures.went

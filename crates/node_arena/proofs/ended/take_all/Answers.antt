@@ -15,6 +15,7 @@ loop-i-preserved g c =
       same = took.0 ∙ before.same;
       count = took.2 ∙ before.count;
       words = took.3 ∙ before.words;
-      full = λ k low high. ap (λ fs. get_or fs k false) took.1 ∙ (get_or-set_other (slots_filled c.loop-i.closed.slots) c.loop-i.i k false false (λ e. omega (arith, e, low)) ∙ before.full k (omega (arith, low)) (omega (arith, high, took.2)));
+      full = λ k low high. ap (λ fs. get_or fs k false) took.1 ∙ (get_or-set_other (slots_filled c.loop-i.closed.slots) c.loop-i.i k false false
+          (λ e. omega (arith, e, low)) ∙ before.full k (omega (arith, low)) (omega (arith, high, took.2)));
       none = λ k low. ap (λ fs. get_or fs k false) took.1 ∙ cleared (slots_filled c.loop-i.closed.slots) c.loop-i.i k (before.none k) low;
     }

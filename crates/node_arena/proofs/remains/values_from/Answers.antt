@@ -13,7 +13,8 @@ pub loop-node-preserved : goal.loop-node-preserved
 loop-node-preserved g c =
     let pushed = rw c.unwrap.ensures at c.push.ensures.items in
     let longer = rw c.unwrap.ensures at c.push.ensures.len in
-    rw pushed (walks-more g.row.B _ _ _ _ _ _ _ _ _ _ c.loop-node.invariant c.loop-node-test.true (λ e. c.if-node-end.true (e ∙ sym c.shut_node-end.ensures)) c.value_at.ensures c.next_of-node.ensures longer c.push.ensures.capacity)
+    rw pushed (walks-more g.row.B _ _ _ _ _ _ _ _ _ _ c.loop-node.invariant c.loop-node-test.true
+    (λ e. c.if-node-end.true (e ∙ sym c.shut_node-end.ensures)) c.value_at.ensures c.next_of-node.ensures longer c.push.ensures.capacity)
 
 pub returns : goal.returns
 returns g c = walks-all g.row.B c.requires.split _ _ _ _ _ _ _ c.shut_node-end.ensures c.loop-node.invariant (elim c.loop-node-test.branch [

@@ -8,22 +8,29 @@ use Rattle.node_arena.proofs.valued.built_with_slots.Goals as goal
 
 pub vacant-requires : goal.vacant-requires
 vacant-requires g c =
-    let first : LieFirst c.args.plan.setup.size c.args.plan.setup.size c.as_slice.result.now = subst (λ ws. LieFirst c.args.plan.setup.size c.args.plan.setup.size ws) (sym c.as_slice.ensures.value) (subst (λ (z : Layout). LieFirst z.setup.size z.setup.size c.in_ok-words.words.items) c.plan.view_is c.in_ok-words.ensures) in
-    subst (λ (n : ℕ). HoldsFor {T = g.row.T.Denot} c.args.plan (opening c.as_slice.result.now (replicate {A = Option g.row.T.Denot} n None) (first_beside c.args.plan))) (ap (λ (z : Layout). z.setup.size) (sym c.plan.view_is)) (opens_vacant g.row.T.Denot c.args.plan c.as_slice.result.now c.requires.values c.requires.planned first)
+    let first : LieFirst c.args.plan.setup.size c.args.plan.setup.size c.as_slice.result.now =
+    subst (λ ws. LieFirst c.args.plan.setup.size c.args.plan.setup.size ws) (sym c.as_slice.ensures.value)
+    (subst (λ (z : Layout). LieFirst z.setup.size z.setup.size c.in_ok-words.words.items) c.plan.view_is c.in_ok-words.ensures) in
+    subst (λ (n : ℕ). HoldsFor {T = g.row.T.Denot} c.args.plan (opening c.as_slice.result.now (replicate {A = Option g.row.T.Denot} n None)
+    (first_beside c.args.plan))) (ap (λ (z : Layout). z.setup.size) (sym c.plan.view_is))
+    (opens_vacant g.row.T.Denot c.args.plan c.as_slice.result.now c.requires.values c.requires.planned first)
 
 pub deal_all-seats-requires-clause-table : goal.deal_all-seats-requires-clause-table
 deal_all-seats-requires-clause-table g c =
-    laid_with_slots _ _ _ _ _ _ c.requires.values c.requires.planned c.in_ok-table.ensures.5 c.plan.view_is c.in_ok-table.ensures.0 c.as_slice.ensures.value c.in_ok-words.ensures c.in_ok-table.ensures.1
+    laid_with_slots _ _ _ _ _ _ c.requires.values c.requires.planned c.in_ok-table.ensures.5 c.plan.view_is c.in_ok-table.ensures.0
+    c.as_slice.ensures.value c.in_ok-words.ensures c.in_ok-table.ensures.1
 
 pub invariant_of-result : goal.invariant_of-result
 invariant_of-result g c = (
-  laid_with_slots _ _ _ _ _ _ c.requires.values c.requires.planned c.in_ok-table.ensures.5 c.plan.view_is c.in_ok-table.ensures.0 c.as_slice.ensures.value c.in_ok-words.ensures c.in_ok-table.ensures.1,
+  laid_with_slots _ _ _ _ _ _ c.requires.values c.requires.planned c.in_ok-table.ensures.5 c.plan.view_is c.in_ok-table.ensures.0
+      c.as_slice.ensures.value c.in_ok-words.ensures c.in_ok-table.ensures.1,
   c.requires.bits,
 )
 
 pub returns : goal.returns
 returns g c =
-    let arena = laid_with_slots _ _ _ _ _ _ c.requires.values c.requires.planned c.in_ok-table.ensures.5 c.plan.view_is c.in_ok-table.ensures.0 c.as_slice.ensures.value c.in_ok-words.ensures c.in_ok-table.ensures.1 in
+    let arena = laid_with_slots _ _ _ _ _ _ c.requires.values c.requires.planned c.in_ok-table.ensures.5 c.plan.view_is c.in_ok-table.ensures.0
+    c.as_slice.ensures.value c.in_ok-words.ensures c.in_ok-table.ensures.1 in
     record { plan = refl; count = c.deal_all-seats.ensures.count; each = new_seats _ c.deal_all-seats.result.items arena c.deal_all-seats.ensures.seats }
 
 pub deal_all-seats-requires-clause-keeper : goal.deal_all-seats-requires-clause-keeper

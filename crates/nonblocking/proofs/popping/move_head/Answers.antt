@@ -19,4 +19,5 @@ d13-requires g c = (
 )
 
 pub returns : goal.returns
-returns g c = rw c.turned.ensures (moves_head c.args.arena.now c.args.seat.now c.d12.new.seat c.args.a c.in-Goes.a c.in-Goes.field-0 c.requires.stands c.in-Goes.ensures c.d13.new.seat c.d13.result c.d13.ensures)
+returns g c = rw c.turned.ensures (moves_head c.args.arena.now c.args.seat.now c.d12.new.seat c.args.a c.in-Goes.a c.in-Goes.field-0 c.requires.stands
+    c.in-Goes.ensures c.d13.new.seat c.d13.result c.d13.ensures)

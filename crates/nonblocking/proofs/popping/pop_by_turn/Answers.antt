@@ -12,13 +12,28 @@ returns-after-not-keeps_nodes g c =
     (elim c.if-not-keeps_nodes.branch [
       | then-not-keeps_nodes w ↦
           let b = w.give_back.ensures in
-          let gave : GiveAnswers c.args.arena.now c.keep.new.self w.give_back.new.seat (c.args.turns - c.args.failed) w.give_back.result = record { ready = b.ready; same = b.same; slots = b.slots; pocket = b.pocket; lines = b.lines; seen = b.seen; back = b.back; refused = b.refused; failed = b.failed; fewer = b.fewer } in
+          let gave : GiveAnswers c.args.arena.now c.keep.new.self w.give_back.new.seat (c.args.turns - c.args.failed) w.give_back.result =
+          record {
+            ready = b.ready;
+            same = b.same;
+            slots = b.slots;
+            pocket = b.pocket;
+            lines = b.lines;
+            seen = b.seen;
+            back = b.back;
+            refused =
+                b.refused;
+            failed = b.failed;
+            fewer = b.fewer;
+          } in
           rw w.seat-is
-          (pop_took c.args.arena.now c.args.seat.now c.pop_turn.new.seat c.args.failed c.args.turns w.give_back.new.seat c.in-Took.word c.in-Took.held w.give_back.result (keeps ∙ w.if-not-keeps_nodes.true) c.requires.turns c.in-Took.ensures
+          (pop_took c.args.arena.now c.args.seat.now c.pop_turn.new.seat c.args.failed c.args.turns w.give_back.new.seat c.in-Took.word c.in-Took.held
+          w.give_back.result (keeps ∙ w.if-not-keeps_nodes.true) c.requires.turns c.in-Took.ensures
           (subst (λ y. GiveAnswers c.args.arena.now y w.give_back.new.seat (c.args.turns - c.args.failed) w.give_back.result) c.keep.ensures gave))
       | else-not-keeps_nodes w ↦
           rw (w.seat-is ∙ c.keep.ensures)
-          (pop_kept c.args.arena.now c.args.seat.now c.pop_turn.new.seat c.args.failed c.args.turns c.in-Took.word c.in-Took.held (keeps ∙ w.if-not-keeps_nodes.false) c.requires.turns c.in-Took.ensures)
+          (pop_kept c.args.arena.now c.args.seat.now c.pop_turn.new.seat c.args.failed c.args.turns c.in-Took.word c.in-Took.held
+          (keeps ∙ w.if-not-keeps_nodes.false) c.requires.turns c.in-Took.ensures)
     ])
 
 pub returns-in-Empty : goal.returns-in-Empty

@@ -6,7 +6,8 @@ pub loop-index-preserved : goal.loop-index-preserved
 loop-index-preserved g c = pop_again c.args.arena.now c.args.seat.now c.loop-index.seat c.pop_by_turn.new.seat c.loop-index.index c.loop-index.invariant c.in_default.ensures
 
 pub returns-in-Some : goal.returns-in-Some
-returns-in-Some g c = pop_ends c.args.arena.now c.args.seat.now c.loop-index.seat c.pop_by_turn.new.seat c.loop-index.index c.loop-index.invariant c.args.spent c.args.turns c.in-Some.answer c.in-Some.ensures
+returns-in-Some g c = pop_ends c.args.arena.now c.args.seat.now c.loop-index.seat c.pop_by_turn.new.seat c.loop-index.index c.loop-index.invariant
+    c.args.spent c.args.turns c.in-Some.answer c.in-Some.ensures
 
 pub returns : goal.returns
 returns g c =

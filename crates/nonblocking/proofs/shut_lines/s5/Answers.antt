@@ -15,7 +15,8 @@ line_table-raised-requires g c =
         (
           c.setup-setup.ensures.bits,
           (
-            subst (λ (z : Setup). c.line_table-node.result < reserved_node z.bits) (sym c.setup-setup.ensures.value) (omega (arith, to, c.line_table-node.ensures.value, next_s5 c.args.arena.now c.args.seat.now c.args.a c.requires.stands)),
+            subst (λ (z : Setup). c.line_table-node.result < reserved_node z.bits) (sym c.setup-setup.ensures.value)
+                (omega (arith, to, c.line_table-node.ensures.value, next_s5 c.args.arena.now c.args.seat.now c.args.a c.requires.stands)),
             (
               omega (arith, from, room_s5 c.args.arena.now c.args.seat.now c.args.a c.setup-setup.result c.setup-setup.ensures.value c.requires.stands),
               subst (λ (z : Setup). z.limit < 2 ^ count_bits z.bits) (sym c.setup-setup.ensures.value) c.requires.stands.before.seat.arena.sized.counted,

@@ -18,6 +18,7 @@ loop-seat-preserved g c =
     record {
       queue = subst (All (λ h. queue_of h ≡ queue_within c.args.queue.now.value)) (sym pushed)
           (All-append (λ h. queue_of h ≡ queue_within c.args.queue.now.value) old (one ∷ []) was.queue
-          (All-cons (λ h. queue_of h ≡ queue_within c.args.queue.now.value) one [] (made.queue ∙ ap queue_within c.in-Ok-Ok.ensures) (All-nil (λ h. queue_of h ≡ queue_within c.args.queue.now.value))));
+          (All-cons (λ h. queue_of h ≡ queue_within c.args.queue.now.value) one [] (made.queue ∙ ap queue_within c.in-Ok-Ok.ensures)
+          (All-nil (λ h. queue_of h ≡ queue_within c.args.queue.now.value))));
       seats = ap (map seat_of) pushed ∙ map-append seat_of old (one ∷ []) ∙ (λ i. was.seats i ++ made.seat i ∷ []);
     }

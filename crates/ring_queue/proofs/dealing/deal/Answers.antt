@@ -14,7 +14,8 @@ split_seat-token-requires g c =
 pub returns-clause-seat : goal.returns-clause-seat
 returns-clause-seat g c =
     let e = c.split_seat-token.ensures in
-    dealt c.args.plan.now _ c.args.number c.args.role c.split_seat-token.result _ _ c.requires.table.planned (ap (λ (z : Layout). z.slots) c.plan.view_is) c.requires.number c.requires.role (e.3 ∙ c.requires.keeper.table)
+    dealt c.args.plan.now _ c.args.number c.args.role c.split_seat-token.result _ _ c.requires.table.planned
+    (ap (λ (z : Layout). z.slots) c.plan.view_is) c.requires.number c.requires.role (e.3 ∙ c.requires.keeper.table)
     (ap (λ y. y.0.plain) e.4 ∙ ap dealt_right c.requires.keeper.seat) (ap (λ y. y.0.deeds) e.4) (ap (λ y. length y.1) e.4, ap (λ y. slots_in y.0.hand) e.4)
 
 pub returns-clause-keeper : goal.returns-clause-keeper

@@ -11,7 +11,8 @@ returns-clause-ok g c =
     let slots = c.slots_for-slots.result in
     let copied = c.in-Ok.roles.items in
     let b = c.args.carries in
-    let asked : record { slots = slots; most = c.from-3.result; credits = c.from-4.result; limit = c.args.limit; roles = copied; carries = b } ≡ record { slots = slots; most = c.args.most; credits = c.args.credits; limit = c.args.limit; roles = copied; carries = b } =
+    let asked : record { slots = slots; most = c.from-3.result; credits = c.from-4.result; limit = c.args.limit; roles = copied; carries = b } ≡
+    record { slots = slots; most = c.args.most; credits = c.args.credits; limit = c.args.limit; roles = copied; carries = b } =
     λ i. record { slots = slots; most = c.from-3.ensures i; credits = c.from-4.ensures i; limit = c.args.limit; roles = copied; carries = b } in
     made b c.args.most c.args.credits c.args.limit slots c.args.roles.now copied q seats (c.in-Ok.ensures.items_if_clones_equal (λ x y e. e))
     (subst (λ (m : ℕ). IsLeastPower m slots) (λ i. c.from.ensures i + c.from-2.ensures i * length c.args.roles.now) c.slots_for-slots.ensures)

@@ -7,7 +7,8 @@ use Rattle.seat_pool.proofs.pools.words_of.Goals as goal
 pub loop-seat-preserved : goal.loop-seat-preserved
 loop-seat-preserved g c =
     let permits = g.Q.Fifo.permits c.args.queue.now in let seat = c.seat-item.result in
-    words-next permits (λ s. (g.Q.Fifo.known s).number) c.args.seats.now c.loop-seat.seat-index (c.loop-seat.seat-index + 1) seat c.loop-seat.words.items c.push.new.self.items c.of-part.result c.number.result
+    words-next permits (λ s. (g.Q.Fifo.known s).number) c.args.seats.now c.loop-seat.seat-index (c.loop-seat.seat-index + 1) seat
+    c.loop-seat.words.items c.push.new.self.items c.of-part.result c.number.result
     refl (search rules) (search rules) c.number.ensures (search rules)
     (has_part permits (g.Q.Fifo.known seat).number c.of-part.result c.may_push.result c.may_pop.result c.of-part.ensures.pushes c.of-part.ensures.pops c.may_push.ensures c.may_pop.ensures)
     c.loop-seat.invariant

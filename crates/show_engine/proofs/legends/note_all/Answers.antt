@@ -11,7 +11,8 @@ loop-event-init g c = HasNoted-none c.args.frame c.args.world.now c.args.lines.n
 pub loop-event-preserved : goal.loop-event-preserved
 loop-event-preserved g c =
     let one = c.moves_in-one in
-    noted_event c.args.frame c.args.world.now c.args.lines.now.items c.args.events.now c.loop-event.event-index c.event-item.result (replicate one.result.1 one.result.0) c.loop-event.world _ c.loop-event.lines.items _
+    noted_event c.args.frame c.args.world.now c.args.lines.now.items c.args.events.now c.loop-event.event-index c.event-item.result
+    (replicate one.result.1 one.result.0) c.loop-event.world _ c.loop-event.lines.items _
     c.loop-event-test.true c.event-item.is one.ensures.moves c.loop-event.invariant c.in_ok-note_moves.ensures.ok c.in_ok-note_moves.ensures.lines
 
 pub returns-clause-lines : goal.returns-clause-lines

@@ -10,7 +10,8 @@ loop-init g c =
 
 pub loop-preserved : goal.loop-preserved
 loop-preserved g c =
-    noted_one c.args.frame c.args.world.now c.args.lines.now.items c.args.one c.args.count c.loop.counter c.loop.world _ c.loop.lines.items _ c.loop-test.true c.loop.invariant c.in_ok-note_move.ensures.ok
+    noted_one c.args.frame c.args.world.now c.args.lines.now.items c.args.one c.args.count c.loop.counter c.loop.world _ c.loop.lines.items _
+    c.loop-test.true c.loop.invariant c.in_ok-note_move.ensures.ok
     c.in_ok-note_move.ensures.lines
 
 pub returns-clause-ok : goal.returns-clause-ok

@@ -12,14 +12,17 @@ take_value-back-requires g c =
     (omega arith, (c.in-Err.ensures.1.seat, (has.0, kept_slot c.args.arena.now c.args.seat.now c.exchange.new.seat c.args.slot _ kept has.1)))
 
 pub returns-in-Ok-clause-none : goal.returns-in-Ok-clause-none
-returns-in-Ok-clause-none g c = (pushed_it c.args.arena.now c.args.seat.now g.prologue c.args.slot c.exchange.new.seat c.args.word c.args.old c.args.new c.in-Ok.field-0 c.requires.1.1.1.0 c.requires.1.1.1.1.0 c.in-Ok.ensures.1 c.in-Ok.ensures.0).0
+returns-in-Ok-clause-none g c = (pushed_it c.args.arena.now c.args.seat.now g.prologue c.args.slot c.exchange.new.seat c.args.word c.args.old
+    c.args.new c.in-Ok.field-0 c.requires.1.1.1.0 c.requires.1.1.1.1.0 c.in-Ok.ensures.1 c.in-Ok.ensures.0).0
 
 pub returns-in-Ok-clause-pushed : goal.returns-in-Ok-clause-pushed
-returns-in-Ok-clause-pushed g c = (pushed_it c.args.arena.now c.args.seat.now g.prologue c.args.slot c.exchange.new.seat c.args.word c.args.old c.args.new c.in-Ok.field-0 c.requires.1.1.1.0 c.requires.1.1.1.1.0 c.in-Ok.ensures.1 c.in-Ok.ensures.0).1
+returns-in-Ok-clause-pushed g c = (pushed_it c.args.arena.now c.args.seat.now g.prologue c.args.slot c.exchange.new.seat c.args.word c.args.old
+    c.args.new c.in-Ok.field-0 c.requires.1.1.1.0 c.requires.1.1.1.1.0 c.in-Ok.ensures.1 c.in-Ok.ensures.0).1
 
 pub returns-in-Err-clause-missed : goal.returns-in-Err-clause-missed
 returns-in-Err-clause-missed g c =
-    let kept = kept_it c.args.arena.now c.args.seat.now g.prologue c.args.slot c.exchange.new.seat c.args.word c.args.old c.args.new c.in-Err.field-0 c.requires.1.1.1.0 c.requires.1.1.1.1.0 c.in-Err.ensures.1 c.in-Err.ensures.0 in
+    let kept = kept_it c.args.arena.now c.args.seat.now g.prologue c.args.slot c.exchange.new.seat c.args.word c.args.old c.args.new c.in-Err.field-0
+    c.requires.1.1.1.0 c.requires.1.1.1.1.0 c.in-Err.ensures.1 c.in-Err.ensures.0 in
     sees_still c.args.seat.now c.exchange.new.seat c.take_value-back.new.seat c.free_slot.new.seat kept.more c.take_value-back.ensures.keeps c.free_slot.ensures.keeps
 
 pub returns-in-Err-clause-lost : goal.returns-in-Err-clause-lost

@@ -22,9 +22,12 @@ loop-worker-preserved g c =
     let e1 = three.len in
     let e2 = three.capacity in
     record {
-      seats = ap (λ l. l ++ map seat_in rest) one.items ∙ append_assoc was.seats.items (w.seat ∷ []) (map seat_in rest) ∙ ap (λ r. was.seats.items ++ map seat_in r) (sym steps) ∙ c.loop-worker.invariant.seats;
-      dones = ap (λ l. l ++ map done_in rest) two.items ∙ append_assoc was.dones.items (w.done ∷ []) (map done_in rest) ∙ ap (λ r. was.dones.items ++ map done_in r) (sym steps) ∙ c.loop-worker.invariant.dones;
-      ends = ap (λ l. l ++ map end_in rest) three.items ∙ append_assoc was.ends.items (w.end ∷ []) (map end_in rest) ∙ ap (λ r. was.ends.items ++ map end_in r) (sym steps) ∙ c.loop-worker.invariant.ends;
+      seats = ap (λ l. l ++ map seat_in rest) one.items ∙ append_assoc was.seats.items (w.seat ∷ []) (map seat_in rest) ∙ ap
+          (λ r. was.seats.items ++ map seat_in r) (sym steps) ∙ c.loop-worker.invariant.seats;
+      dones = ap (λ l. l ++ map done_in rest) two.items ∙ append_assoc was.dones.items (w.done ∷ []) (map done_in rest) ∙ ap
+          (λ r. was.dones.items ++ map done_in r) (sym steps) ∙ c.loop-worker.invariant.dones;
+      ends = ap (λ l. l ++ map end_in rest) three.items ∙ append_assoc was.ends.items (w.end ∷ []) (map end_in rest) ∙ ap
+          (λ r. was.ends.items ++ map end_in r) (sym steps) ∙ c.loop-worker.invariant.ends;
       room = record {
         seats = omega (arith, fewer, s0, s1, s2);
         dones = omega (arith, fewer, d0, d1, d2);

@@ -18,6 +18,7 @@ loop-done-preserved g c =
     let told = map told_done c.in-Some.done.items in
     let long = ap length c.put_done.ensures ∙ length-fills was told in
     record {
-      put = (λ i. fills (c.put_done.ensures i) (tells_of rest)) ∙ sym (fills-append was told (tells_of rest)) ∙ ap (λ r. fills was (tells_of r)) (sym c.in-Some.ensures.steps.0) ∙ c.loop-done.invariant.put;
+      put = (λ i. fills (c.put_done.ensures i) (tells_of rest)) ∙ sym (fills-append was told (tells_of rest)) ∙ ap (λ r. fills was (tells_of r))
+          (sym c.in-Some.ensures.steps.0) ∙ c.loop-done.invariant.put;
       within = subst (λ n. AreWithin n rest) (sym long) (All-rest (λ ds. All (λ d. d.number < length was) ds.items) _ _ _ c.in-Some.ensures.steps.0 c.loop-done.invariant.within);
     }

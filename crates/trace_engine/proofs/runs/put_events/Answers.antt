@@ -12,7 +12,8 @@ put_moves-requires g c =
     let one = c.moves_in-one in
     let each = (g.P.RunPrinter.pieces c.args.printer.now).each in
     let b = g.W.Sink.state c.loop-event.writer in
-    let can = can_event each (g.W.Sink.state c.args.writer.now) b b c.args.block.now c.args.world.now c.args.events.now c.loop-event.event-index c.event-item.result within c.event-item.is c.loop-event.world
+    let can = can_event each (g.W.Sink.state c.args.writer.now) b b c.args.block.now c.args.world.now c.args.events.now c.loop-event.event-index
+    c.event-item.result within c.event-item.is c.loop-event.world
     c.loop-event.block (replicate one.result.1 one.result.0) one.ensures.moves c.loop-event.invariant.told c.requires.can in
     (omega arith, (c.requires.printer, (can, omega (arith, within, c.requires.few, one.ensures.few, c.loop-event.invariant.steps))))
 
@@ -28,7 +29,8 @@ returns-in_err-put_moves-clause-tells g c =
     let d = g.W.Sink.state c.put_moves.new.writer in
     rw (p.1, p.2)
     (Tells-refused a d _ _ _
-    (stopped_event each a b d c.args.block.now c.args.world.now c.args.events.now c.loop-event.event-index c.event-item.result c.loop-event-test.true c.event-item.is c.loop-event.world c.loop-event.block
+    (stopped_event each a b d c.args.block.now c.args.world.now c.args.events.now c.loop-event.event-index c.event-item.result c.loop-event-test.true
+    c.event-item.is c.loop-event.world c.loop-event.block
     (replicate one.result.1 one.result.0) one.ensures.moves told c.requires.can tells.prefix)
     (StopsTelling-behind a b d _ told.quiet tells.cause))
 

@@ -8,7 +8,8 @@ use Rattle.trace_engine.proofs.runs.put_moves.Goals as goal
 pub put_move-requires : goal.put_move-requires
 put_move-requires g c =
     let few = c.loop-test.true in
-    let can = HasTold-can (g.P.RunPrinter.pieces c.args.printer.now).each _ _ _ _ _ c.loop.world c.loop.block (replicate (c.args.count - c.loop.counter) c.args.one) c.loop.invariant.told c.requires.can in
+    let can = HasTold-can (g.P.RunPrinter.pieces c.args.printer.now).each _ _ _ _ _ c.loop.world c.loop.block
+    (replicate (c.args.count - c.loop.counter) c.args.one) c.loop.invariant.told c.requires.can in
     (omega arith, (c.requires.printer, (can_next c.args.count c.loop.counter c.args.one c.loop.world few can, omega (arith, few, c.requires.left, c.loop.invariant.steps))))
 
 pub returns-in_err-put_move-clause-tells : goal.returns-in_err-put_move-clause-tells

@@ -18,17 +18,35 @@ returns-after-not-keeps_nodes g c =
     (elim c.if-not-keeps_nodes.branch [
       | then-not-keeps_nodes w ↦
           let b = w.give_back.ensures in
-          let gave : GiveAnswers c.args.arena.now c.keep.new.self w.give_back.new.seat (c.args.turns - c.args.failed) w.give_back.result = record { ready = b.ready; same = b.same; slots = b.slots; pocket = b.pocket; lines = b.lines; seen = b.seen; back = b.back; refused = b.refused; failed = b.failed; fewer = b.fewer } in
+          let gave : GiveAnswers c.args.arena.now c.keep.new.self w.give_back.new.seat (c.args.turns - c.args.failed) w.give_back.result =
+          record {
+            ready = b.ready;
+            same = b.same;
+            slots = b.slots;
+            pocket = b.pocket;
+            lines = b.lines;
+            seen = b.seen;
+            back = b.back;
+            refused =
+                b.refused;
+            failed = b.failed;
+            fewer = b.fewer;
+          } in
           rw w.seat-is
-          (pop_took c.args.arena.now c.args.seat.now c.read_front.new.seat c.args.failed c.args.turns w.give_back.new.seat c.in-Goes.field-0 c.in-Goes.a _ w.give_back.result (keeps ∙ w.if-not-keeps_nodes.true) c.requires.turns c.in-Goes.ensures
+          (pop_took c.args.arena.now c.args.seat.now c.read_front.new.seat c.args.failed c.args.turns w.give_back.new.seat c.in-Goes.field-0
+          c.in-Goes.a _ w.give_back.result (keeps ∙ w.if-not-keeps_nodes.true) c.requires.turns c.in-Goes.ensures
           (subst (λ y. GiveAnswers c.args.arena.now y w.give_back.new.seat (c.args.turns - c.args.failed) w.give_back.result) c.keep.ensures gave))
       | else-not-keeps_nodes w ↦
           rw (w.seat-is ∙ c.keep.ensures)
-          (pop_kept c.args.arena.now c.args.seat.now c.read_front.new.seat c.args.failed c.args.turns c.in-Goes.field-0 c.in-Goes.a _ (λ i. record { node = (c.a.view_is i).node; mark = (c.a.view_is i).mark }) (keeps ∙ w.if-not-keeps_nodes.false) c.requires.turns c.in-Goes.ensures)
+          (pop_kept c.args.arena.now c.args.seat.now c.read_front.new.seat c.args.failed c.args.turns c.in-Goes.field-0 c.in-Goes.a _
+          (λ i. record { node = (c.a.view_is i).node; mark = (c.a.view_is i).mark }) (keeps ∙ w.if-not-keeps_nodes.false) c.requires.turns
+          c.in-Goes.ensures)
     ]))
 
 pub returns-in-Refused : goal.returns-in-Refused
-returns-in-Refused g c = rw c.keep-in-Ends.ensures (pop_worn_out c.args.arena.now c.args.seat.now c.read_front.new.seat c.args.failed c.args.turns c.in-Refused.refusal (subst (λ o. Fronts c.args.arena.now c.args.seat.now c.read_front.new.seat (Ends o)) c.in-Refused.is c.in-Ends.ensures))
+returns-in-Refused g c = rw c.keep-in-Ends.ensures (pop_worn_out c.args.arena.now c.args.seat.now c.read_front.new.seat c.args.failed c.args.turns
+    c.in-Refused.refusal (subst (λ o. Fronts c.args.arena.now c.args.seat.now c.read_front.new.seat (Ends o)) c.in-Refused.is c.in-Ends.ensures))
 
 pub returns-in_default : goal.returns-in_default
-returns-in_default g c = rw c.keep-in-Ends.ensures (pop_ended c.args.arena.now c.args.seat.now c.read_front.new.seat c.args.failed c.args.turns c.in-Ends.reply c.in_default.not-Refused c.requires.turns c.in-Ends.ensures)
+returns-in_default g c = rw c.keep-in-Ends.ensures (pop_ended c.args.arena.now c.args.seat.now c.read_front.new.seat c.args.failed c.args.turns
+    c.in-Ends.reply c.in_default.not-Refused c.requires.turns c.in-Ends.ensures)

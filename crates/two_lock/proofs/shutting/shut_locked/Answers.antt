@@ -26,4 +26,5 @@ s9-requires g c = (
 )
 
 pub returns : goal.returns
-returns g c = puts_end c.args.arena.now c.args.seat.now c.s7-a.new.seat c.s8-a.new.seat c.args.a c.s7-a.result c.s8-a.result S8 S9 c.requires.stands c.s7-a.ensures c.s8-a.ensures c.s9.new.seat c.s9.result c.s9.ensures
+returns g c = puts_end c.args.arena.now c.args.seat.now c.s7-a.new.seat c.s8-a.new.seat c.args.a c.s7-a.result c.s8-a.result S8 S9 c.requires.stands
+    c.s7-a.ensures c.s8-a.ensures c.s9.new.seat c.s9.result c.s9.ensures

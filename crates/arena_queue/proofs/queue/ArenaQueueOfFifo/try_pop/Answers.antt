@@ -11,7 +11,9 @@ answers g c =
     elim c.match-pocket.branch [
       | in-None w ↦ drawn_at_once g.A.Algorithm.pop_worn c.args.self.now.arena c.args.seat.now _ c.draw.new.seat _ c.args.turns c.draw.result c.requires.seat w.seat-is w.spent-is c.draw.ensures
       | in-Some+in_ok-give_back-in-Some w ↦
-          drawn_after_give g.A.Algorithm.pop_worn c.args.self.now.arena c.args.seat.now w.give_back.new.seat _ c.draw.new.seat w.failed-spent.result _ c.args.turns c.draw.result c.requires.seat w.seat-is w.spent-is w.give_back.ensures.same w.give_back.ensures.slots w.give_back.ensures.lines (w.failed-spent.ensures ∙ w.give_back.ensures.failed) c.draw.ensures
+          drawn_after_give g.A.Algorithm.pop_worn c.args.self.now.arena c.args.seat.now w.give_back.new.seat _ c.draw.new.seat w.failed-spent.result _
+          c.args.turns c.draw.result c.requires.seat w.seat-is w.spent-is w.give_back.ensures.same w.give_back.ensures.slots
+          w.give_back.ensures.lines (w.failed-spent.ensures ∙ w.give_back.ensures.failed) c.draw.ensures
     ]
 
 pub draw-requires : goal.draw-requires

@@ -11,9 +11,12 @@ use Rattle.arena_queue.proofs.queue.ArenaQueueOfFifo.try_push.Goals as goal
 answers : (g : Over) (c : goal.After-put g) → AnswersPush g.A.Algorithm.push_worn c.args.self.now.arena c.args.seat.now c.put.new.seat c.args.body c.args.turns c.put.result
 answers g c =
     elim c.match-pocket.branch [
-      | in-Some w ↦ put_at_once g.A.Algorithm.push_worn c.args.self.now.arena c.args.seat.now _ c.put.new.seat _ c.args.body _ c.args.turns c.put.result c.requires.seat w.seat-is (ap (λ p. p.1) w.spent-is) c.put.ensures
+      | in-Some w ↦ put_at_once g.A.Algorithm.push_worn c.args.self.now.arena c.args.seat.now _ c.put.new.seat _ c.args.body _ c.args.turns
+          c.put.result c.requires.seat w.seat-is (ap (λ p. p.1) w.spent-is) c.put.ensures
       | in-None+in_ok-take-in-None w ↦
-          put_after_take g.A.Algorithm.push_worn c.args.self.now.arena c.args.seat.now w.take.new.seat _ c.put.new.seat _ c.args.body w.failed.result _ c.args.turns c.put.result c.requires.seat w.seat-is (ap (λ p. p.1) w.spent-is) w.take.ensures.same w.take.ensures.lines (w.failed.ensures ∙ w.take.ensures.failed) c.put.ensures
+          put_after_take g.A.Algorithm.push_worn c.args.self.now.arena c.args.seat.now w.take.new.seat _ c.put.new.seat _ c.args.body w.failed.result
+          _ c.args.turns c.put.result c.requires.seat w.seat-is (ap (λ p. p.1) w.spent-is) w.take.ensures.same w.take.ensures.lines
+          (w.failed.ensures ∙ w.take.ensures.failed) c.put.ensures
     ]
 
 pub put-requires : goal.put-requires

@@ -17,7 +17,10 @@ invariant_of-self g c =
 
 pub invariant_of-sender : goal.invariant_of-sender
 invariant_of-sender g c =
-    record { sits = sender_after g.met.C.Carrier.seat_prop (queue_of c.deref.result.now) c.args.sender.now (c.requires ∙ sym (ap queue_of c.deref.ensures)) c.meet.new.other c.meet.ensures.other c.meet.ensures.meets.second.number }
+    record {
+      sits = sender_after g.met.C.Carrier.seat_prop (queue_of c.deref.result.now) c.args.sender.now
+          (c.requires ∙ sym (ap queue_of c.deref.ensures)) c.meet.new.other c.meet.ensures.other c.meet.ensures.meets.second.number;
+    }
 
 pub returns-clause-in_order : goal.returns-clause-in_order
 returns-clause-in_order g c =

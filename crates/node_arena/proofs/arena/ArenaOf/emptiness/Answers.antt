@@ -7,28 +7,39 @@ use Rattle.node_arena.proofs.Found.{behind_head, found_moved, found_empty, found
 use Rattle.node_arena.proofs.arena.ArenaOf.emptiness.Goals as goal
 
 pub look-requires : goal.look-requires
-look-requires g c = (omega arith, (c.look-head.ensures.ready, behind_head c.args.self.now.plan 2 c.look-head.result (view c.args.seat.now) (view c.look-head.new.seat) c.look-head.ensures.told refl c.reference.result c.node-front.result c.reference.ensures c.node-front.ensures.value))
+look-requires g c = (
+  omega arith,
+  (
+    c.look-head.ensures.ready,
+    behind_head c.args.self.now.plan 2 c.look-head.result (view c.args.seat.now) (view
+        c.look-head.new.seat) c.look-head.ensures.told refl c.reference.result c.node-front.result c.reference.ensures c.node-front.ensures.value,
+  ),
+)
 
 pub returns-then-look-head-clause-found : goal.returns-then-look-head-clause-found
 returns-then-look-head-clause-found g c =
-    found_moved c.args.self.now.plan (4 + 2 * c.node-front.result) c.look-head.result c.look.result c.look-2.result (view c.args.seat.now) (view c.look-head.new.seat) (view c.look.new.seat) (view c.look-2.new.seat) c.look-head.ensures.told c.look.ensures.told c.look-2.ensures.told
+    found_moved c.args.self.now.plan (4 + 2 * c.node-front.result) c.look-head.result c.look.result c.look-2.result (view c.args.seat.now) (view c.look-head.new.seat)
+    (view c.look.new.seat) (view c.look-2.new.seat) c.look-head.ensures.told c.look.ensures.told c.look-2.ensures.told
     (ap (λ k. 4 + 2 * k) (c.node-front.ensures.value ∙ ap (λ (x : Ref). x.node) c.reference.ensures)) c.if-look-head.true
 
 pub returns-then-is_null-clause-found : goal.returns-then-is_null-clause-found
 returns-then-is_null-clause-found g c =
-    found_empty c.args.self.now.plan (4 + 2 * c.node-front.result) c.look-head.result c.look.result c.look-2.result (view c.args.seat.now) (view c.look-head.new.seat) (view c.look.new.seat) (view c.look-2.new.seat) c.look-head.ensures.told c.look.ensures.told c.look-2.ensures.told
+    found_empty c.args.self.now.plan (4 + 2 * c.node-front.result) c.look-head.result c.look.result c.look-2.result (view c.args.seat.now) (view c.look-head.new.seat)
+    (view c.look.new.seat) (view c.look-2.new.seat) c.look-head.ensures.told c.look.ensures.told c.look-2.ensures.told
     (ap (λ k. 4 + 2 * k) (c.node-front.ensures.value ∙ ap (λ (x : Ref). x.node) c.reference.ensures)) c.if-look-head.false
     (ap is_null (sym c.reference-next.ensures) ∙ sym c.is_null.ensures ∙ c.if-is_null.true)
 
 pub returns-then-is_shut-clause-found : goal.returns-then-is_shut-clause-found
 returns-then-is_shut-clause-found g c =
-    found_shut c.args.self.now.plan (4 + 2 * c.node-front.result) c.look-head.result c.look.result c.look-2.result (view c.args.seat.now) (view c.look-head.new.seat) (view c.look.new.seat) (view c.look-2.new.seat) c.look-head.ensures.told c.look.ensures.told c.look-2.ensures.told
+    found_shut c.args.self.now.plan (4 + 2 * c.node-front.result) c.look-head.result c.look.result c.look-2.result (view c.args.seat.now) (view c.look-head.new.seat)
+    (view c.look.new.seat) (view c.look-2.new.seat) c.look-head.ensures.told c.look.ensures.told c.look-2.ensures.told
     (ap (λ k. 4 + 2 * k) (c.node-front.ensures.value ∙ ap (λ (x : Ref). x.node) c.reference.ensures)) c.if-look-head.false
     ((λ i. is_shut ((ap (λ (s : Setup). s.bits) (sym c.setup.ensures.value) ∙ c.setup.ensures.bits) i) (sym c.reference-next.ensures i)) ∙ sym c.is_shut.ensures ∙ c.if-is_shut.true)
 
 pub returns-else-is_shut-clause-found : goal.returns-else-is_shut-clause-found
 returns-else-is_shut-clause-found g c =
-    found_some c.args.self.now.plan (4 + 2 * c.node-front.result) c.look-head.result c.look.result c.look-2.result (view c.args.seat.now) (view c.look-head.new.seat) (view c.look.new.seat) (view c.look-2.new.seat) c.look-head.ensures.told c.look.ensures.told c.look-2.ensures.told
+    found_some c.args.self.now.plan (4 + 2 * c.node-front.result) c.look-head.result c.look.result c.look-2.result (view c.args.seat.now) (view c.look-head.new.seat)
+    (view c.look.new.seat) (view c.look-2.new.seat) c.look-head.ensures.told c.look.ensures.told c.look-2.ensures.told
     (ap (λ k. 4 + 2 * k) (c.node-front.ensures.value ∙ ap (λ (x : Ref). x.node) c.reference.ensures)) c.if-look-head.false
     (ap is_null (sym c.reference-next.ensures) ∙ sym c.is_null.ensures ∙ c.if-is_null.false)
     ((λ i. is_shut ((ap (λ (s : Setup). s.bits) (sym c.setup.ensures.value) ∙ c.setup.ensures.bits) i) (sym c.reference-next.ensures i)) ∙ sym c.is_shut.ensures ∙ c.if-is_shut.false)

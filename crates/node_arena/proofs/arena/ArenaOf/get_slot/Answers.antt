@@ -6,7 +6,8 @@ use Rattle.node_arena.proofs.arena.ArenaOf.get_slot.Goals as goal
 
 pub returns-then-try_slot-clause-failed : goal.returns-then-try_slot-clause-failed
 returns-then-try_slot-clause-failed g c =
-    subst (AllTaken c.args.self.now.plan c.args.seat.now.token.me.0 (first_slot c.args.self.now.plan.setup.size c.args.node)) (let e : c.loop-failed.failed + 0 ≡ c.loop-failed.failed = omega arith in e) (c.loop-failed.invariant.6 0 tt)
+    subst (AllTaken c.args.self.now.plan c.args.seat.now.token.me.0 (first_slot c.args.self.now.plan.setup.size c.args.node))
+    (let e : c.loop-failed.failed + 0 ≡ c.loop-failed.failed = omega arith in e) (c.loop-failed.invariant.6 0 tt)
 
 pub loop-failed-preserved : goal.loop-failed-preserved
 loop-failed-preserved g c =
@@ -19,11 +20,14 @@ loop-failed-preserved g c =
       λ ready. c.try_slot.ensures.ready (c.loop-failed.invariant.3 ready),
       then_known _ _ _ c.loop-failed.invariant.4 c.try_slot.ensures.keeps,
       missed.same ∙ c.loop-failed.invariant.5,
-      one_more_taken c.args.self.now.plan c.args.seat.now.token.me.0 c.loop-failed.seat.token.me.0 (first_slot c.args.self.now.plan.setup.size c.args.node) c.loop-failed.slot c.first_slot-slot-in-loop-failed.result c.loop-failed.failed c.loop-failed.invariant.5 missed.taken now c.loop-failed.invariant.6,
+      one_more_taken c.args.self.now.plan c.args.seat.now.token.me.0 c.loop-failed.seat.token.me.0
+          (first_slot c.args.self.now.plan.setup.size c.args.node) c.loop-failed.slot c.first_slot-slot-in-loop-failed.result c.loop-failed.failed
+          c.loop-failed.invariant.5 missed.taken now c.loop-failed.invariant.6,
     )
 
 pub returns-clause-busy : goal.returns-clause-busy
 returns-clause-busy g c =
     let ended = c.loop-failed-test.false in
     let most = c.loop-failed.auto.failed-end in
-    subst (AllTaken c.args.self.now.plan c.args.seat.now.token.me.0 (first_slot c.args.self.now.plan.setup.size c.args.node)) (let e : c.loop-failed.failed + 0 ≡ c.args.turns = omega (arith, ended, most) in e) (c.loop-failed.invariant.6 0 tt)
+    subst (AllTaken c.args.self.now.plan c.args.seat.now.token.me.0 (first_slot c.args.self.now.plan.setup.size c.args.node))
+    (let e : c.loop-failed.failed + 0 ≡ c.args.turns = omega (arith, ended, most) in e) (c.loop-failed.invariant.6 0 tt)

@@ -16,7 +16,8 @@ compare_exchange-requires g c =
 pub returns-clause-seat : goal.returns-clause-seat
 returns-clause-seat g c =
     subst (λ r. IsSeat r (record c.args.seat.now { token = c.compare_exchange.new.seat })) c.self.view_is
-    (tried (arena_of c.self.inside.plan c.self.inside.table.shared.key c.self.inside.table.shared.table_id) c.args.seat.now c.compare_exchange.new.seat c.args.slot c.flag-flag.result c.compare_exchange.result
+    (tried (arena_of c.self.inside.plan c.self.inside.table.shared.key c.self.inside.table.shared.table_id) c.args.seat.now
+    c.compare_exchange.new.seat c.args.slot c.flag-flag.result c.compare_exchange.result
     (subst (λ r. IsSeat r c.args.seat.now) (sym c.self.view_is) c.requires.seat)
     (subst (λ r. carries_of r ≡ true) (sym c.self.view_is) c.requires.carries)
     c.requires.none
@@ -27,7 +28,8 @@ returns-clause-seat g c =
 pub returns-clause-ready : goal.returns-clause-ready
 returns-clause-ready g c =
     subst (λ r. IsReady r c.args.seat.now → IsReady r (record c.args.seat.now { token = c.compare_exchange.new.seat })) c.self.view_is
-    (tried (arena_of c.self.inside.plan c.self.inside.table.shared.key c.self.inside.table.shared.table_id) c.args.seat.now c.compare_exchange.new.seat c.args.slot c.flag-flag.result c.compare_exchange.result
+    (tried (arena_of c.self.inside.plan c.self.inside.table.shared.key c.self.inside.table.shared.table_id) c.args.seat.now
+    c.compare_exchange.new.seat c.args.slot c.flag-flag.result c.compare_exchange.result
     (subst (λ r. IsSeat r c.args.seat.now) (sym c.self.view_is) c.requires.seat)
     (subst (λ r. carries_of r ≡ true) (sym c.self.view_is) c.requires.carries)
     c.requires.none

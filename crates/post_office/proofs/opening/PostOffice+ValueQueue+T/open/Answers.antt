@@ -40,7 +40,8 @@ returns-clause-receivers g c =
     let same : c.deref.result.now ≡ office_roles c.args.senders c.args.receivers = cc in
     let all = known_receivers IsQueueSeat permits_of known_by made.queue c.args.senders c.args.receivers (made.ensures.permits ∙ ap permits_by same)
     made.seats.items made.ensures.seats made.ensures.unused c.in_ok-desks.desks c.in_ok-desks.ensures.desks c.in_ok-desks.ensures.many in
-    IfOk-weaker c.new-2.result (λ r. map receiver_seat r.2.items ≡ c.in_ok-desks.desks.receivers.items) (λ r. map (λ h. known_by (receiver_seat h)) r.2.items ≡ newcomers (c.args.senders + 1) c.args.receivers)
+    IfOk-weaker c.new-2.result (λ r. map receiver_seat r.2.items ≡ c.in_ok-desks.desks.receivers.items)
+    (λ r. map (λ h. known_by (receiver_seat h)) r.2.items ≡ newcomers (c.args.senders + 1) c.args.receivers)
     (λ r e. sym (map-map known_by receiver_seat r.2.items) ∙ ap (map known_by) e ∙ all) c.new-2.ensures.receivers
 
 pub returns-clause-takers : goal.returns-clause-takers
@@ -50,5 +51,6 @@ returns-clause-takers g c =
     let roles = c.in_ok-roles.ensures.roles in
     let same : c.deref.result.now ≡ office_roles c.args.senders c.args.receivers = cc in
     let only = only_takers IsQueueSeat permits_of known_by made.queue c.args.senders c.args.receivers (made.ensures.permits ∙ ap permits_by same) in
-    IfOk-weaker c.new-2.result (λ r. AreOf made.queue r.0 r.1.items r.2.items) (λ r. (n : ℕ) → MayPop (permits_of (office_queue r.0)) n → (c.args.senders < n) × (n ≤ c.args.senders + c.args.receivers))
+    IfOk-weaker c.new-2.result (λ r. AreOf made.queue r.0 r.1.items r.2.items) (λ r. (n : ℕ) → MayPop (permits_of (office_queue r.0)) n
+    → (c.args.senders < n) × (n ≤ c.args.senders + c.args.receivers))
     (λ r of n may. only n (subst (λ q. MayPop (permits_of q) n) of.office may)) c.new-2.ensures.queue

@@ -31,7 +31,8 @@ returns-clause-receivers g c =
     let made = c.in_ok-queue in
     let all = known_receivers IsQueueSeat permits_of known_by made.queue c.args.senders c.args.receivers made.ensures.permits
     made.seats.items made.ensures.seats made.ensures.unused c.in_ok-desks.desks c.in_ok-desks.ensures.desks c.in_ok-desks.ensures.many in
-    IfOk-weaker c.new.result (λ r. map receiver_seat r.2.items ≡ c.in_ok-desks.desks.receivers.items) (λ r. map (λ h. known_by (receiver_seat h)) r.2.items ≡ newcomers (c.args.senders + 1) c.args.receivers)
+    IfOk-weaker c.new.result (λ r. map receiver_seat r.2.items ≡ c.in_ok-desks.desks.receivers.items)
+    (λ r. map (λ h. known_by (receiver_seat h)) r.2.items ≡ newcomers (c.args.senders + 1) c.args.receivers)
     (λ r e. sym (map-map known_by receiver_seat r.2.items) ∙ ap (map known_by) e ∙ all) c.new.ensures.receivers
 
 pub returns-clause-takers : goal.returns-clause-takers

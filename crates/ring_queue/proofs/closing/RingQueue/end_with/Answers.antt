@@ -41,4 +41,7 @@ returns c =
     let same = ap (λ (z : Layout). z.slots) c.plan.view_is in
     let count = sym (slots_counts c.close_with-closed.result.words).0 ∙ c.close_with-closed.ensures.counts.0 in
     let told = c.rest_of-rest.ensures in
-    record { rest = (numbers_closed c.args.self c.args.seats.items c.requires.seats c.requires.all _ _ _ _ _ same count c.gather.ensures.seat c.close_with-closed.ensures.values.2).closes c.rest_of-rest.result told.left told.taken told.whole told.shut }
+    record {
+      rest = (numbers_closed c.args.self c.args.seats.items c.requires.seats c.requires.all _ _ _ _ _ same count c.gather.ensures.seat
+          c.close_with-closed.ensures.values.2).closes c.rest_of-rest.result told.left told.taken told.whole told.shut;
+    }

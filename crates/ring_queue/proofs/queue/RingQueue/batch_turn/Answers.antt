@@ -25,5 +25,8 @@ returns-then-take_fronts-clause-says g c =
     let first = c.min.ensures in
     let second = c.min-limit.ensures in
     let long = c.look_on-count.array_long in
-    popped_after (known_of c.args.seat.now) (known_of c.look_on-count.new.seat) (known_of c.take_fronts.new.seat) (take c.look_on-count.result c.look_on-count.new.words) c.args.most c.look_on-count.result c.args.into.now.items c.take_fronts.new.into.items
-    (sees_then _ _ _ c.look_twice_at_front.ensures.sees on.sees) taken.0 taken.1 (length-take-le c.look_on-count.result c.look_on-count.new.words (omega (arith, few, a', b, first, second, long))) on.some (omega (arith, few, a, b, first, second))
+    popped_after (known_of c.args.seat.now) (known_of c.look_on-count.new.seat) (known_of c.take_fronts.new.seat)
+    (take c.look_on-count.result c.look_on-count.new.words) c.args.most c.look_on-count.result c.args.into.now.items c.take_fronts.new.into.items
+    (sees_then _ _ _ c.look_twice_at_front.ensures.sees on.sees) taken.0 taken.1
+    (length-take-le c.look_on-count.result c.look_on-count.new.words (omega (arith, few, a', b, first, second, long))) on.some
+    (omega (arith, few, a, b, first, second))

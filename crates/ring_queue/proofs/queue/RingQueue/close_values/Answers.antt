@@ -25,19 +25,22 @@ pub rest_of-rest-requires-clause-words : goal.rest_of-rest-requires-clause-words
 rest_of-rest-requires-clause-words g c =
     let same = ap (λ (z : Layout). z.slots) c.plan.view_is in
     let taken = c.take_all-slots.ensures in
-    (values_closed c.args.self c.args.seats.items c.requires.seats c.requires.all c.requires.carries _ _ c.gather.new.gatherer.me.0 _ _ _ _ same (ap slots_items taken.words) taken.items c.gather.ensures.seat c.gather.ensures.others c.close_with-closed.ensures.values.2).there
+    (values_closed c.args.self c.args.seats.items c.requires.seats c.requires.all c.requires.carries _ _ c.gather.new.gatherer.me.0 _ _ _ _ same
+    (ap slots_items taken.words) taken.items c.gather.ensures.seat c.gather.ensures.others c.close_with-closed.ensures.values.2).there
 
 pub rest_of-rest-requires-clause-low : goal.rest_of-rest-requires-clause-low
 rest_of-rest-requires-clause-low g c =
     let same = ap (λ (z : Layout). z.slots) c.plan.view_is in
     let taken = c.take_all-slots.ensures in
-    (values_closed c.args.self c.args.seats.items c.requires.seats c.requires.all c.requires.carries _ _ c.gather.new.gatherer.me.0 _ _ _ _ same (ap slots_items taken.words) taken.items c.gather.ensures.seat c.gather.ensures.others c.close_with-closed.ensures.values.2).low
+    (values_closed c.args.self c.args.seats.items c.requires.seats c.requires.all c.requires.carries _ _ c.gather.new.gatherer.me.0 _ _ _ _ same
+    (ap slots_items taken.words) taken.items c.gather.ensures.seat c.gather.ensures.others c.close_with-closed.ensures.values.2).low
 
 pub rest_of-rest-requires-clause-room : goal.rest_of-rest-requires-clause-room
 rest_of-rest-requires-clause-room g c =
     let same = ap (λ (z : Layout). z.slots) c.plan.view_is in
     let taken = c.take_all-slots.ensures in
-    let few = (values_closed c.args.self c.args.seats.items c.requires.seats c.requires.all c.requires.carries _ _ c.gather.new.gatherer.me.0 _ _ _ _ same (ap slots_items taken.words) taken.items c.gather.ensures.seat c.gather.ensures.others c.close_with-closed.ensures.values.2).few in
+    let few = (values_closed c.args.self c.args.seats.items c.requires.seats c.requires.all c.requires.carries _ _ c.gather.new.gatherer.me.0 _ _ _ _
+    same (ap slots_items taken.words) taken.items c.gather.ensures.seat c.gather.ensures.others c.close_with-closed.ensures.values.2).few in
     omega (arith, few, same, c.requires.numbers.enough)
 
 pub returns : goal.returns
@@ -45,4 +48,6 @@ returns g c =
     let same = ap (λ (z : Layout). z.slots) c.plan.view_is in
     let taken = c.take_all-slots.ensures in
     let told = c.rest_of-rest.ensures in
-    (values_closed c.args.self c.args.seats.items c.requires.seats c.requires.all c.requires.carries _ _ c.gather.new.gatherer.me.0 _ _ _ _ same (ap slots_items taken.words) taken.items c.gather.ensures.seat c.gather.ensures.others c.close_with-closed.ensures.values.2).closes c.rest_of-rest.result told.left told.taken told.whole told.shut
+    (values_closed c.args.self c.args.seats.items c.requires.seats c.requires.all c.requires.carries _ _ c.gather.new.gatherer.me.0 _ _ _ _ same
+    (ap slots_items taken.words) taken.items c.gather.ensures.seat c.gather.ensures.others c.close_with-closed.ensures.values.2).closes
+    c.rest_of-rest.result told.left told.taken told.whole told.shut

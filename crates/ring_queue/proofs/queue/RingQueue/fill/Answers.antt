@@ -14,5 +14,6 @@ store-requires g c =
     let slot = c.slot_of-slot.ensures in
     let within = slot.within in
     let has = c.requires.claimed in
-    asks q.plan q.table.shared.key q.table.shared.table_id s (λ y v n v'. PlaceFilled v v') q.laid (32 + 2 * c.slot_of-slot.result) (λ _. c.parity_of.result * 2 ^ 63 + c.args.payload) sits (omega (arith, words, within))
+    asks q.plan q.table.shared.key q.table.shared.table_id s (λ y v n v'. PlaceFilled v v') q.laid (32 + 2 * c.slot_of-slot.result)
+    (λ _. c.parity_of.result * 2 ^ 63 + c.args.payload) sits (omega (arith, words, within))
     (fills_there q.plan (view s) c.args.place has.0 has.1 _ _ has.2 (ap (λ k. 32 + 2 * k) slot.value) (λ i. c.parity_of.ensures i * 2 ^ 63 + has.3 i))

@@ -31,6 +31,7 @@ loop-i-preserved g c =
       reserve = c.fill.ensures.reserve ∙ c.loop-i.invariant.reserve;
       known = c.fill.ensures.known ∙ c.loop-i.invariant.known;
       stage = c.fill.ensures.stage
-          ∙ ap next_stage (c.loop-i.invariant.stage ∙ ap (standing (c.args.place + c.loop-i.i)) (fillings_at c.args.shut n c.args.bodies.now c.loop-i.i c.index-bodies-i.result c.loop-i-test.true c.index-bodies-i.is))
+          ∙ ap next_stage (c.loop-i.invariant.stage ∙ ap (standing (c.args.place + c.loop-i.i))
+          (fillings_at c.args.shut n c.args.bodies.now c.loop-i.i c.index-bodies-i.result c.loop-i-test.true c.index-bodies-i.is))
           ∙ ap (λ p. standing p (drop (c.loop-i.i + 1) (contents c.args.shut n c.args.bodies.now))) (let e : c.args.place + c.loop-i.i + 1 ≡ c.args.place + (c.loop-i.i + 1) = omega arith in e);
     }

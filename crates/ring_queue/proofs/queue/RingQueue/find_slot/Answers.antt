@@ -18,11 +18,13 @@ loop-failed-preserved g c =
       none = missed.none;
       keeps = then_known _ _ _ before.keeps c.try_slot.ensures.keeps;
       same = missed.same ∙ before.same;
-      taken = one_more_taken c.args.self.now.plan c.args.seat.now.token.me.0 c.loop-failed.seat.token.me.0 c.args.first c.loop-failed.slot c.slot_of-slot.result c.loop-failed.failed before.same missed.taken next.value before.taken;
+      taken = one_more_taken c.args.self.now.plan c.args.seat.now.token.me.0 c.loop-failed.seat.token.me.0 c.args.first c.loop-failed.slot
+          c.slot_of-slot.result c.loop-failed.failed before.same missed.taken next.value before.taken;
     }
 
 pub returns-clause-busy : goal.returns-clause-busy
 returns-clause-busy g c =
     let ended = c.loop-failed-test.false in
     let most = c.loop-failed.auto.failed-end in
-    subst (AllTaken c.args.self.now.plan c.args.seat.now.token.me.0 c.args.first) (let e : c.loop-failed.failed + 0 ≡ c.args.turns = omega (arith, ended, most) in e) (c.loop-failed.invariant.taken 0 tt)
+    subst (AllTaken c.args.self.now.plan c.args.seat.now.token.me.0 c.args.first)
+    (let e : c.loop-failed.failed + 0 ≡ c.args.turns = omega (arith, ended, most) in e) (c.loop-failed.invariant.taken 0 tt)

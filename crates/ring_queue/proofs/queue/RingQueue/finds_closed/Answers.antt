@@ -12,4 +12,5 @@ load-head-requires g c =
     let sits = c.requires.ready.sits in
     let words = q.laid.words in
     asks q.plan q.table.shared.key q.table.shared.table_id c.args.seat.now MarkFound q.laid 16 (λ n. n) sits (omega (arith, words))
-    (reads q.plan 16 (view c.args.seat.now) (MarkFound q.plan) (λ ws seats r is. checks_mark q.plan ws seats r (view c.args.seat.now) is c.requires.ready.rests c.args.word c.requires.found c.requires.mark))
+    (reads q.plan 16 (view c.args.seat.now) (MarkFound q.plan) (λ ws seats r is. checks_mark q.plan ws seats r (view c.args.seat.now) is
+    c.requires.ready.rests c.args.word c.requires.found c.requires.mark))

@@ -20,14 +20,19 @@ join_seat-requires g c =
       ap (λ t. t.table_id) token ∙ (split.0 ∙ c.requires.other.sits.table),
       none_held _ (ap (λ m. length m.1) me ∙ none_out.0),
       omega (arith, words),
-      pairs_at _ _ _ c.args.one.now.token.me c.replace-token.result.me _ _ c.requires.one.sits.seat (ap (λ m. m.0.plain) me ∙ c.requires.other.sits.seat) (ap (λ m. m.0.hand) me ∙ none_hand _ none_out.1),
+      pairs_at _ _ _ c.args.one.now.token.me c.replace-token.result.me _ _ c.requires.one.sits.seat (ap (λ m. m.0.plain) me ∙ c.requires.other.sits.seat)
+          (ap (λ m. m.0.hand) me ∙ none_hand _ none_out.1),
     )
 
 pub load-requires : goal.load-requires
 load-requires g c =
     let words = c.args.self.now.laid.words in
-    let two = ap (λ t. t.me.0.plain) c.replace-token.ensures.value ∙ (ap (λ m. m.0.plain) c.split_seat-spare.ensures.2 ∙ c.requires.other.sits.seat) in
-    (c.join_seat.ensures.0 ∙ c.requires.one.sits.table, omega (arith, words), meets_at _ _ _ c.join_seat.new.seat.me _ _ (joined_is c.join_seat.new.seat.me c.args.one.now.token.me c.replace-token.result.me _ _ c.requires.one.sits.seat two c.join_seat.ensures.2))
+    let two = ap (λ t. t.me.0.plain) c.replace-token.ensures.value ∙ (ap (λ m. m.0.plain) c.split_seat-spare.ensures.2 ∙ c.requires.other.sits.seat) in (
+      c.join_seat.ensures.0 ∙ c.requires.one.sits.table,
+      omega (arith, words),
+      meets_at _ _ _ c.join_seat.new.seat.me _ _ (joined_is c.join_seat.new.seat.me c.args.one.now.token.me
+          c.replace-token.result.me _ _ c.requires.one.sits.seat two c.join_seat.ensures.2),
+    )
 
 pub split_seat-requires : goal.split_seat-requires
 split_seat-requires g c =
@@ -40,7 +45,11 @@ returns-clause-apart g c =
     let told = c.load.ensures.2 in
     let first = c.split_seat.ensures.2 in
     let second = c.split_seat.ensures.4 in (
-      (ap (λ y. length y.1) first ∙ (ap length told.1 ∙ (ap (λ m. length m.1) c.join_seat.ensures.2 ∙ c.requires.apart.0.0)), ap (λ y. slots_in y.0.hand) first ∙ (ap slots_in told.2 ∙ (ap (λ m. slots_in m.0.hand) c.join_seat.ensures.2 ∙ c.requires.apart.0.1))),
+      (
+        ap (λ y. length y.1) first ∙ (ap length told.1 ∙ (ap (λ m. length m.1) c.join_seat.ensures.2 ∙ c.requires.apart.0.0)),
+        ap (λ y. slots_in y.0.hand) first ∙ (ap slots_in
+            told.2 ∙ (ap (λ m. slots_in m.0.hand) c.join_seat.ensures.2 ∙ c.requires.apart.0.1)),
+      ),
       (ap (λ y. length y.1) second, ap (λ y. slots_in y.0.hand) second),
     )
 

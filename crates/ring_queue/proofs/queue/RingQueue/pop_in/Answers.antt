@@ -17,7 +17,8 @@ loop-preserved g c =
       record { number = name.number ∙ before.number; role = name.role ∙ before.role },
       sees_then _ _ _ c.loop.invariant.2 says.0,
       stays_on c.args.seat.now c.loop.seat c.pop_turn.new.seat c.loop.invariant.3 c.in-Failed.ensures.moves,
-      failed_more c.args.self.now.plan (view c.args.seat.now).seen c.loop.invariant.2.between c.args.seat.now.head c.loop.counter c.loop.seat c.pop_turn.new.seat c.loop.invariant.2.seen says.0 c.loop.invariant.4 says.1,
+      failed_more c.args.self.now.plan (view c.args.seat.now).seen c.loop.invariant.2.between c.args.seat.now.head c.loop.counter c.loop.seat
+          c.pop_turn.new.seat c.loop.invariant.2.seen says.0 c.loop.invariant.4 says.1,
     )
 
 pub returns-in-Took-clause-moves : goal.returns-in-Took-clause-moves

@@ -5,15 +5,18 @@ use Rattle.ring_queue.proofs.Turns.{turn_after}
 use Rattle.ring_queue.proofs.queue.RingQueue.pop_turn.Goals as goal
 
 pub returns-in_default-clause-says : goal.returns-in_default-clause-says
-returns-in_default-clause-says g c = turn_after _ c.args.seat.now c.look_twice_at_front.new.seat c.turn_at_end.new.seat c.turn_at_end.result c.look_twice_at_front.ensures.sees c.look_twice_at_front.ensures.head c.turn_at_end.ensures.says
+returns-in_default-clause-says g c = turn_after _ c.args.seat.now c.look_twice_at_front.new.seat c.turn_at_end.new.seat c.turn_at_end.result
+    c.look_twice_at_front.ensures.sees c.look_twice_at_front.ensures.head c.turn_at_end.ensures.says
 
 pub returns-in-Some-take_front-clause-says : goal.returns-in-Some-take_front-clause-says
 returns-in-Some-take_front-clause-says g c = answers_then _ _ _ (Some c.in-Some-take_front.taken) c.in-Some.ensures.sees c.in-Some-take_front.ensures.taken
 
 pub returns-in_default-clause-moves : goal.returns-in_default-clause-moves
 returns-in_default-clause-moves g c =
-    turn_moves c.args.self.now.plan c.args.seat.now c.look_twice_at_front.new.seat c.turn_at_end.new.seat c.turn_at_end.result c.look_twice_at_front.ensures.sees.number c.look_twice_at_front.ensures.slots c.turn_at_end.ensures.moves
+    turn_moves c.args.self.now.plan c.args.seat.now c.look_twice_at_front.new.seat c.turn_at_end.new.seat c.turn_at_end.result
+    c.look_twice_at_front.ensures.sees.number c.look_twice_at_front.ensures.slots c.turn_at_end.ensures.moves
 
 pub returns-in-Some-take_front-clause-moves : goal.returns-in-Some-take_front-clause-moves
 returns-in-Some-take_front-clause-moves g c =
-    then_takes c.args.self.now.plan c.in-Some-take_front.taken c.args.seat.now c.look_twice_at_front.new.seat c.take_front.new.seat c.in-Some.ensures.sees.number c.in-Some.ensures.slots c.in-Some-take_front.ensures.moves
+    then_takes c.args.self.now.plan c.in-Some-take_front.taken c.args.seat.now c.look_twice_at_front.new.seat c.take_front.new.seat
+    c.in-Some.ensures.sees.number c.in-Some.ensures.slots c.in-Some-take_front.ensures.moves

@@ -9,7 +9,8 @@ returns-clause-pushed g c = done_after _ _ _ _ c.args.body c.put-2.result c.in_o
 
 pub returns-clause-refused : goal.returns-clause-refused
 returns-clause-refused g c =
-    refused_after (known_of c.args.seat.now) (known_of c.refill.new.seat) (known_of c.refill.new.seat) (known_of c.put-2.new.seat) c.put-2.result c.in_ok-refill.ensures.done.sees (sees_itself _) c.put-2.ensures.shut
+    refused_after (known_of c.args.seat.now) (known_of c.refill.new.seat) (known_of c.refill.new.seat) (known_of c.put-2.new.seat) c.put-2.result
+    c.in_ok-refill.ensures.done.sees (sees_itself _) c.put-2.ensures.shut
 
 pub put-requires-clause-loaded : goal.put-requires-clause-loaded
 put-requires-clause-loaded g c = ready_push c.args.self.now.plan.carries c.args.self.now.plan.slots (view c.args.seat.now).number c.args.body c.args.seat.now.token.me c.requires.loaded
@@ -21,7 +22,8 @@ put-requires-2-clause-loaded g c =
     ready_push z.carries z.slots (view t).number c.args.body t.token.me (still_loaded z c.args.body c.args.seat.now t c.refill.ensures.slots c.requires.loaded)
 
 pub returns-clause-gives : goal.returns-clause-gives
-returns-clause-gives g c = gives_after c.args.self.now.plan c.args.body c.args.seat.now c.refill.new.seat c.put-2.new.seat c.put-2.result c.in_ok-refill.ensures.done.sees.number c.refill.ensures.slots c.put-2.ensures.gives
+returns-clause-gives g c = gives_after c.args.self.now.plan c.args.body c.args.seat.now c.refill.new.seat c.put-2.new.seat c.put-2.result
+    c.in_ok-refill.ensures.done.sees.number c.refill.ensures.slots c.put-2.ensures.gives
 
 pub returns-clause-kept : goal.returns-clause-kept
 returns-clause-kept g c = kept_after c.args.seat.now c.refill.new.seat c.put-2.new.seat c.put-2.result c.refill.ensures.slots c.put-2.ensures.kept

@@ -10,7 +10,8 @@ returns-then-tail-lt-SHUT-clause-gives g c =
     let t = c.claim-tail.new.seat in
     let u = c.fill.new.seat in
     let told = c.claim-tail.ensures.told.pushed c.if-tail-lt-SHUT.true in
-    gives_then q.plan q.table.shared.table_id c.args.body s t u (gave_slot q.plan s t _ (view s).number c.args.body c.claim-tail.ensures.moves told.1.mine) c.claim-tail.ensures.seat c.fill.ensures.seat c.fill.ensures.slots (ap (λ k. k.seen) c.fill.ensures.known)
+    gives_then q.plan q.table.shared.table_id c.args.body s t u (gave_slot q.plan s t _ (view s).number c.args.body c.claim-tail.ensures.moves
+    told.1.mine) c.claim-tail.ensures.seat c.fill.ensures.seat c.fill.ensures.slots (ap (λ k. k.seen) c.fill.ensures.known)
 
 pub returns-else-tail-lt-SHUT-clause-kept : goal.returns-else-tail-lt-SHUT-clause-kept
 returns-else-tail-lt-SHUT-clause-kept g c =

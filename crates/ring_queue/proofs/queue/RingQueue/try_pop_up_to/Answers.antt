@@ -20,7 +20,8 @@ loop-preserved g c =
       seat = c.batch_turn.ensures.seat;
       name = record { number = name.number ∙ before.number; role = name.role ∙ before.role };
       sees = sees_then _ _ _ inv.sees says.1;
-      failed = failed_more c.args.self.now.plan (view c.args.seat.now).seen inv.sees.between c.args.seat.now.head c.loop.counter c.loop.seat c.batch_turn.new.seat inv.sees.seen says.1 inv.failed says.2;
+      failed = failed_more c.args.self.now.plan (view c.args.seat.now).seen inv.sees.between c.args.seat.now.head c.loop.counter c.loop.seat
+          c.batch_turn.new.seat inv.sees.seen says.1 inv.failed says.2;
       into = says.0 ∙ inv.into;
       room = subst (λ v. vec_len v + c.args.most ≤ vec_capacity v) (sym says.0) inv.room;
     }

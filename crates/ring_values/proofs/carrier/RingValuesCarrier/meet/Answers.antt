@@ -6,4 +6,5 @@ pub returns-clause-meets : goal.returns-clause-meets
 returns-clause-meets g c =
     let q = c.args.self.now in
     let told = c.meet_seats.ensures in
-    meets-deeds (ring_of q) c.args.one.now c.args.other.now c.meet_seats.new.one c.meet_seats.new.other q.carries c.requires.one.ready c.requires.other.ready told.one told.other (told.values q.carries) told.meets
+    meets-deeds (ring_of q) c.args.one.now c.args.other.now c.meet_seats.new.one c.meet_seats.new.other q.carries c.requires.one.ready
+    c.requires.other.ready told.one told.other (told.values q.carries) told.meets

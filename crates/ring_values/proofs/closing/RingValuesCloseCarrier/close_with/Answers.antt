@@ -15,4 +15,7 @@ rest_of-requires-clause-room g c = omega (arith, c.close_values-left.ensures.few
 pub returns : goal.returns
 returns g c =
     let told = c.rest_of.ensures in
-    record { rest = subst (λ (y : List (ItemOf _) × ℕ × Bool × Bool). ClosesWith (permits_of c.args.self) (map known_by c.args.seats.items) y.0 y.1 y.2 y.3) (λ i. (sym told.left i, sym told.taken i, sym told.whole i, sym told.shut i)) c.close_values-left.ensures.rest }
+    record {
+      rest = subst (λ (y : List (ItemOf _) × ℕ × Bool × Bool). ClosesWith (permits_of c.args.self) (map known_by c.args.seats.items) y.0 y.1
+          y.2 y.3) (λ i. (sym told.left i, sym told.taken i, sym told.whole i, sym told.shut i)) c.close_values-left.ensures.rest;
+    }

@@ -23,7 +23,8 @@ returns-clause-rest g c =
     let told = c.of.ensures in
     let ready = All-weaker (IsQueueSeat c.args.self) (IsRingSeat (ring_of c.args.self)) (λ s h. h.ready) c.args.seats.items c.requires.seats in
     let closes = closes-values (ring_of c.args.self) c.args.seats.items c.close_values-rest.result.0 c.close_values-rest.result.1.items c.args.self.carries ready c.close_values-rest.ensures in
-    subst (λ (y : Rest × List (Option _)). ClosesWith (permits_of c.args.self) (map known_by c.args.seats.items) (map as_item (values_of y.1 (left_of y.0))) (taken_of y.0) (whole_of y.0) (was_shut_of y.0)) (λ i. (sym told.rest i, sym told.slots i)) closes
+    subst (λ (y : Rest × List (Option _)). ClosesWith (permits_of c.args.self) (map known_by c.args.seats.items)
+    (map as_item (values_of y.1 (left_of y.0))) (taken_of y.0) (whole_of y.0) (was_shut_of y.0)) (λ i. (sym told.rest i, sym told.slots i)) closes
 
 pub returns-clause-few : goal.returns-clause-few
 returns-clause-few g c =

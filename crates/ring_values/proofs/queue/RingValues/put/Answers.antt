@@ -15,4 +15,6 @@ body_of-requires g c = omega (arith, c.requires.has.1.there, c.args.self.now.nar
 pub returns-in-Err : goal.returns-in-Err
 returns-in-Err g c =
     let told = c.in-Err.ensures in
-    put_back (ring_of c.args.self.now) c.args.seat.now c.push_in.new.seat c.take_value-value.new.seat c.free_slot.new.seat c.args.slot c.args.turns c.in-Err.refusal c.take_value-value.result c.free_slot.ensures.seat c.free_slot.ensures.none told.name told.kept c.take_value-value.ensures.keeps c.free_slot.ensures.keeps c.take_value-value.ensures.taken told.refused told.refusal told.caused
+    put_back (ring_of c.args.self.now) c.args.seat.now c.push_in.new.seat c.take_value-value.new.seat c.free_slot.new.seat c.args.slot c.args.turns
+    c.in-Err.refusal c.take_value-value.result c.free_slot.ensures.seat c.free_slot.ensures.none told.name told.kept
+    c.take_value-value.ensures.keeps c.free_slot.ensures.keeps c.take_value-value.ensures.taken told.refused told.refusal told.caused

@@ -19,5 +19,6 @@ store-requires g c =
       gives_at g.Q.Fifo.is_seat g.Q.Fifo.permits g.Q.Fifo.known store.table.shared.key store.table.shared.table_id.slots c.exchange.new.seat.id held.place
           (subst (λ n. held.place < n) store.sized here) held.part c.number.result c.number.ensures held.seat
           (subst (λ h. ∥ Belongs g.Q.Fifo.is_seat g.Q.Fifo.permits g.Q.Fifo.known h held.place held.part held.seat ∥₁) same held.belongs) c.exchange.new.seat.me
-          (filled g.Q.Fifo.is_seat g.Q.Fifo.permits g.Q.Fifo.known store.table.shared.key held.home.value same held.place held.seat held.token.me c.exchange.new.seat.me held.taken c.exchange.ensures.3),
+          (filled g.Q.Fifo.is_seat g.Q.Fifo.permits g.Q.Fifo.known store.table.shared.key held.home.value same held.place held.seat held.token.me
+          c.exchange.new.seat.me held.taken c.exchange.ensures.3),
     )

@@ -24,5 +24,6 @@ returns-in-Ok-clause-rest g c = record {
   seats = map g.Q.Fifo.known c.bare-seats.result.items;
   those = map-map (λ k. k.number) g.Q.Fifo.known c.bare-seats.result.items ∙ ap (map (λ s. (g.Q.Fifo.known s).number)) c.bare-seats.ensures
       ∙ map-map (λ s. (g.Q.Fifo.known s).number) (λ h. h.seat) c.args.all.items ∙ c.requires.numbers;
-  closes = subst (λ q. Closes (g.Q.Fifo.permits q) (map g.Q.Fifo.known c.bare-seats.result.items) c.close_with.result.0) (c.into_queue.ensures ∙ ap (λ s. s.home.queue) c.in-Ok.ensures.ok) c.close_with.ensures.rest;
+  closes = subst (λ q. Closes (g.Q.Fifo.permits q) (map g.Q.Fifo.known c.bare-seats.result.items) c.close_with.result.0)
+      (c.into_queue.ensures ∙ ap (λ s. s.home.queue) c.in-Ok.ensures.ok) c.close_with.ensures.rest;
 }

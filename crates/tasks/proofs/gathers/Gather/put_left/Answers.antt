@@ -12,5 +12,6 @@ loop-item-preserved g c =
     let long = ap length c.put.ensures ∙ length-set (slots_in c.loop-item.self) _ _ in
     record {
       put = (λ i. fills (c.put.ensures i) (map told_left rest)) ∙ ap (λ r. fills (slots_in c.loop-item.self) (map told_left r)) (sym c.in-Some.ensures.steps.0) ∙ c.loop-item.invariant.put;
-      within = subst (λ n. All (λ x. x.value.number < n) rest) (sym long) (All-rest (λ x. x.value.number < length (slots_in c.loop-item.self)) _ _ _ c.in-Some.ensures.steps.0 c.loop-item.invariant.within);
+      within = subst (λ n. All (λ x. x.value.number < n) rest) (sym long) (All-rest (λ x. x.value.number < length (slots_in c.loop-item.self)) _ _ _
+          c.in-Some.ensures.steps.0 c.loop-item.invariant.within);
     }

@@ -10,17 +10,21 @@ use Rattle.value_queue.proofs.carrier.QueueOfCarrier.try_push.Goals as goal
 pub returns-in-Err-clause-refused : goal.returns-in-Err-clause-refused
 returns-in-Err-clause-refused g c =
     handed c.unpushed.result (back_with c.in-Err.refusal c.args.value) _ c.unpushed.ensures
-    (no_node g.A.Algorithm.push_worn (arena_of c.args.self.now) c.args.self.now.carries c.args.seat.now c.requires.seat.0 c.requires.seat.1 c.args.value c.args.turns c.node.new.seat c.in-Err.refusal c.in-Err.ensures).refused
+    (no_node g.A.Algorithm.push_worn (arena_of c.args.self.now) c.args.self.now.carries c.args.seat.now c.requires.seat.0 c.requires.seat.1 c.args.value c.args.turns
+    c.node.new.seat c.in-Err.refusal c.in-Err.ensures).refused
 
 pub returns-in-Err-clause-caused : goal.returns-in-Err-clause-caused
 returns-in-Err-clause-caused g c =
     handed c.unpushed.result (back_with c.in-Err.refusal c.args.value) _ c.unpushed.ensures
-    (no_node g.A.Algorithm.push_worn (arena_of c.args.self.now) c.args.self.now.carries c.args.seat.now c.requires.seat.0 c.requires.seat.1 c.args.value c.args.turns c.node.new.seat c.in-Err.refusal c.in-Err.ensures).caused
+    (no_node g.A.Algorithm.push_worn (arena_of c.args.self.now) c.args.self.now.carries c.args.seat.now c.requires.seat.0 c.requires.seat.1 c.args.value c.args.turns
+    c.node.new.seat c.in-Err.refusal c.in-Err.ensures).caused
 
-slotless : (g : Over) (c : goal.After-unpushed-in-Err-get_slot g) → AnswersPush g.A.Algorithm.push_worn (arena_of c.args.self.now) c.args.seat.now c.get_slot.new.seat c.args.value c.args.turns (Err (back_with c.in-Err-get_slot.refusal c.args.value))
+slotless : (g : Over) (c : goal.After-unpushed-in-Err-get_slot g) → AnswersPush g.A.Algorithm.push_worn (arena_of c.args.self.now) c.args.seat.now c.get_slot.new.seat c.args.value
+    c.args.turns (Err (back_with c.in-Err-get_slot.refusal c.args.value))
 slotless g c =
     let e = c.in-Err-get_slot.ensures in
-    no_slot g.A.Algorithm.push_worn (arena_of c.args.self.now) c.args.self.now.carries c.args.seat.now c.requires.seat.0 c.requires.seat.1 c.args.value c.args.turns c.node.new.seat c.get_slot.new.seat c.in-Ok.node.0 c.in-Ok.node.1 c.in-Ok.ensures c.in-Err-get_slot.refusal (e.ready c.in-Ok.ensures.ready) e.keeps e.refused e.busy
+    no_slot g.A.Algorithm.push_worn (arena_of c.args.self.now) c.args.self.now.carries c.args.seat.now c.requires.seat.0 c.requires.seat.1 c.args.value c.args.turns c.node.new.seat
+    c.get_slot.new.seat c.in-Ok.node.0 c.in-Ok.node.1 c.in-Ok.ensures c.in-Err-get_slot.refusal (e.ready c.in-Ok.ensures.ready) e.keeps e.refused e.busy
 
 pub returns-in-Err-get_slot-clause-refused : goal.returns-in-Err-get_slot-clause-refused
 returns-in-Err-get_slot-clause-refused g c = handed c.unpushed-in-Err-get_slot.result (back_with c.in-Err-get_slot.refusal c.args.value) _ c.unpushed-in-Err-get_slot.ensures (slotless g c).refused
@@ -34,19 +38,26 @@ put-requires g c =
     let got = c.in-Ok-get_slot.ensures in
     let has = c.put_value.ensures.has in
     let k = keeps_on c.node.new.seat c.get_slot.new.seat c.put_value.new.seat got.keeps c.put_value.ensures.keeps in
-    let loaded : HasLoaded (arena_of c.args.self.now).plan c.body_of.result c.put_value.new.seat.token.me = λ carries. subst (λ body. HasLoaded (arena_of c.args.self.now).plan body c.put_value.new.seat.token.me) (sym c.body_of.ensures) (λ _. (c.args.value, has.out, has.hand, has.there)) carries in
+    let loaded : HasLoaded (arena_of c.args.self.now).plan c.body_of.result c.put_value.new.seat.token.me =
+    λ carries. subst (λ body. HasLoaded (arena_of c.args.self.now).plan body c.put_value.new.seat.token.me) (sym c.body_of.ensures)
+    (λ _. (c.args.value, has.out, has.hand, has.there)) carries in
     let pushes = still_pushes (arena_of c.args.self.now) c.args.seat.now c.put_value.new.seat c.requires.seat.0 (k.stored.role ∙ h.same.role) c.requires.role in
     (lit≤ tt, (c.put_value.ensures.ready (got.ready h.ready), (c.args.self.now.runs, (loaded, (pushes, (k.stored.pocket ∙ h.pocket, (let a = got.few in let b = h.spent.1 in omega (arith, a, b))))))))
 
 pub returns-in-Ok-put-clause-pushed : goal.returns-in-Ok-put-clause-pushed
 returns-in-Ok-put-clause-pushed g c =
     let k = keeps_on c.node.new.seat c.get_slot.new.seat c.put_value.new.seat c.in-Ok-get_slot.ensures.keeps c.put_value.ensures.keeps in
-    (value_pushed g.A.Algorithm.push_worn (arena_of c.args.self.now) c.args.self.now.carries c.args.seat.now c.requires.seat.0 c.requires.seat.1 c.args.value c.args.turns c.node.new.seat c.put_value.new.seat c.in-Ok.node.0 c.in-Ok.node.1 c.in-Ok.ensures c.in-Ok-get_slot.got k c.put_value.ensures.has c.in-Ok-get_slot.ensures.failed c.body_of.result c.put.new.seat c.in-Ok-put.ensures).pushed
+    (value_pushed g.A.Algorithm.push_worn (arena_of c.args.self.now) c.args.self.now.carries c.args.seat.now c.requires.seat.0 c.requires.seat.1 c.args.value c.args.turns
+    c.node.new.seat c.put_value.new.seat c.in-Ok.node.0 c.in-Ok.node.1 c.in-Ok.ensures c.in-Ok-get_slot.got k c.put_value.ensures.has c.in-Ok-get_slot.ensures.failed
+    c.body_of.result c.put.new.seat c.in-Ok-put.ensures).pushed
 
-came_back : (g : Over) (c : goal.After-taken_back g) → AnswersPush g.A.Algorithm.push_worn (arena_of c.args.self.now) c.args.seat.now c.taken_back.new.seat c.args.value c.args.turns (Err (back_with c.in-Err-put.refusal c.taken_back.ensures.value))
+came_back : (g : Over) (c : goal.After-taken_back g) → AnswersPush g.A.Algorithm.push_worn (arena_of c.args.self.now) c.args.seat.now c.taken_back.new.seat c.args.value
+    c.args.turns (Err (back_with c.in-Err-put.refusal c.taken_back.ensures.value))
 came_back g c =
     let k = keeps_on c.node.new.seat c.get_slot.new.seat c.put_value.new.seat c.in-Ok-get_slot.ensures.keeps c.put_value.ensures.keeps in
-    value_back g.A.Algorithm.push_worn (arena_of c.args.self.now) c.args.self.now.carries c.args.seat.now c.requires.seat.0 c.requires.seat.1 c.args.value c.args.turns c.node.new.seat c.put_value.new.seat c.in-Ok.node.0 c.in-Ok.node.1 c.in-Ok.ensures c.in-Ok-get_slot.got k c.put_value.ensures.has c.in-Ok-get_slot.ensures.failed c.body_of.result c.put.new.seat c.taken_back.new.seat c.in-Err-put.refusal c.taken_back.result c.in-Err-put.ensures c.taken_back.ensures
+    value_back g.A.Algorithm.push_worn (arena_of c.args.self.now) c.args.self.now.carries c.args.seat.now c.requires.seat.0 c.requires.seat.1 c.args.value c.args.turns
+    c.node.new.seat c.put_value.new.seat c.in-Ok.node.0 c.in-Ok.node.1 c.in-Ok.ensures c.in-Ok-get_slot.got k c.put_value.ensures.has c.in-Ok-get_slot.ensures.failed
+    c.body_of.result c.put.new.seat c.taken_back.new.seat c.in-Err-put.refusal c.taken_back.result c.in-Err-put.ensures c.taken_back.ensures
 
 pub returns-in-Err-put-clause-refused : goal.returns-in-Err-put-clause-refused
 returns-in-Err-put-clause-refused g c = handed c.taken_back.result (back_with c.in-Err-put.refusal c.taken_back.ensures.value) _ c.taken_back.ensures.back (came_back g c).refused

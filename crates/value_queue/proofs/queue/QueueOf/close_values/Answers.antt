@@ -12,7 +12,9 @@ close_values-requires g c =
     (lit≤ tt, (c.requires.numbers, (c.requires.slots, (ready, (none_out, c.args.self.carries)))))
 
 pub returns-clause-rest : goal.returns-clause-rest
-returns-clause-rest g c = closes-values (arena_of c.args.self) c.args.seats.items c.close_values.result.0 c.args.self.carries (All-weaker (IsQueueSeat c.args.self) (IsReady (arena_of c.args.self)) (λ s h. h.0) c.args.seats.items c.requires.seats) c.close_values.ensures.values
+returns-clause-rest g c = closes-values (arena_of c.args.self) c.args.seats.items c.close_values.result.0 c.args.self.carries
+    (All-weaker (IsQueueSeat c.args.self) (IsReady (arena_of c.args.self)) (λ s h. h.0) c.args.seats.items c.requires.seats)
+    c.close_values.ensures.values
 
 pub returns-clause-few : goal.returns-clause-few
 returns-clause-few g c = c.close_values.ensures.values.few

@@ -9,5 +9,7 @@ returns g c =
     elim c.match-pocket.branch [
       | in-None w ↦ draw_at_once g.A.Algorithm.pop_worn (arena_of c.args.self.now) c.args.seat.now _ c.draw.new.seat _ c.args.turns c.draw.result w.seat-is w.spent-is c.draw.ensures
       | in-Some+in_ok-give_back-in-Some w ↦
-          draw_after_give g.A.Algorithm.pop_worn (arena_of c.args.self.now) c.args.seat.now w.give_back.new.seat _ c.draw.new.seat w.failed-spent.result _ c.args.turns c.draw.result w.seat-is w.spent-is w.give_back.ensures.same w.give_back.ensures.slots w.give_back.ensures.lines (w.failed-spent.ensures ∙ w.give_back.ensures.failed) c.draw.ensures
+          draw_after_give g.A.Algorithm.pop_worn (arena_of c.args.self.now) c.args.seat.now w.give_back.new.seat _ c.draw.new.seat
+          w.failed-spent.result _ c.args.turns c.draw.result w.seat-is w.spent-is w.give_back.ensures.same w.give_back.ensures.slots
+          w.give_back.ensures.lines (w.failed-spent.ensures ∙ w.give_back.ensures.failed) c.draw.ensures
     ]
