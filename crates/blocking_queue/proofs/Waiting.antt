@@ -4,7 +4,8 @@ use Rattle.history.specs.declared.operations.Taken.{Taken}
 use Rattle.history.specs.declared.refusals.Refusal.{Refusal}
 use Rattle.history.specs.declared.refusals.Refusal.TheVariants.{NoNode}
 use Rattle.history.specs.Seats.{Known}
-use Rattle.history.specs.Answers.{FoundEmpty, PopAnswers, PopRefused, PushRefused, SeesMore}
+use Rattle.history.specs.Answers.{EndsByTry, FoundEmpty, PopAnswers, PopRefused, PushRefused, SeesMore}
+use Rattle.history.proofs.Learning.{sees_then}
 use Rattle.blocking_queue.specs.Waits.{Waited, EmptySince}
 use Rattle.blocking_queue.specs.Answers.{Received, RecvRefused, EndsAfterWait, Looked}
 
@@ -66,3 +67,23 @@ looked_none a b o e h = subst (λ p. Looked a p b) e h
 -- a seat whose push was refused for want of a node
 pub refused_by : (a b : Known) (r : Refusal) → r ≡ NoNode → PushRefused a r b → SeesMore a b
 refused_by a b r e h = subst (λ p. PushRefused a p b) e h
+
+-- and that had seen no less before
+pub refused_after : (a b c : Known) (r : Refusal) → SeesMore a b → r ≡ NoNode → PushRefused b r c → SeesMore a c
+refused_after a b c r s e h = sees_then a b c s (refused_by b c r e h)
+
+-- and that then looked, and saw that the queue isn't shut
+pub looked_after : (a b c d : Known) (r : Refusal) → SeesMore a b → r ≡ NoNode → PushRefused b r c → SeesMore c d → SeesMore a d
+looked_after a b c d r s e h l = sees_then a c d (refused_after a b c r s e h) l
+
+-- and whose next push was refused for want of a node
+pub full_after : (a b c d f : Known) (r t : Refusal) → SeesMore a b → r ≡ NoNode → PushRefused b r c → SeesMore c d → t ≡ NoNode → PushRefused d t f → SeesMore a f
+full_after a b c d f r t s e h l e' h' = refused_after a d f t (looked_after a b c d r s e h l) e' h'
+
+-- a seat whose time was over as it was then, and whose last push was refused for want of a node
+pub late_then : {Q S : Type 0} (is_seat : Q → S → Type 0) (known : S → Known) (cause : Q → S → S → ℕ → Refusal → Type 0) (queue : Q) (a b c then last : S) (r : Refusal)
+    → then ≡ b → SeesMore (known a) (known b) → r ≡ NoNode → PushRefused (known b) r (known c)
+    → is_seat queue last → SeesMore (known b) (known last) → cause queue last c 8 r
+    → SeesMore (known a) (known then) × SeesMore (known then) (known c) × EndsByTry is_seat known cause queue then c 8 NoNode
+late_then is_seat known cause queue a b c then last r same s e h seat more caused =
+    rw same (s, refused_by (known b) (known c) r e h, record { last = last; seat = seat; more = more; caused = subst (cause queue last c 8) e caused })

@@ -11,7 +11,9 @@ use Rattle.mailbox.specs.Posting.{BringTexts, texts_in, texts_of}
 use Rattle.mail_engine.specs.Posts.{said_by}
 use Rattle.mail_engine.specs.Shares.{texts_from, HaveTexts}
 
-said_one : (b : Bool) (l : Outgoing) (said : List SaidLetter) (ls : List Outgoing) → map (λ (x : SaidLetter). x.text) said ≡ map (λ (x : Outgoing). string_bytes x.text) ls → map (λ (x : SaidLetter). x.text) (cond b (said_letter l ∷ said) said) ≡ map (λ (x : Outgoing). string_bytes x.text) (cond b (l ∷ ls) ls)
+said_one : (b : Bool) (l : Outgoing) (said : List SaidLetter) (ls : List Outgoing)
+    → map (λ (x : SaidLetter). x.text) said ≡ map (λ (x : Outgoing). string_bytes x.text) ls
+    → map (λ (x : SaidLetter). x.text) (cond b (said_letter l ∷ said) said) ≡ map (λ (x : Outgoing). string_bytes x.text) (cond b (l ∷ ls) ls)
 said_one true l said ls h = ap (λ ts. string_bytes l.text ∷ ts) h
 said_one false l said ls h = h
 
@@ -26,7 +28,8 @@ module _ {Q S : Type 0} where
   have_lists (t ∷ ts) letters h k short = get_or-map texts_in (t ∷ ts) k t [] short ∙ h k t short
 
   -- where the texts of the tasks were brought, each sender's are those of its letters
-  pub brought : (n : ℕ) (tasks : List (Task Q S)) (letters : List Outgoing) (taken : List Letter) → length tasks ≡ n → HaveTexts tasks letters → BringTexts (map texts_in tasks) taken → (sender : ℕ) → IsWithin 1 n sender → texts_of sender taken ≡ said_by sender (said_letters letters)
+  pub brought : (n : ℕ) (tasks : List (Task Q S)) (letters : List Outgoing) (taken : List Letter) → length tasks ≡ n → HaveTexts tasks letters
+      → BringTexts (map texts_in tasks) taken → (sender : ℕ) → IsWithin 1 n sender → texts_of sender taken ≡ said_by sender (said_letters letters)
   brought n tasks letters taken many have bring sender within =
       let low = within.0 in
       let high = within.1 in

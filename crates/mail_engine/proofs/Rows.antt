@@ -61,11 +61,13 @@ only_pops_at : (n m : ℕ) → m ≡ n + 1 → OnlyPops (givers_and_taker n) m
 only_pops_at n m is k may = let at = pops_at n (k - 1) may.1 in let some = may.0 in omega (arith, is, at, some)
 
 -- a new seat knows nothing, and its number is its place, from 1 on
-known_at : {S : Type 0} (permits : List Permit) (known : S → Known) (seats : List S) → AreNew permits (map known seats) → (k : ℕ) (d : S) → k < length seats → known (get_or seats k d) ≡ newcomer (k + 1)
+known_at : {S : Type 0} (permits : List Permit) (known : S → Known) (seats : List S) → AreNew permits (map known seats) → (k : ℕ) (d : S) → k < length seats
+    → known (get_or seats k d) ≡ newcomer (k + 1)
 known_at permits known seats new k d short =
     new.each k (known (get_or seats k d)) (slice_get-map known seats k ∙ ap (λ o. elim o as (λ o'. Option Known) [ None ↦ None | Some s ↦ Some (known s) ]) (slice_get-get_or seats k d short))
 
-number_at : {S : Type 0} (permits : List Permit) (known : S → Known) (seats : List S) → AreNew permits (map known seats) → (k : ℕ) (d : S) → k < length seats → (known (get_or seats k d)).number ≡ k + 1
+number_at : {S : Type 0} (permits : List Permit) (known : S → Known) (seats : List S) → AreNew permits (map known seats) → (k : ℕ) (d : S) → k < length seats
+    → (known (get_or seats k d)).number ≡ k + 1
 number_at permits known seats new k d short = ap (λ s. s.number) (known_at permits known seats new k d short)
 
 -- the last of new seats has no entry of its own
@@ -75,7 +77,8 @@ unused_last permits known seats last new =
     let within : length seats < length (seats ++ last ∷ []) = omega (arith, length-append seats (last ∷ [])) in
     ap (λ s. (known s).mine) (sym here) ∙ ap (λ k. k.mine) (known_at permits known (seats ++ last ∷ []) new (length seats) last within)
 
-module _ {Q S : Type 0} (is_seat : Q → S → Type 0) (permits : Q → List Permit) (known : S → Known) (q : Q) (n : ℕ) (row : permits q ≡ givers_and_taker n) (seats : List S) (last : S) (new : AreNew (permits q) (map known (seats ++ last ∷ []))) (all : All (is_seat q) (seats ++ last ∷ [])) where
+module _ {Q S : Type 0} (is_seat : Q → S → Type 0) (permits : Q → List Permit) (known : S → Known) (q : Q) (n : ℕ) (row : permits q ≡ givers_and_taker n)
+    (seats : List S) (last : S) (new : AreNew (permits q) (map known (seats ++ last ∷ []))) (all : All (is_seat q) (seats ++ last ∷ [])) where
   -- there are n seats before the last one
   count : length seats ≡ n
   count =
@@ -113,7 +116,9 @@ module _ {Q S : Type 0} (is_seat : Q → S → Type 0) (permits : Q → List Per
       }
 
 -- a new queue of these roles, with its last seat told apart
-pub opened : {Q S : Type 0} (is_seat : Q → S → Type 0) (permits : Q → List Permit) (known : S → Known) (n : ℕ) (q : Q) (seats before : List S) (last : S) → permits q ≡ givers_and_taker n → seats ≡ before ++ last ∷ [] → AreNew (permits q) (map known seats) → All (is_seat q) seats → IsOpened is_seat permits known n q before last
+pub opened : {Q S : Type 0} (is_seat : Q → S → Type 0) (permits : Q → List Permit) (known : S → Known) (n : ℕ) (q : Q) (seats before : List S) (last : S)
+    → permits q ≡ givers_and_taker n → seats ≡ before ++ last ∷ [] → AreNew (permits q) (map known seats) → All (is_seat q) seats
+    → IsOpened is_seat permits known n q before last
 opened is_seat permits known n q seats before last row whole new all =
     let dealt : AreNew (permits q) (map known (before ++ last ∷ [])) = subst (λ ss. AreNew (permits q) (map known ss)) whole new in
     let each : All (is_seat q) (before ++ last ∷ []) = subst (All (is_seat q)) whole all in

@@ -25,7 +25,8 @@ pub record AreBrought (senders : ℕ) (letters : List SaidLetter) (taken : List 
   pub texts : (sender : ℕ) → IsWithin 1 senders sender → texts_of sender taken ≡ said_by sender letters
 
 -- what the tasks of so many senders sent, which have all letters, and their receiver took
-pub are_brought : {Q S : Type 0} {senders : List (Sender Q S)} {seats : List S} {taken : List Letter} {r r' : Receiver Q S} (permits : List Permit) (known : S → Known) (n : ℕ) (tasks : List (Task Q S)) (letters : List Outgoing)
+pub are_brought : {Q S : Type 0} {senders : List (Sender Q S)} {seats : List S} {taken : List Letter} {r r' : Receiver Q S}
+    (permits : List Permit) (known : S → Known) (n : ℕ) (tasks : List (Task Q S)) (letters : List Outgoing)
     → map (λ s. s.seat) senders ≡ seats → length seats ≡ n → map (λ t. t.sender) tasks ≡ senders → HaveTexts tasks letters → letters_of tasks ≡ length letters
     → length taken ≡ letters_of tasks → BringTexts (map texts_in tasks) taken → permits ≡ givers_and_taker n → IsSound permits (known r'.seat) → Delivered known r taken r'
     → AreBrought n (said_letters letters) taken

@@ -85,10 +85,13 @@ taken_of-pushers permits k sound =
     subst (λ es. All P (popped es)) sound.own (own_popped P k.number k.seen seen)
 
 -- each letter delivered is of a giver
-pub senders_within : {Q S : Type 0} (permits : List Permit) (known : S → Known) (n : ℕ) (r : Receiver Q S) (letters : List Letter) (r' : Receiver Q S) → permits ≡ givers_and_taker n → IsSound permits (known r'.seat) → Delivered known r letters r' → All (λ (l : Letter). IsWithin 1 n l.from) letters
+pub senders_within : {Q S : Type 0} (permits : List Permit) (known : S → Known) (n : ℕ) (r : Receiver Q S) (letters : List Letter) (r' : Receiver Q S)
+    → permits ≡ givers_and_taker n → IsSound permits (known r'.seat) → Delivered known r letters r' → All (λ (l : Letter). IsWithin 1 n l.from) letters
 senders_within permits known n r letters r' row sound told =
     let P : Taken → Type 0 = λ v. IsWithin 1 n v.from in
-    let all : All (λ (v : Taken). MayPush permits v.from) told.values = last_part (λ (v : Taken). MayPush permits v.from) (popped (known r.seat).mine) told.values (subst (All (λ (v : Taken). MayPush permits v.from)) told.popped_them (taken_of-pushers permits (known r'.seat) sound)) in
+    let M : Taken → Type 0 = λ v. MayPush permits v.from in
+    let all : All M told.values =
+    last_part M (popped (known r.seat).mine) told.values (subst (All M) told.popped_them (taken_of-pushers permits (known r'.seat) sound)) in
     let within : All P told.values = λ k d short. giver_within n (get_or told.values k d).from (subst (λ ps. MayPush ps (get_or told.values k d).from) row (all k d short)) in
     all_before-map (IsWithin 1 n) (λ (l : Letter). l.from) letters
     (subst (All (IsWithin 1 n)) (sym told.senders) (All-map (IsWithin 1 n) (λ (v : Taken). v.from) told.values within))

@@ -19,7 +19,8 @@ byte-apart : TellApart (λ (byte : ℕ). byte ∷ [])
 unfolding first_of rest_of
 byte-apart x y r s h = (ap first_of h, ap rest_of h)
 
-each-apart : {X : Type 0} (numbers : X → List ℕ) → TellApart numbers → (xs ys : List X) → length xs ≡ length ys → (r s : List ℕ) → flat_map numbers xs ++ r ≡ flat_map numbers ys ++ s → (xs ≡ ys) × (r ≡ s)
+each-apart : {X : Type 0} (numbers : X → List ℕ) → TellApart numbers → (xs ys : List X) → length xs ≡ length ys → (r s : List ℕ)
+    → flat_map numbers xs ++ r ≡ flat_map numbers ys ++ s → (xs ≡ ys) × (r ≡ s)
 each-apart numbers apart [] [] same r s h = (refl, h)
 each-apart numbers apart [] (y ∷ ys) same r s h = absurd (omega (arith, same))
 each-apart numbers apart (x ∷ xs) [] same r s h = absurd (omega (arith, same))

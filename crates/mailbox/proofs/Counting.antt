@@ -1,6 +1,6 @@
 -- Letters that are counted, each the next one of its task.
-use Rattle.std.proofs.Common.{cond, suc, zero, ◌≡◌, ◌≢◌, ◌∙◌, ◌<◌, ◌≤◌, ◌+◌, sym, refl, ap, subst, ℕ, List, [], ◌∷◌, ◌++◌, length, map, get_or, nat_eq, true, false, Bool, arith, Some, take, drop, replicate}
-use Rattle.std.specs.Prelude.{slice_get}
+use Rattle.std.proofs.Common.{cond, suc, zero, ◌≡◌, ◌≢◌, ◌∙◌, ◌<◌, ◌≤◌, ◌+◌, sym, refl, ap, subst, ℕ, List, [], ◌∷◌, ◌++◌, length, map, get_or, nat_eq, true, false, Bool, arith, take, drop}
+use Rattle.std.specs.Prelude.{Some, replicate, slice_get}
 use Rattle.std.specs.List.{sum, sum_by}
 use Rattle.std.proofs.Math.ListN.{set}
 use Rattle.std.proofs.Math.Seq.{take-suc, take-length, take-append_seam}
@@ -12,7 +12,7 @@ use Rattle.std.proofs.lemmas.Option.{slice_get_within, get_or_from_slice_get}
 use Rattle.mailbox.specs.declared.office.Office.{Office}
 use Rattle.mailbox.specs.declared.parcels.Due.{Due}
 use Rattle.mailbox.specs.declared.receiver.Letter.{Letter}
-use Rattle.mailbox.specs.Plans.{plan_numbers}
+use Rattle.mailbox.specs.Plans.{plan_numbers, IsDue}
 use Rattle.mailbox.specs.Offices.{marks}
 use Rattle.mailbox.specs.Posting.{IsNext, IsNotNext, AreThoseDue, texts_of, BringTexts}
 use Rattle.mailbox.specs.Causes.{IsItsTurn}
@@ -45,7 +45,7 @@ counted_none lists n = record {
 }
 
 -- counts of 0 are those of no letters
-pub counted_start : (lists : List (List (List ℕ))) (counts : List ℕ) (letters : List Letter) → counts ≡ replicate (length counts) 0 → letters ≡ [] → AreCounted lists counts letters
+counted_start : (lists : List (List (List ℕ))) (counts : List ℕ) (letters : List Letter) → counts ≡ replicate (length counts) 0 → letters ≡ [] → AreCounted lists counts letters
 counted_start lists counts letters zeros none =
     subst (λ ls. AreCounted lists counts ls) (sym none) (subst (λ cs. AreCounted lists cs []) (sym zeros) (counted_none lists (length counts)))
 
@@ -63,7 +63,7 @@ sum-set (m ∷ ms) (suc i) n short =
     let c : get_or (m ∷ ms) (suc i) 0 ≡ get_or ms i 0 = refl in
     omega (arith, h, a, b, c)
 
-pub length_set : (ns : List ℕ) (i n : ℕ) → length (set ns i n) ≡ length ns
+length_set : (ns : List ℕ) (i n : ℕ) → length (set ns i n) ≡ length ns
 length_set [] i n = refl
 length_set (m ∷ ms) zero n = refl
 length_set (m ∷ ms) (suc i) n = ap suc (length_set ms i n)
@@ -95,7 +95,7 @@ pub record AreNumbers (counts : List ℕ) (letters : List Letter) : Type 0 where
   pub each : (k : ℕ) → k < length counts → get_or counts k 0 ≡ length (texts_of (k + 1) letters)
 
 -- numbers of 0 are those of no letters
-pub numbers_start : (counts : List ℕ) (letters : List Letter) → counts ≡ replicate (length counts) 0 → letters ≡ [] → AreNumbers counts letters
+numbers_start : (counts : List ℕ) (letters : List Letter) → counts ≡ replicate (length counts) 0 → letters ≡ [] → AreNumbers counts letters
 numbers_start counts letters zeros none =
     let zero_at : (k : ℕ) → get_or counts k 0 ≡ 0 = λ k. ap (λ cs. get_or cs k 0) zeros ∙ at-zeros (length counts) k in
     record {
@@ -143,7 +143,7 @@ module _ (old : List ℕ) (letters : List Letter) (letter : Letter) (due : Due) 
       omega (arith, here, most, more)
 
   -- one more letter is counted
-  pub numbers_then : (counts : List ℕ) (all : List Letter) → counts ≡ new → all ≡ letters ++ letter ∷ [] → AreNumbers counts all
+  numbers_then : (counts : List ℕ) (all : List Letter) → counts ≡ new → all ≡ letters ++ letter ∷ [] → AreNumbers counts all
   numbers_then counts all same more =
       let len = ap length next.counted ∙ length_set old due.task (due.place + 1) in
       subst (λ ls. AreNumbers counts ls) (sym more) (subst (λ cs. AreNumbers cs (letters ++ letter ∷ [])) (sym same)
@@ -152,7 +152,8 @@ module _ (old : List ℕ) (letters : List Letter) (letter : Letter) (due : Due) 
         each = λ k short. number_at k (nat_eq k due.task) refl (omega (arith, short, len));
       }))
 
-module _ (lists : List (List (List ℕ))) (old : List ℕ) (letters : List Letter) (letter : Letter) (due : Due) (new : List ℕ) (was : AreCounted lists old letters) (next : IsNext old letter.from due new) (fits : slice_get (get_or lists due.task []) due.place ≡ Some letter.text.now) where
+module _ (lists : List (List (List ℕ))) (old : List ℕ) (letters : List Letter) (letter : Letter) (due : Due) (new : List ℕ) (was : AreCounted lists old letters)
+    (next : IsNext old letter.from due new) (fits : slice_get (get_or lists due.task []) due.place ≡ Some letter.text.now) where
   within : due.place < length (get_or lists due.task [])
   within = slice_get_within (get_or lists due.task []) due.place letter.text.now fits
 
@@ -206,7 +207,7 @@ module _ (lists : List (List (List ℕ))) (old : List ℕ) (letters : List Lette
       }
 
   -- these counts and letters are those
-  pub counted_then : (counts : List ℕ) (all : List Letter) → counts ≡ new → all ≡ letters ++ letter ∷ [] → AreCounted lists counts all
+  counted_then : (counts : List ℕ) (all : List Letter) → counts ≡ new → all ≡ letters ++ letter ∷ [] → AreCounted lists counts all
   counted_then counts all same more = subst (λ ls. AreCounted lists counts ls) (sym more) (subst (λ cs. AreCounted lists cs (letters ++ letter ∷ [])) (sym same) counted_more)
 
 sum_le : (ns : List ℕ) (lists : List (List (List ℕ))) → length ns ≡ length lists → ((k : ℕ) → k < length ns → get_or ns k 0 ≤ length (get_or lists k [])) → sum ns ≤ sum_by length lists
@@ -221,7 +222,8 @@ sum_le (n ∷ ns) (l ∷ ls) same few =
     omega (arith, one, others, a, b)
 
 -- numbers that are each at most a length, and are as many in all as the lengths, are the lengths
-sum_all : (ns : List ℕ) (lists : List (List (List ℕ))) → length ns ≡ length lists → ((k : ℕ) → k < length ns → get_or ns k 0 ≤ length (get_or lists k [])) → sum ns ≡ sum_by length lists → (k : ℕ) → k < length ns → get_or ns k 0 ≡ length (get_or lists k [])
+sum_all : (ns : List ℕ) (lists : List (List (List ℕ))) → length ns ≡ length lists → ((k : ℕ) → k < length ns → get_or ns k 0 ≤ length (get_or lists k []))
+    → sum ns ≡ sum_by length lists → (k : ℕ) → k < length ns → get_or ns k 0 ≡ length (get_or lists k [])
 sum_all [] [] same few all k short = absurd (omega (arith, short))
 sum_all [] (l ∷ ls) same few all k short = absurd (omega (arith, same))
 sum_all (n ∷ ns) [] same few all k short = absurd (omega (arith, same))
@@ -240,24 +242,58 @@ sum_all (n ∷ ns) (l ∷ ls) same few all (suc k) short =
     sum_all ns ls (omega (arith, same)) (λ j within. few (suc j) (omega (arith, within))) (omega (arith, one, others, all, a, b)) k (omega (arith, short))
 
 -- as many letters as are due are those that are due
-counted_all : (lists : List (List (List ℕ))) (counts : List ℕ) (letters : List Letter) → AreCounted lists counts letters → length counts ≡ length lists → length letters ≡ sum_by length lists → BringTexts lists letters
+counted_all : (lists : List (List (List ℕ))) (counts : List ℕ) (letters : List Letter) → AreCounted lists counts letters → length counts ≡ length lists
+    → length letters ≡ sum_by length lists → BringTexts lists letters
 counted_all lists counts letters h same all k short =
     let within : k < length counts = omega (arith, same, short) in
     let total = h.total in
     let full = sum_all counts lists same h.few (omega (arith, total, all)) k within in
     h.first k within ∙ ap (λ m. take m (get_or lists k [])) full ∙ take-length (get_or lists k [])
 
--- in an office letters that are counted for each sender are those that are due, where there are as many
-pub counted_those : {Q S : Type 0} (o : Office Q S) (counts : List ℕ) (letters : List Letter) (senders : ℕ) → length counts ≡ senders → ((lists : List (List (List ℕ))) → marks o ≡ plan_numbers lists → AreCounted lists counts letters) → AreThoseDue o senders letters
-counted_those o counts letters senders same counted lists plan many all =
-    counted_all lists counts letters (counted lists plan) (omega (arith, same, many)) all
-
 -- numbers that are written over as many are the list afterwards
-pub written_over : (n : ℕ) (new old : List ℕ) → n ≡ length new → take n (new ++ drop (length new) old) ≡ new
+written_over : (n : ℕ) (new old : List ℕ) → n ≡ length new → take n (new ++ drop (length new) old) ≡ new
 written_over n new old as_many = ap (λ m. take m (new ++ drop (length new) old)) as_many ∙ take-append_seam new (drop (length new) old)
 
--- a letter that isn't the next one of its task comes out of its turn
-pub out_of_turn : (counts : List ℕ) (letters : List Letter) (senders sender : ℕ) (due : Due) → AreNumbers counts letters → length counts ≡ senders → IsNotNext counts sender due → IsItsTurn senders letters sender due → ⊥
-out_of_turn counts letters senders sender due numbers same not turn =
-    let within : due.task < length counts = let w = turn.within in omega (arith, w, same) in
-    not turn.from within (numbers.each due.task within ∙ ap (λ s. length (texts_of s letters)) (sym turn.from) ∙ turn.place)
+-- letters that are counted are those that are due, where as many are
+those_due : {Q S : Type 0} (o : Office Q S) (counts : List ℕ) (letters : List Letter) (senders : ℕ) → length counts ≡ senders
+    → ((lists : List (List (List ℕ))) → marks o ≡ plan_numbers lists → AreCounted lists counts letters) → AreThoseDue o senders letters
+those_due o counts letters senders same counted lists plan many all =
+    counted_all lists counts letters (counted lists plan) (omega (arith, same, many)) all
+
+-- in an office of so many senders these letters are counted: for each task as many as are there, the first that are due
+pub record AreCountedIn {Q S : Type 0} (o : Office Q S) (senders : ℕ) (counts : List ℕ) (letters : List Letter) : Type 0 where
+  pub as_many : length counts ≡ senders
+  pub counted : (lists : List (List (List ℕ))) → marks o ≡ plan_numbers lists → AreCounted lists counts letters
+  pub numbers : AreNumbers counts letters
+  pub those : AreThoseDue o senders letters
+
+module _ {Q S : Type 0} (o : Office Q S) (senders : ℕ) (counts : List ℕ) (letters : List Letter) where
+  -- none is at first
+  pub counted_in-none : length counts ≡ senders → counts ≡ replicate (length counts) 0 → letters ≡ [] → AreCountedIn o senders counts letters
+  counted_in-none same zeros none =
+      let counted = λ (lists : List (List (List ℕ))) (plan : marks o ≡ plan_numbers lists). counted_start lists counts letters zeros none in
+      record { as_many = same; counted = counted; numbers = numbers_start counts letters zeros none; those = those_due o counts letters senders same counted }
+
+  module _ (so_far : AreCountedIn o senders counts letters) where
+    -- one more is, the next one of its task, where its text is due
+    pub counted_in-then : (letter : Letter) (due : Due) (new : List ℕ) (n : ℕ) (all : List Letter) → n ≡ length counts → IsNext counts letter.from due new
+        → IsDue (marks o) due letter.text.now → all ≡ letters ++ letter ∷ [] → AreCountedIn o senders (take n (new ++ drop (length new) counts)) all
+    counted_in-then letter due new n all whole next fits more =
+        let len : length new ≡ length counts = ap length next.counted ∙ length_set counts due.task (due.place + 1) in
+        let same = written_over n new counts (whole ∙ sym len) in
+        let after = take n (new ++ drop (length new) counts) in
+        let many : length after ≡ senders = ap length same ∙ len ∙ so_far.as_many in
+        let counted : (lists : List (List (List ℕ))) → marks o ≡ plan_numbers lists → AreCounted lists after all = λ lists plan.
+        counted_then lists counts letters letter due new (so_far.counted lists plan) next (fits lists plan) after all same more in
+        record {
+          as_many = many;
+          counted = counted;
+          numbers = numbers_then counts letters letter due new so_far.numbers next after all same more;
+          those = those_due o after all senders many counted;
+        }
+
+    -- a letter that isn't the next one of its task comes out of its turn
+    pub counted_in-out_of_turn : (sender : ℕ) (due : Due) → IsNotNext counts sender due → IsItsTurn senders letters sender due → ⊥
+    counted_in-out_of_turn sender due not turn =
+        let within : due.task < length counts = omega (arith, turn.within, so_far.as_many) in
+        not turn.from within (so_far.numbers.each due.task within ∙ ap (λ s. length (texts_of s letters)) (sym turn.from) ∙ turn.place)

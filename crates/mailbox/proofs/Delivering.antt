@@ -28,7 +28,8 @@ module _ {Q S : Type 0} (known : S → Known) (r : Receiver Q S) where
       record { values = h.values; popped_them = ap popped same ∙ h.popped_them; senders = h.senders }
 
   -- letters, and then one more
-  pub delivered-then_letter : (office : Office Q S) (letters : List Letter) (letter : Letter) (a b : Receiver Q S) → Delivered known r letters a → RecvAnswers known office a (Some letter) b → Delivered known r (letters ++ letter ∷ []) b
+  pub delivered-then_letter : (office : Office Q S) (letters : List Letter) (letter : Letter) (a b : Receiver Q S) → Delivered known r letters a
+      → RecvAnswers known office a (Some letter) b → Delivered known r (letters ++ letter ∷ []) b
   delivered-then_letter office letters letter a b h g =
       record {
         values = h.values ++ g.value ∷ [];

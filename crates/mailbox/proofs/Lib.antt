@@ -6,4 +6,6 @@ pub mod Openings
 pub mod Delivering
 pub mod Telling
 pub mod Unsent
+pub mod Sending
+pub mod Starting
 pub mod Stopping

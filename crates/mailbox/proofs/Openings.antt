@@ -15,7 +15,8 @@ all_before-map P f xs all k d short =
 
 module _ {Q S : Type 0} (is_seat : Q → S → Type 0) (permits : Q → List Permit) (known : S → Known) (o : Office Q S) where
   -- senders whose seats may send are senders of the office over that queue
-  pub senders_of-seats : (queue : Q) → queue_in o ≡ queue → (seats : List S) (ss : List (Sender Q S)) → map (λ s. s.seat) ss ≡ seats → All (CanSend is_seat permits known queue) seats → All (IsSender is_seat permits known o) ss
+  pub senders_of-seats : (queue : Q) → queue_in o ≡ queue → (seats : List S) (ss : List (Sender Q S)) → map (λ s. s.seat) ss ≡ seats
+      → All (CanSend is_seat permits known queue) seats → All (IsSender is_seat permits known o) ss
   senders_of-seats queue its seats ss same all k d short =
       let here = subst (λ q. All (CanSend is_seat permits known q) seats) (sym its) all in
       let can = all_before-map (CanSend is_seat permits known (queue_in o)) (λ s. s.seat) ss (subst (All (CanSend is_seat permits known (queue_in o))) (sym same) here) k d short in

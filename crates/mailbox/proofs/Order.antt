@@ -24,6 +24,7 @@ pub in_order-after : (permits : List Permit) (k k' : Known) → k'.number ≡ k.
 in_order-after permits k k' same only sound = in_order permits k' sound (λ n may. only n may ∙ sym same)
 
 -- the same after a call, and what then left the seat as it was
-pub in_order-then : {S : Type 0} (known : S → Known) (permits : List Permit) (s s' s'' : S) → s'' ≡ s' → (known s').number ≡ (known s).number → OnlyPops permits (known s).number → IsSound permits (known s') → InOrder (known s'')
+pub in_order-then : {S : Type 0} (known : S → Known) (permits : List Permit) (s s' s'' : S) → s'' ≡ s' → (known s').number ≡ (known s).number
+    → OnlyPops permits (known s).number → IsSound permits (known s') → InOrder (known s'')
 in_order-then known permits s s' s'' kept same only sound =
     subst (λ t. InOrder (known t)) (sym kept) (in_order-after permits (known s) (known s') same only sound)

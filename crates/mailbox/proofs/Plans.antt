@@ -9,15 +9,17 @@ use Rattle.history.specs.Seats.{Permit, Known, MayPush, MayPop}
 use Rattle.history.specs.Values.{OnlyPops}
 use Rattle.blocking_queue.specs.Queues.{queue_of}
 use Rattle.mailbox.specs.declared.office.Office.{Office}
+use Rattle.mailbox.specs.declared.receiver.Letter.{Letter}
 use Rattle.mailbox.specs.declared.receiver.Receiver.{Receiver}
 use Rattle.mailbox.specs.declared.posting.Task.{Task}
 use Rattle.mailbox.specs.Plans.{plan_numbers, IsDue, AreDue}
 use Rattle.mailbox.specs.Offices.{IsReceiver, queue_in}
-use Rattle.mailbox.specs.Posting.{IsTask, HasQueueOf, texts_in, letters_of}
+use Rattle.mailbox.specs.Posting.{AreThoseDue, BringTexts, IsTask, HasQueueOf, Plans, texts_in, letters_of}
 use Rattle.mailbox.proofs.Codes.{plan-same}
 
 -- a prefix of the texts due, and the rest
-pub due_first : {Z : Type 0} (numbers : List ℕ) (task place : ℕ) (text : String Z) (texts : List (String Z)) → AreDue numbers task place (text ∷ texts) → IsDue numbers (record { task = task; place = place }) (string_bytes text)
+pub due_first : {Z : Type 0} (numbers : List ℕ) (task place : ℕ) (text : String Z) (texts : List (String Z)) → AreDue numbers task place (text ∷ texts)
+    → IsDue numbers (record { task = task; place = place }) (string_bytes text)
 due_first numbers task place text texts due lists same =
     subst (λ p. slice_get (get_or lists task []) p ≡ Some (string_bytes text)) (omega arith) (due 0 (string_bytes text) refl lists same)
 
@@ -31,7 +33,8 @@ AreDueFrom numbers number [] = ⊤
 AreDueFrom numbers number (t ∷ ts) = AreDue numbers number 0 t.texts.items × AreDueFrom numbers (number + 1) ts
 
 -- texts that stand at these places are due
-due_from : {Q S : Type 0} (numbers : List ℕ) (all : List (List (List ℕ))) (number : ℕ) (tasks : List (Task Q S)) → numbers ≡ plan_numbers all → ((k : ℕ) → k < length tasks → get_or all (number + k) [] ≡ get_or (map texts_in tasks) k []) → AreDueFrom numbers number tasks
+due_from : {Q S : Type 0} (numbers : List ℕ) (all : List (List (List ℕ))) (number : ℕ) (tasks : List (Task Q S)) → numbers ≡ plan_numbers all
+    → ((k : ℕ) → k < length tasks → get_or all (number + k) [] ≡ get_or (map texts_in tasks) k []) → AreDueFrom numbers number tasks
 due_from numbers all number [] plan there = tt
 due_from {Q} {S} numbers all number (t ∷ ts) plan there =
     let at_first : number ≡ number + 0 = omega arith in
@@ -49,7 +52,8 @@ due_of-plan numbers tasks plan =
     due_from numbers (map texts_in tasks) 0 tasks plan (λ k short. let at : 0 + k ≡ k = omega arith in ap (λ n. get_or (map texts_in tasks) n []) at)
 
 -- the first of some tasks, and those after it
-module _ {Q S : Type 0} (P : Task Q S → Type 0) (numbers : List ℕ) (number : ℕ) (all : List (Task Q S)) (task : Task Q S) (rest : List (Task Q S)) (split : all ≡ task ∷ rest) (each : All P all) (due : AreDueFrom numbers number all) where
+module _ {Q S : Type 0} (P : Task Q S → Type 0) (numbers : List ℕ) (number : ℕ) (all : List (Task Q S)) (task : Task Q S) (rest : List (Task Q S))
+    (split : all ≡ task ∷ rest) (each : All P all) (due : AreDueFrom numbers number all) where
   pub first_task : P task
   first_task = All-head P task rest (subst (All P) split each)
 
@@ -94,3 +98,8 @@ letters_of-lengths {Q} {S} (t ∷ ts) =
     let b : letters_of (t ∷ ts) ≡ vec_len t.texts + letters_of ts = sum_by-cons (λ (x : Task Q S). vec_len x.texts) t ts in
     let c = t.texts.ok in
     omega (arith, one, others, a, b, c)
+
+-- as many letters as tasks have to send, which are those that are due, bring the texts of the tasks
+pub due_of-tasks : {Q S : Type 0} (o : Office Q S) (tasks : List (Task Q S)) (letters : List Letter) (senders : ℕ) → AreThoseDue o senders letters → Plans o tasks
+    → length tasks ≡ senders → length letters ≡ letters_of tasks → BringTexts (map texts_in tasks) letters
+due_of-tasks o tasks letters senders those plan same many = those (map texts_in tasks) plan (length-map tasks texts_in ∙ same) (many ∙ sym (letters_of-lengths tasks))

@@ -1,6 +1,6 @@
 -- Letters that were taken, and then none, or a refusal.
 use Rattle.std.proofs.Common.{◌≡◌, ◌≢◌, refl, subst, inl, inr, ℕ, List}
-use Rattle.std.specs.Prelude.{Option, IfSome}
+use Rattle.std.specs.Prelude.{Option, Some, IfSome}
 use Rattle.history.specs.declared.refusals.Refusal.{Refusal}
 use Rattle.history.specs.declared.refusals.Refusal.TheVariants.{Closed, Lost}
 use Rattle.history.specs.Seats.{Known}
@@ -10,7 +10,7 @@ use Rattle.mailbox.specs.declared.office.Office.{Office}
 use Rattle.mailbox.specs.declared.parcels.Due.{Due}
 use Rattle.mailbox.specs.declared.receiver.Letter.{Letter}
 use Rattle.mailbox.specs.declared.receiver.Receiver.{Receiver}
-use Rattle.mailbox.specs.Offices.{TookText, TookNothing, Loses, LastIs, WaitedInVain}
+use Rattle.mailbox.specs.Offices.{TookText, TookNothing, Loses, LastIs, RecvAnswers, WaitedInVain}
 use Rattle.mailbox.specs.Posting.{Delivered}
 use Rattle.mailbox.specs.Causes.{IsItsTurn, TookAllThere, TookUntil}
 
@@ -28,14 +28,16 @@ module _ {Q S : Type 0} (known : S → Known) (r : Receiver Q S) (letters : List
 
   module _ (o : Office Q S) (senders : ℕ) where
     -- a take was refused
-    pub until_refused : (refusal : Refusal) → (refusal ≢ Lost → TookNothing RecvRefused known last refusal r') → (refusal ≡ Lost → Loses Received known last r') → TookUntil known o senders r refusal r'
+    pub until_refused : (refusal : Refusal) → (refusal ≢ Lost → TookNothing RecvRefused known last refusal r') → (refusal ≡ Lost → Loses Received known last r')
+        → TookUntil known o senders r refusal r'
     until_refused refusal nothing lost =
         record { letters = letters; last = last; delivered = taken; stops = record { nothing = nothing; lost = λ is. inl (lost is) } }
 
     -- a letter was taken out of its turn
-    pub until_out_of_turn : (letter : Letter) (due : Option Due) → TookText Received known o last letter.from letter.text.now r' → LastIs r' due → IfSome due (λ d. IsItsTurn senders letters letter.from d → ⊥)
-        → TookUntil known o senders r Lost r'
-    until_out_of_turn letter due took is out =
+    pub until_out_of_turn : (answer : Option Letter) (letter : Letter) (due : Option Due) → answer ≡ Some letter → RecvAnswers known o last answer r' → LastIs r' due
+        → IfSome due (λ d. IsItsTurn senders letters letter.from d → ⊥) → TookUntil known o senders r Lost r'
+    until_out_of_turn answer letter due some answers is out =
+        let took : TookText Received known o last letter.from letter.text.now r' = subst (λ a. RecvAnswers known o last a r') some answers in
         record {
           letters = letters;
           last = last;

@@ -70,7 +70,8 @@ module _ {Q S : Type 0} (is_seat : Q → S → Type 0) (known : S → Known) (ca
   tell_one thread end told ends is = record { ends = end ∷ []; each = (ends, tt); first = is }
 
   -- of threads that told nothing and others
-  pub tell_then : (done more : List (Started Q S)) (told : Option Refusal) → TellFirst is_seat known cause done None → TellFirst is_seat known cause more told → TellFirst is_seat known cause (done ++ more) told
+  pub tell_then : (done more : List (Started Q S)) (told : Option Refusal) → TellFirst is_seat known cause done None → TellFirst is_seat known cause more told
+      → TellFirst is_seat known cause (done ++ more) told
   tell_then done more told h k = record {
     ends = h.ends ++ k.ends;
     each = zip_append (Ends is_seat known cause) done more h.ends k.ends h.each k.each;
@@ -78,7 +79,8 @@ module _ {Q S : Type 0} (is_seat : Q → S → Type 0) (known : S → Known) (ca
   }
 
   -- of threads that told a refusal and others
-  pub tell_still : (done more : List (Started Q S)) (refusal : Refusal) (told : Option Refusal) → TellFirst is_seat known cause done (Some refusal) → TellFirst is_seat known cause more told → TellFirst is_seat known cause (done ++ more) (Some refusal)
+  pub tell_still : (done more : List (Started Q S)) (refusal : Refusal) (told : Option Refusal) → TellFirst is_seat known cause done (Some refusal)
+      → TellFirst is_seat known cause more told → TellFirst is_seat known cause (done ++ more) (Some refusal)
   tell_still done more refusal told h k = record {
     ends = h.ends ++ k.ends;
     each = zip_append (Ends is_seat known cause) done more h.ends k.ends h.each k.each;
@@ -86,11 +88,13 @@ module _ {Q S : Type 0} (is_seat : Q → S → Type 0) (known : S → Known) (ca
   }
 
   -- where nothing was told so far, what the next threads tell is told; else what was
-  pub tell_next : (done more : List (Started Q S)) (first told : Option Refusal) → is_some first ≡ false → TellFirst is_seat known cause done first → TellFirst is_seat known cause more told → TellFirst is_seat known cause (done ++ more) told
+  pub tell_next : (done more : List (Started Q S)) (first told : Option Refusal) → is_some first ≡ false → TellFirst is_seat known cause done first
+      → TellFirst is_seat known cause more told → TellFirst is_seat known cause (done ++ more) told
   tell_next done more None told none h k = tell_then done more told h k
   tell_next done more (Some refusal) told none h k = absurd (true≢false none)
 
-  pub tell_before : (done more : List (Started Q S)) (first told : Option Refusal) → is_some first ≡ true → TellFirst is_seat known cause done first → TellFirst is_seat known cause more told → TellFirst is_seat known cause (done ++ more) first
+  pub tell_before : (done more : List (Started Q S)) (first told : Option Refusal) → is_some first ≡ true → TellFirst is_seat known cause done first
+      → TellFirst is_seat known cause more told → TellFirst is_seat known cause (done ++ more) first
   tell_before done more None told some h k = absurd (false≢true some)
   tell_before done more (Some refusal) told some h k = tell_still done more refusal told h k
 
@@ -116,7 +120,8 @@ module _ {Q S : Type 0} (is_seat : Q → S → Type 0) (known : S → Known) (ca
     all_end (x ∷ xs) (t ∷ ts) (e ∷ es) h k = (ends_so x t e h.0 k.0, all_end xs ts es h.1 k.1)
 
     -- letters are missing, and what is told is what the first thread told, or that letters are lost
-    pub missing : (tasks : List (Task Q S)) (threads : List (Started Q S)) (letters : List Letter) (r r' : Receiver Q S) (told : Option Refusal) → AllZip (IsStartedFor is_seat permits known cause o) tasks threads
+    pub missing : (tasks : List (Task Q S)) (threads : List (Started Q S)) (letters : List Letter) (r r' : Receiver Q S) (told : Option Refusal)
+        → AllZip (IsStartedFor is_seat permits known cause o) tasks threads
         → TellFirst is_seat known cause threads told → TookAllThere known r letters r' → length letters < letters_of tasks → AreMissing is_seat known cause o tasks r (unwrap_or told Lost) r'
     unfolding Starts
     missing tasks threads letters r r' None started first taken fewer = record {

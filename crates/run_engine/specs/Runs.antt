@@ -8,7 +8,7 @@ use Rattle.history.specs.declared.refusals.Refusal.{Refusal}
 use Rattle.history.specs.declared.refusals.Refusal.TheVariants.{BadSize, IdleActor, NotHere, NoSuchActor, Text, Write}
 use Rattle.line_table.specs.declared.lines.Line.{Line}
 use Rattle.text_lines.specs.Grammars.{IsFirstFault}
-use Rattle.text_lines.specs.declared.causes.TextCause.{TextCause}
+use Rattle.history.specs.declared.text_causes.TextCause.{TextCause}
 use Rattle.step_machine.specs.declared.actors.Move.{Move}
 use Rattle.step_machine.specs.declared.actors.Move.TheVariants.{Step}
 use Rattle.step_machine.specs.Calls.{setup_from, line_of, BeginRefused, StepRefused, GiveRefused, IsBusy, IsIdle, IsSpent}

@@ -10,9 +10,11 @@ use Rattle.mail_engine.proofs.opening.mail_ring.Goals as goal
 
 pub returns-clause-opened : goal.returns-clause-opened
 returns-clause-opened c =
-    let row : permits_in c.in_ok-queue.queue ≡ givers_and_taker c.args.senders = c.in_ok-queue.ensures.permits ∙ ap permits_by (c.deref.ensures.value ∙ c.in_ok-roles.ensures.roles) ∙ permits_by-ring c.args.senders in
+    let row : permits_in c.in_ok-queue.queue ≡ givers_and_taker c.args.senders =
+    c.in_ok-queue.ensures.permits ∙ ap permits_by (c.deref.ensures.value ∙ c.in_ok-roles.ensures.roles) ∙ permits_by-ring c.args.senders in
     let whole : c.in_ok-queue.seats.items ≡ c.pop.new.self.items ++ c.in-Some.receiver ∷ [] = grind (arith, common_steps) in
-    opened IsQueueSeat permits_in known_of c.args.senders c.in_ok-queue.queue c.in_ok-queue.seats.items c.pop.new.self.items c.in-Some.receiver row whole c.in_ok-queue.ensures.unused c.in_ok-queue.ensures.seats
+    opened IsQueueSeat permits_in known_of c.args.senders c.in_ok-queue.queue c.in_ok-queue.seats.items c.pop.new.self.items c.in-Some.receiver
+    row whole c.in_ok-queue.ensures.unused c.in_ok-queue.ensures.seats
 
 pub returns-clause-made : goal.returns-clause-made
 returns-clause-made c =

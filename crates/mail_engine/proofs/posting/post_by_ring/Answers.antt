@@ -13,6 +13,8 @@ returns-clause-carried g c =
     let all = c.in_ok-ring.seats.items ++ c.in_ok-ring.receiver ∷ [] in
     IfOk-both c.post_over.result _ _ _ (λ r over by. record {
       seats = all;
-      made = subst (λ q. IsMailRing (letters + c.args.mail.senders + 2) c.args.mail.senders q all) (sym over) (subst (λ n. IsMailRing n c.args.mail.senders c.in_ok-ring.ring all) values c.in_ok-ring.ensures.made);
+      made =
+          subst (λ q. IsMailRing (letters + c.args.mail.senders + 2) c.args.mail.senders q all) (sym over)
+          (subst (λ n. IsMailRing n c.args.mail.senders c.in_ok-ring.ring all) values c.in_ok-ring.ensures.made);
       carried = by;
     }) c.post_over.ensures.over c.post_over.ensures.carried

@@ -11,6 +11,8 @@ loop-sender-preserved g c =
     let items = c.in-Ok.ensures.items in
     record {
       senders = grind (arith, common_steps);
-      none = subst (All (λ t. t.texts.items ≡ [])) (sym items) (All-append (λ t. t.texts.items ≡ []) c.loop-sender.tasks.items _ was.none (All-cons (λ t. t.texts.items ≡ []) _ [] (search rules) (All-nil (λ t. t.texts.items ≡ []))));
+      none =
+          subst (All (λ t. t.texts.items ≡ [])) (sym items)
+          (All-append (λ t. t.texts.items ≡ []) c.loop-sender.tasks.items _ was.none (All-cons (λ t. t.texts.items ≡ []) _ [] (search rules) (All-nil (λ t. t.texts.items ≡ []))));
       few = grind (arith, common_steps);
     }

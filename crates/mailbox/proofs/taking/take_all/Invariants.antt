@@ -1,9 +1,8 @@
-use Rattle.std.specs.Prelude.{◌≡◌, ◌≤◌, ℕ, List, length, vec_capacity}
+use Rattle.std.specs.Prelude.{◌≤◌, length, vec_capacity}
 use Rattle.mailbox.specs.Deliveries.{InOrder}
-use Rattle.mailbox.specs.Plans.{plan_numbers}
-use Rattle.mailbox.specs.Offices.{IsReceiver, marks}
+use Rattle.mailbox.specs.Offices.{IsReceiver}
 use Rattle.mailbox.specs.Posting.{Delivered}
-use Rattle.mailbox.proofs.Counting.{AreCounted, AreNumbers}
+use Rattle.mailbox.proofs.Counting.{AreCountedIn}
 use Rattle.mailbox.proofs.taking.take_all.Given as goal
 
 abbrev pub invariant-loop : goal.invariant-loop
@@ -14,8 +13,6 @@ invariant-loop g l = record {
   room : l.fn.due ≤ vec_capacity l.letters;
   most : length l.letters.items ≤ l.fn.due;
   delivered : Delivered g.Q.Fifo.known l.fn.receiver l.letters.items l.receiver;
-  senders : length l.counts.items ≡ length l.fn.counts.items;
-  counted : (lists : List (List (List ℕ))) → marks l.fn.office ≡ plan_numbers lists → AreCounted lists l.counts.items l.letters.items;
-  numbers : AreNumbers l.counts.items l.letters.items;
+  counted : AreCountedIn l.fn.office (length l.fn.counts.items) l.counts.items l.letters.items;
   order : InOrder (g.Q.Fifo.known l.receiver.seat);
 }

@@ -8,7 +8,8 @@ pub returns-in_err-value-clause-order : goal.returns-in_err-value-clause-order
 returns-in_err-value-clause-order g c = in_order-after _ (g.Q.Fifo.known c.args.self.now.seat) _ c.recv.ensures.number c.requires.office.only (g.met.Q.Fifo.sound _ _ c.recv.ensures.seat)
 
 pub returns-in_err-letter-clause-order : goal.returns-in_err-letter-clause-order
-returns-in_err-letter-clause-order g c = in_order-then g.Q.Fifo.known _ c.args.self.now.seat _ _ c.open.ensures.seat c.recv.ensures.number c.requires.office.only (g.met.Q.Fifo.sound _ _ c.recv.ensures.seat)
+returns-in_err-letter-clause-order g c =
+    in_order-then g.Q.Fifo.known _ c.args.self.now.seat _ _ c.open.ensures.seat c.recv.ensures.number c.requires.office.only (g.met.Q.Fifo.sound _ _ c.recv.ensures.seat)
 
 pub returns-clause-order : goal.returns-clause-order
 returns-clause-order g c = in_order-then g.Q.Fifo.known _ c.args.self.now.seat _ _ c.open.ensures.seat c.recv.ensures.number c.requires.office.only (g.met.Q.Fifo.sound _ _ c.recv.ensures.seat)

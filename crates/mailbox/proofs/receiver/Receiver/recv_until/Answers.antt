@@ -8,10 +8,12 @@ pub returns-in_err-value-clause-order : goal.returns-in_err-value-clause-order
 returns-in_err-value-clause-order g c = in_order-after _ (g.Q.Fifo.known c.args.self.now.seat) _ c.recv_until.ensures.number c.requires.office.only (g.met.Q.Fifo.sound _ _ c.recv_until.ensures.seat)
 
 pub returns-in_err-open-in-Done-clause-order : goal.returns-in_err-open-in-Done-clause-order
-returns-in_err-open-in-Done-clause-order g c = in_order-then g.Q.Fifo.known _ c.args.self.now.seat _ _ c.open.ensures.seat c.recv_until.ensures.number c.requires.office.only (g.met.Q.Fifo.sound _ _ c.recv_until.ensures.seat)
+returns-in_err-open-in-Done-clause-order g c =
+    in_order-then g.Q.Fifo.known _ c.args.self.now.seat _ _ c.open.ensures.seat c.recv_until.ensures.number c.requires.office.only (g.met.Q.Fifo.sound _ _ c.recv_until.ensures.seat)
 
 pub returns-in-Done-clause-order : goal.returns-in-Done-clause-order
-returns-in-Done-clause-order g c = in_order-then g.Q.Fifo.known _ c.args.self.now.seat _ _ c.open.ensures.seat c.recv_until.ensures.number c.requires.office.only (g.met.Q.Fifo.sound _ _ c.recv_until.ensures.seat)
+returns-in-Done-clause-order g c =
+    in_order-then g.Q.Fifo.known _ c.args.self.now.seat _ _ c.open.ensures.seat c.recv_until.ensures.number c.requires.office.only (g.met.Q.Fifo.sound _ _ c.recv_until.ensures.seat)
 
 pub returns-clause-order : goal.returns-clause-order
 returns-clause-order g c = in_order-after _ (g.Q.Fifo.known c.args.self.now.seat) _ c.recv_until.ensures.number c.requires.office.only (g.met.Q.Fifo.sound _ _ c.recv_until.ensures.seat)

@@ -11,7 +11,8 @@ pub returns-in_default-clause-order : goal.returns-in_default-clause-order
 returns-in_default-clause-order g c = in_order-after _ (g.Q.Fifo.known c.args.self.now.seat) _ c.pop.ensures.number c.requires.office.only (g.met.Q.Fifo.sound _ _ c.pop.ensures.seat)
 
 pub returns-in_err-letter-clause-order : goal.returns-in_err-letter-clause-order
-returns-in_err-letter-clause-order g c = in_order-then g.Q.Fifo.known _ c.args.self.now.seat _ _ c.open.ensures.seat c.pop.ensures.number c.requires.office.only (g.met.Q.Fifo.sound _ _ c.pop.ensures.seat)
+returns-in_err-letter-clause-order g c =
+    in_order-then g.Q.Fifo.known _ c.args.self.now.seat _ _ c.open.ensures.seat c.pop.ensures.number c.requires.office.only (g.met.Q.Fifo.sound _ _ c.pop.ensures.seat)
 
 pub returns-clause-order : goal.returns-clause-order
 returns-clause-order g c = in_order-then g.Q.Fifo.known _ c.args.self.now.seat _ _ c.open.ensures.seat c.pop.ensures.number c.requires.office.only (g.met.Q.Fifo.sound _ _ c.pop.ensures.seat)
