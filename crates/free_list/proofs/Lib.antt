@@ -1,5 +1,5 @@
 pub mod Steps
+pub mod Ways
 pub mod Standing
-pub mod Turning
 pub mod TakeTurns
 pub mod GiveBack

@@ -1,8 +1,9 @@
 -- The bounds of what the lines write, and the numbers that they find.
 use Rattle.std.proofs.Common.{◌≡◌, ℕ, ◌+◌, ◌^◌, ◌<◌, ◌≤◌, ap, arith}
 use Rattle.std.specs.Coded.{le_prop}
-use Rattle.counted_ref.specs.Ref.{Ref, ref_of, reserved_node, count_bits}
-use Rattle.line_table.specs.declared.lines.Line.TheVariants.{N1, N2, N3, N4, N5, F1, F2, F3}
+use Rattle.counted_ref.specs.Ref.{Ref, ref_of, ref_word, reserved_node, count_bits}
+use Rattle.line_table.specs.declared.lines.Line.{Line}
+use Rattle.line_table.specs.declared.lines.Line.TheVariants.{N1, N3, N4, N5, F2, F3}
 use Rattle.node_arena.specs.Machine.{Setup, node_at, WordFree, WordNext}
 use Rattle.node_arena.specs.Prologues.{Prologue, continues, after_prologue}
 use Rattle.node_arena.specs.Arenas.{Arena}
@@ -43,18 +44,11 @@ module _ {T : Type 0} (r : Arena) (s t : Seat T) (prologue : Prologue) (n : ℕ)
   pub taken_small : DidStep r s t prologue N5 n → n ≤ r.plan.setup.size
   taken_small d = let h = (was_in_range r.plan prologue N5 n (view s) (view t) d.told).shared.fresh in let e = d.told.found in let z = ap (λ z. z.size) d.told.setup in omega arith
 
-  -- the references found at the lines that read one
-  pub ref_n2 : (d : DidStep r s t prologue N2 n) → ref_of r.plan.setup.bits n ≡ d.told.was.world.shared.free
-  ref_n2 d = read_back r.plan.setup.bits d.told.sized.split d.told.was.world.shared.free n (was_fits r.plan prologue N2 n (view s) (view t) d.told WordFree) d.told.found
+  -- the references found at the lines that read one: Free, and what follows its first node
+  pub ref_free : (l : Line) (d : DidStep r s t prologue l n) → n ≡ ref_word r.plan.setup.bits d.told.was.world.shared.free → ref_of r.plan.setup.bits n ≡ d.told.was.world.shared.free
+  ref_free l d e = read_back r.plan.setup.bits d.told.sized.split d.told.was.world.shared.free n (was_fits r.plan prologue l n (view s) (view t) d.told WordFree) e
 
   pub ref_n3 : (d : DidStep r s t prologue N3 n) → ref_of r.plan.setup.bits n ≡ (node_at d.told.was.world.shared (after_prologue r.plan.setup (view s).number prologue (view s).actor).top.node).next
-  ref_n3 d = read_back r.plan.setup.bits d.told.sized.split (node_at d.told.was.world.shared (after_prologue r.plan.setup (view s).number prologue (view s).actor).top.node).next n (was_fits r.plan prologue N3 n (view s) (view t) d.told (WordNext (after_prologue r.plan.setup (view s).number prologue (view s).actor).top.node)) d.told.found
-
-  pub ref_n4 : (d : DidStep r s t prologue N4 n) → ref_of r.plan.setup.bits n ≡ d.told.was.world.shared.free
-  ref_n4 d = read_back r.plan.setup.bits d.told.sized.split d.told.was.world.shared.free n (was_fits r.plan prologue N4 n (view s) (view t) d.told WordFree) d.told.found
-
-  pub ref_f1 : (d : DidStep r s t prologue F1 n) → ref_of r.plan.setup.bits n ≡ d.told.was.world.shared.free
-  ref_f1 d = read_back r.plan.setup.bits d.told.sized.split d.told.was.world.shared.free n (was_fits r.plan prologue F1 n (view s) (view t) d.told WordFree) d.told.found
-
-  pub ref_f3 : (d : DidStep r s t prologue F3 n) → ref_of r.plan.setup.bits n ≡ d.told.was.world.shared.free
-  ref_f3 d = read_back r.plan.setup.bits d.told.sized.split d.told.was.world.shared.free n (was_fits r.plan prologue F3 n (view s) (view t) d.told WordFree) d.told.found
+  ref_n3 d =
+      let top = (after_prologue r.plan.setup (view s).number prologue (view s).actor).top.node in
+      read_back r.plan.setup.bits d.told.sized.split (node_at d.told.was.world.shared top).next n (was_fits r.plan prologue N3 n (view s) (view t) d.told (WordNext top)) d.told.found

@@ -1,5 +1,6 @@
 -- What a turn of a give back leads to, and what a give back answers.
-use Rattle.std.specs.Prelude.{◌≡◌, ℕ, ◌<◌, ◌≤◌, ◌⊎◌, List, Some, None, Result, MatchResult, IfSome, IfErr, OnOk}
+use Rattle.std.specs.Prelude.{◌≡◌, ℕ, ◌+◌, ◌<◌, ◌≤◌, ◌⊎◌, List, Some, None, Result, MatchResult, IfSome, IfErr, OnOk}
+use Rattle.line_table.specs.declared.lines.Line.TheVariants.{F2}
 use Rattle.history.specs.declared.refusals.Refusal.{Refusal}
 use Rattle.history.specs.declared.refusals.Refusal.TheVariants.{Busy}
 use Rattle.node_arena.specs.Machine.{Held, World, IsFree, IsSetAside, dequeues}
@@ -7,52 +8,59 @@ use Rattle.node_arena.specs.Traces.{Event}
 use Rattle.node_arena.specs.Prologues.{continues}
 use Rattle.node_arena.specs.Arenas.{Arena}
 use Rattle.node_arena.specs.declared.seats.Seat.{Seat}
-use Rattle.node_arena.specs.Seats.{IsSeat, IsReady, KeepsStored, KeepsName, KeepsSlots, view, pocket_of, failed_of}
+use Rattle.node_arena.specs.Seats.{IsSeat, IsReady, KeepsName, KeepsSlots, view, pocket_of, failed_of}
 use Rattle.node_arena.specs.Turns.{failed_turns}
-use Rattle.node_arena.specs.Paths.{Passes, HadNoEffect, SeesNoMore, added, FailedAt, NowHolds, EndsFailed}
+use Rattle.node_arena.specs.Paths.{HadNoEffect, SeesNoMore, added, FailedAt, NowHolds, EndsFailed}
+use Rattle.arena_lines.specs.declared.outcomes.Outcome.{Outcome}
+use Rattle.arena_lines.specs.declared.outcomes.Outcome.TheVariants.{Goes, Ends}
+use Rattle.free_list.specs.Running.{Running}
 use Rattle.free_list.specs.declared.outcomes.Gave.{Gave}
 use Rattle.free_list.specs.declared.outcomes.Gave.TheVariants.{Back, Again}
-use Rattle.free_list.specs.Runs.{StartsGive, giving}
+use Rattle.free_list.specs.Runs.{in_hand, StartsGive, giving, Way, GoesTo}
 
 -- a node is free, or set aside where Free's count is at the limit
 abbrev pub IsBack : ℕ → World → Type 0
 IsBack node w = IsFree w node ⊎ (IsSetAside w node × (w.shared.free.count ≡ w.setup.limit))
 
 -- the node left the hand
-pub record LetGo {T : Type 0} (r : Arena) (t : Seat T) (es : List Event) (node : ℕ) : Type 0 where
+pub record LetGo {T : Type 0} (r : Arena) (t : Seat T) (node : ℕ) : Type 0 where
   pub seat : IsSeat r t
   pub over : (view t).actor.line ≡ Some (dequeues r.plan.setup.kind)
-  pub never : failed_turns es ≡ 0
   pub back : NowHolds r t (IsBack node)
 
 -- a turn that failed
 pub record Slipped {T : Type 0} (r : Arena) (t : Seat T) (es : List Event) (h : Held) : Type 0 where
   pub stands : StartsGive r t continues h
-  pub once : failed_turns es ≡ 1
   pub last : FailedAt es
 
 -- what a turn leads to
 abbrev pub GiveTurned : {T : Type 0} → Arena → Seat T → List Event → Held → Gave → Type 0
-GiveTurned r t es h Back = LetGo r t es h.node
+GiveTurned r t es h Back = LetGo r t h.node
 GiveTurned r t es h Again = Slipped r t es h
 
--- a turn of a give back, from one line F1 to its end
-pub record GiveTurns {T : Type 0} (r : Arena) (s t : Seat T) (h : Held) (out : Gave) : Type 0 where
-  pub stored : KeepsStored s t
-  pub slots : KeepsSlots s t
-  pub lines : List Event
-  pub walks : Passes (view s) (view t) lines
-  pub turned : GiveTurned r t lines h out
+-- whether a turn failed, as a number
+abbrev pub slips : Gave → ℕ
+slips Back = 0
+slips Again = 1
+
+-- lines of a give back, on which so many turns failed, and then the end of a turn
+pub record GiveTurns {T : Type 0} (r : Arena) (s t : Seat T) (n : ℕ) (h : Held) (out : Gave) : Type 0 where
+  pub way : Way s t
+  pub failed : failed_turns way.lines ≡ n + slips out
+  pub turned : GiveTurned r t way.lines h out
+
+-- after F1 the call stands before F2, with its node, or the node left the hand
+abbrev pub Sets : {T : Type 0} → Arena → Seat T → Seat T → Held → Outcome Running → Type 0
+Sets r s t h (Goes F2 a) = GoesTo r s t F2 a × (in_hand a ≡ h)
+Sets r s t h (Goes l a) = ⊥
+Sets r s t h (Ends reply) = GiveTurns r s t 0 h Back
 
 -- a give back after so many failed turns
 pub record Giving {T : Type 0} (r : Arena) (s t : Seat T) (h : Held) (n : ℕ) : Type 0 where
   pub stands : StartsGive r t (giving n) h
-  pub stored : KeepsStored s t
-  pub slots : KeepsSlots s t
-  pub lines : List Event
-  pub walks : Passes (view s) (view t) lines
-  pub failed : failed_turns lines ≡ n
-  pub last : 1 ≤ n → FailedAt lines
+  pub way : Way s t
+  pub failed : failed_turns way.lines ≡ n
+  pub last : 1 ≤ n → FailedAt way.lines
 
 -- the node that was in the pocket is back
 abbrev pub IsGivenBack : {T : Type 0} → Arena → Seat T → Seat T → Type 0

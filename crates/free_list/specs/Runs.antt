@@ -1,5 +1,5 @@
 -- A running call: what it remembers agrees with its seat's actor, line by line.
-use Rattle.std.specs.Prelude.{◌≡◌, ℕ, ◌+◌, if◌then◌else◌, nat_eq, nat_lt, None, zero, suc}
+use Rattle.std.specs.Prelude.{◌≡◌, ℕ, ◌+◌, if◌then◌else◌, nat_eq, nat_lt, List, None, zero, suc}
 use Rattle.counted_ref.specs.Ref.{ref_of, same_ref, is_null}
 use Rattle.line_table.specs.declared.lines.Line.{Line}
 use Rattle.line_table.specs.declared.lines.Line.TheVariants.{N1, N2, N3, N4, N5, F1, F2, F3}
@@ -7,10 +7,13 @@ use Rattle.history.specs.declared.refusals.WornWord.TheVariants.{Free as OfFree}
 use Rattle.history.specs.declared.refusals.Refusal.TheVariants.{NoNode, WornOut}
 use Rattle.history.specs.declared.operations.Op.TheVariants.{Enq, Deq}
 use Rattle.node_arena.specs.Machine.{Setup, Held, Actor, with_node}
+use Rattle.node_arena.specs.Traces.{Event}
 use Rattle.node_arena.specs.Prologues.{Prologue, continues, begins, after_prologue}
 use Rattle.node_arena.specs.Arenas.{Arena}
 use Rattle.node_arena.specs.declared.seats.Seat.{Seat}
-use Rattle.node_arena.specs.Seats.{IsBefore, DidStep, view}
+use Rattle.node_arena.specs.Seats.{IsBefore, IsReady, KeepsStored, KeepsName, KeepsSlots, DidStep, view, failed_of}
+use Rattle.node_arena.specs.Turns.{failed_turns}
+use Rattle.node_arena.specs.Paths.{Passes, HadNoEffect, SeesNoMore, added}
 use Rattle.arena_lines.specs.declared.outcomes.Reply.TheVariants.{Done, Refused as IsRefused}
 use Rattle.arena_lines.specs.declared.outcomes.Outcome.{Outcome}
 use Rattle.arena_lines.specs.declared.outcomes.Outcome.TheVariants.{Goes, Ends}
@@ -96,3 +99,25 @@ pub record Follows {T : Type 0} (r : Arena) (s t : Seat T) (prologue : Prologue)
   pub found : ℕ
   pub did : DidStep r s t prologue l found
   pub leads_to : out ≡ follow r.plan.setup a l found
+
+-- the way of a call so far: the lines that its seat went through, which keep what it stores, and at which it saw nothing
+pub record Way {T : Type 0} (s t : Seat T) : Type 0 where
+  pub stored : KeepsStored s t
+  pub slots : KeepsSlots s t
+  pub lines : List Event
+  pub walks : Passes (view s) (view t) lines
+
+-- the call went on to a line, where it stands, and no turn failed on the way
+pub record GoesTo {T : Type 0} (r : Arena) (s t : Seat T) (l : Line) (a : Running) : Type 0 where
+  pub way : Way s t
+  pub never : failed_turns way.lines ≡ 0
+  pub stands : CallIsAt r t continues l a
+
+-- the call is over, and had no effect
+pub record Leaves {T : Type 0} (r : Arena) (s t : Seat T) : Type 0 where
+  pub ready : IsReady r t
+  pub same : KeepsName s t
+  pub slots : KeepsSlots s t
+  pub lines : HadNoEffect s t
+  pub seen : SeesNoMore s t
+  pub failed : failed_of t ≡ failed_turns (added s t)

@@ -1,6 +1,6 @@
 -- What a turn of a take leads to, and what a take answers.
-use Rattle.std.specs.Prelude.{◌≡◌, ℕ, ◌<◌, ◌≤◌, ◌⊎◌, List, Some, None, Result, Err, MatchResult, IfOk, IfErr}
-use Rattle.line_table.specs.declared.lines.Line.TheVariants.{N1}
+use Rattle.std.specs.Prelude.{◌≡◌, ℕ, ◌+◌, ◌<◌, ◌≤◌, ◌⊎◌, List, Some, None, Result, Err, MatchResult, IfOk, IfErr}
+use Rattle.line_table.specs.declared.lines.Line.TheVariants.{N1, N3, N5}
 use Rattle.history.specs.declared.refusals.WornWord.TheVariants.{Free as OfFree}
 use Rattle.history.specs.declared.refusals.Refusal.{Refusal}
 use Rattle.history.specs.declared.refusals.Refusal.TheVariants.{NoNode, WornOut, Busy}
@@ -9,12 +9,15 @@ use Rattle.node_arena.specs.Traces.{Event}
 use Rattle.node_arena.specs.Prologues.{continues}
 use Rattle.node_arena.specs.Arenas.{Arena}
 use Rattle.node_arena.specs.declared.seats.Seat.{Seat}
-use Rattle.node_arena.specs.Seats.{IsSeat, IsBefore, IsReady, KeepsStored, KeepsName, KeepsSlots, view, pocket_of, failed_of}
+use Rattle.node_arena.specs.Seats.{IsSeat, IsBefore, view, pocket_of, failed_of}
 use Rattle.node_arena.specs.Turns.{failed_turns}
-use Rattle.node_arena.specs.Paths.{Passes, HadNoEffect, SeesNoMore, added, EndedAt, FailedAt, LastHeld, NowHolds, IsRefusedAt, MetCause, EndsFailed, IsSole}
+use Rattle.node_arena.specs.Paths.{added, EndedAt, FailedAt, LastHeld, NowHolds, IsRefusedAt, MetCause, EndsFailed, IsSole}
+use Rattle.arena_lines.specs.declared.outcomes.Outcome.{Outcome}
+use Rattle.arena_lines.specs.declared.outcomes.Outcome.TheVariants.{Goes, Ends}
+use Rattle.free_list.specs.Running.{Running}
 use Rattle.free_list.specs.declared.outcomes.Turn.{Turn}
 use Rattle.free_list.specs.declared.outcomes.Turn.TheVariants.{Took, Failed, Refused}
-use Rattle.free_list.specs.Runs.{taking}
+use Rattle.free_list.specs.Runs.{taking, turn_of, Way, GoesTo, Leaves}
 
 -- a node was free or was never used
 abbrev pub WasThere : ℕ → World → Type 0
@@ -48,14 +51,12 @@ pub record Got {T : Type 0} (r : Arena) (s t : Seat T) (es : List Event) (h : He
   pub over : (view t).actor.line ≡ Some (with_node r.plan.setup.kind)
   pub node : (view t).actor.node ≡ h.node
   pub mark : (view t).actor.mark ≡ h.mark
-  pub never : failed_turns es ≡ 0
   pub there : EndedAt r s es (λ was a l. WasThere h.node was.world)
   pub sole : NowHolds r t (λ w. IsSole w (view t).number h.node)
 
 -- a turn that failed
 pub record Fell {T : Type 0} (r : Arena) (t : Seat T) (es : List Event) : Type 0 where
   pub before : IsBefore r t continues N1
-  pub once : failed_turns es ≡ 1
   pub last : FailedAt es
 
 -- a turn that was refused
@@ -63,7 +64,6 @@ pub record Refuses {T : Type 0} (r : Arena) (s t : Seat T) (es : List Event) (re
   pub seat : IsSeat r t
   pub over : (view t).actor.line ≡ None
   pub empty : (view t).actor.pocket ≡ None
-  pub never : failed_turns es ≡ 0
   pub cause : EndedAt r s es (IsRefusedAt r.plan.setup (view s).number refusal)
   pub possible : IsRefusedBy refusal
 
@@ -73,33 +73,35 @@ Turned r s t es (Took h) = Got r s t es h
 Turned r s t es Failed = Fell r t es
 Turned r s t es (Refused refusal) = Refuses r s t es refusal
 
--- a turn of a take, from one line N1 to its end
-pub record Turns {T : Type 0} (r : Arena) (s t : Seat T) (out : Turn) : Type 0 where
-  pub stored : KeepsStored s t
-  pub slots : KeepsSlots s t
-  pub lines : List Event
-  pub walks : Passes (view s) (view t) lines
-  pub turned : Turned r s t lines out
+-- whether a turn failed, as a number
+abbrev pub fails : Turn → ℕ
+fails Failed = 1
+fails out = 0
+
+-- lines of a take, on which so many turns failed, and then the end of a turn
+pub record Turns {T : Type 0} (r : Arena) (s t : Seat T) (n : ℕ) (out : Turn) : Type 0 where
+  pub way : Way s t
+  pub failed : failed_turns way.lines ≡ n + fails out
+  pub turned : Turned r s t way.lines out
+
+-- after N2 the call stands before N3 or N5, or its turn ends
+abbrev pub Looks : {T : Type 0} → Arena → Seat T → Seat T → Outcome Running → Type 0
+Looks r s t (Goes N3 a) = GoesTo r s t N3 a
+Looks r s t (Goes N5 a) = GoesTo r s t N5 a
+Looks r s t (Goes l a) = ⊥
+Looks r s t (Ends reply) = Turns r s t 0 (turn_of (Ends reply))
 
 -- a take after so many failed turns
 pub record Trying {T : Type 0} (r : Arena) (s t : Seat T) (n : ℕ) : Type 0 where
   pub before : IsBefore r t (taking n) N1
-  pub stored : KeepsStored s t
-  pub slots : KeepsSlots s t
-  pub lines : List Event
-  pub walks : Passes (view s) (view t) lines
-  pub failed : failed_turns lines ≡ n
-  pub last : 1 ≤ n → FailedAt lines
+  pub way : Way s t
+  pub failed : failed_turns way.lines ≡ n
+  pub last : 1 ≤ n → FailedAt way.lines
 
 -- what a take answers
 pub record AnswersTake {T : Type 0} (r : Arena) (s t : Seat T) (turns : ℕ) (out : Result Held Refusal) : Type 0 where
-  pub ready : IsReady r t
-  pub same : KeepsName s t
-  pub slots : KeepsSlots s t
+  pub leaves : Leaves r s t
   pub pocket : MatchResult out (λ held. pocket_of t ≡ Some held) (λ _. pocket_of t ≡ None)
-  pub lines : HadNoEffect s t
-  pub seen : SeesNoMore s t
   pub taken : IfOk out (λ held. IsTaken r s t held.node)
   pub refused : IfErr out (TakeRefused r s t turns)
-  pub failed : failed_of t ≡ failed_turns (added s t)
   pub fewer : FailsFewer turns out (failed_of t)

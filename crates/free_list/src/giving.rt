@@ -6,8 +6,8 @@ ghost use Rattle.node_arena.specs.Turns.{failed_turns};
 ghost use Rattle.node_arena.specs.Paths.{HadNoEffect, SeesNoMore, added};
 ghost use Rattle.line_table.specs.declared.lines.Line.TheVariants as lines;
 ghost use Rattle.node_arena.specs.Prologues.{continues};
-ghost use Rattle.free_list.specs.Runs.{CallIsAt, Follows, StartsGive, giving};
-ghost use Rattle.free_list.specs.Gives.{GiveTurns, GiveAnswers, IsGivenBack, GiveBackRefused};
+ghost use Rattle.free_list.specs.Runs.{CallIsAt, Follows, GoesTo, StartsGive, giving};
+ghost use Rattle.free_list.specs.Gives.{Sets, GiveTurns, GiveAnswers, IsGivenBack, GiveBackRefused};
 
 use crate::outcomes::{ActorOf, Gave, given, registers};
 use arena_lines::{Outcome, access, first_row, frees, frees_aside, goes, onward, row};
@@ -20,19 +20,21 @@ use node_arena::{ArenaOf, Held, Seat, raised};
 fn f1<const B: u32, T>(
     arena: &ArenaOf<B, T>,
     seat: &mut Seat<T>,
-    mut a: ActorOf<B>,
+    held: Held,
     index: u32,
 ) -> Outcome<ActorOf<B>>
-    requires stands { CallIsAt arena.now seat.old (giving index) lines.F1 a }
-    ensures { Follows arena.now seat.old seat.new (giving index) lines.F1 a.entry result }
+    requires stands { StartsGive arena.now seat.old (giving index) held }
+    ensures { Sets arena.now seat.old seat.new held result }
 {
     let setup = arena.setup();
+    let mut a = registers(arena, held.node, held.mark);
     line_table!(F1 (setup me a found) first_row (arena seat found index))
 }
 
 fn f2<const B: u32, T>(arena: &ArenaOf<B, T>, seat: &mut Seat<T>, a: ActorOf<B>) -> ActorOf<B>
     requires stands { CallIsAt arena.now seat.old continues lines.F2 a }
-    ensures { Follows arena.now seat.old seat.new continues lines.F2 a.entry (Outcome.Goes lines.F3 result) }
+    ensures goes { GoesTo arena.now seat.old seat.new lines.F3 result }
+    ensures same { result ≡ a.entry }
 {
     use onward::goes;
     let _ = arena.setup();
@@ -59,13 +61,15 @@ fn give_turn<const B: u32, T>(
     index: u32,
 ) -> Gave
     requires { StartsGive arena.now seat.old (giving index) held }
-    ensures { GiveTurns arena.now seat.old seat.new held result }
+    ensures { GiveTurns arena.now seat.old seat.new 0 held result }
 {
-    let Outcome::Goes(_, a) = f1(arena, seat, registers(arena, held.node, held.mark), index) else {
-        return Gave::Back;
-    };
-    let a = f2(arena, seat, a);
-    given(f3(arena, seat, a))
+    match f1(arena, seat, held, index) {
+        Outcome::Goes(_, a) => {
+            let a = f2(arena, seat, a);
+            given(f3(arena, seat, a))
+        }
+        Outcome::Ends(_) => Gave::Back,
+    }
 }
 
 // Turns until one succeeds, or all failed.

@@ -1,6 +1,6 @@
 //! What a running call remembers, and what its turns come to.
 ghost use Rattle.std.specs.Prelude.{◌≡◌};
-ghost use Rattle.free_list.specs.Runs.{turn_of, gave_of};
+ghost use Rattle.free_list.specs.Runs.{in_hand, turn_of, gave_of};
 
 use arena_lines::{Outcome, Reply};
 use counted_ref::CountedRefOf;
@@ -51,8 +51,7 @@ pub(crate) enum Gave {
 
 /// Registers with this node and mark, and nothing read.
 pub(crate) fn registers<const B: u32, T>(arena: &ArenaOf<B, T>, node: u32, mark: u64) -> ActorOf<B>
-    ensures node { result.node ≡ node }
-    ensures mark { result.mark ≡ mark }
+    ensures { in_hand result ≡ record { node = node; mark = mark } }
 {
     let null = arena.null();
     ActorOf {

@@ -6,8 +6,8 @@ ghost use Rattle.node_arena.specs.Turns.{failed_turns};
 ghost use Rattle.node_arena.specs.Paths.{HadNoEffect, SeesNoMore, added};
 ghost use Rattle.line_table.specs.declared.lines.Line.TheVariants as lines;
 ghost use Rattle.node_arena.specs.Prologues.{continues};
-ghost use Rattle.free_list.specs.Runs.{CallIsAt, Follows, taking};
-ghost use Rattle.free_list.specs.Takes.{Turns, AnswersTake, IsTaken, TakeRefused, FailsFewer};
+ghost use Rattle.free_list.specs.Runs.{CallIsAt, Follows, GoesTo, taking};
+ghost use Rattle.free_list.specs.Takes.{Looks, Turns, AnswersTake, IsTaken, TakeRefused, FailsFewer};
 
 use crate::outcomes::{ActorOf, Turn, registers, turned};
 use arena_lines::{Outcome, Reply, access, ends, first_row, goes, onward, row, with_node, worn};
@@ -16,17 +16,12 @@ use line_table::{Line, line_table};
 use node_arena::{ArenaOf, Held, Seat, raised_unless_shut as raised};
 
 /// `index` turns of this call failed before.
-fn n1<const B: u32, T>(
-    arena: &ArenaOf<B, T>,
-    seat: &mut Seat<T>,
-    mut a: ActorOf<B>,
-    index: u32,
-) -> ActorOf<B>
-    requires stands { CallIsAt arena.now seat.old (taking index) lines.N1 a }
-    ensures { Follows arena.now seat.old seat.new (taking index) lines.N1 a.entry
-        (Outcome.Goes lines.N2 result) }
+fn n1<const B: u32, T>(arena: &ArenaOf<B, T>, seat: &mut Seat<T>, index: u32) -> ActorOf<B>
+    requires stands { IsBefore arena.now seat.old (taking index) lines.N1 }
+    ensures { GoesTo arena.now seat.old seat.new lines.N2 result }
 {
     use onward::goes;
+    let mut a = registers(arena, 0, 0);
     line_table!(N1 (setup me a found) first_row (arena seat found index))
 }
 
@@ -36,7 +31,7 @@ fn n2<const B: u32, T>(
     mut a: ActorOf<B>,
 ) -> Outcome<ActorOf<B>>
     requires stands { CallIsAt arena.now seat.old continues lines.N2 a }
-    ensures { Follows arena.now seat.old seat.new continues lines.N2 a.entry result }
+    ensures { Looks arena.now seat.old seat.new result }
 {
     let setup = arena.setup();
     line_table!(N2 (setup me a found) row (arena seat found))
@@ -44,7 +39,7 @@ fn n2<const B: u32, T>(
 
 fn n3<const B: u32, T>(arena: &ArenaOf<B, T>, seat: &mut Seat<T>, mut a: ActorOf<B>) -> ActorOf<B>
     requires stands { CallIsAt arena.now seat.old continues lines.N3 a }
-    ensures { Follows arena.now seat.old seat.new continues lines.N3 a.entry (Outcome.Goes lines.N4 result) }
+    ensures { GoesTo arena.now seat.old seat.new lines.N4 result }
 {
     use onward::goes;
     line_table!(N3 (setup me a found) row (arena seat found))
@@ -77,9 +72,9 @@ fn n5<const B: u32, T>(
 // One turn, where `index` turns of this call failed before.
 fn take_turn<const B: u32, T>(arena: &ArenaOf<B, T>, seat: &mut Seat<T>, index: u32) -> Turn
     requires { IsBefore arena.now seat.old (taking index) lines.N1 }
-    ensures { Turns arena.now seat.old seat.new result }
+    ensures { Turns arena.now seat.old seat.new 0 result }
 {
-    let a = n1(arena, seat, registers(arena, 0, 0), index);
+    let a = n1(arena, seat, index);
     match n2(arena, seat, a) {
         Outcome::Goes(next, a) => match next {
             Line::N5 => turned(n5(arena, seat, a)),
@@ -88,7 +83,7 @@ fn take_turn<const B: u32, T>(arena: &ArenaOf<B, T>, seat: &mut Seat<T>, index: 
                 turned(n4(arena, seat, a))
             }
         },
-        ended => turned(ended),
+        Outcome::Ends(reply) => turned::<B>(Outcome::Ends(reply)),
     }
 }
 

@@ -7,20 +7,10 @@ use Rattle.free_list.proofs.giving.f3.Goals as goal
 
 pub line_table-raised-requires : goal.line_table-raised-requires
 line_table-raised-requires g c =
+    let z = c.setup-setup.ensures in
     let node = ap (λ (x : Running). x.node) c.a.view_is in
-    let top = ap (λ (x : Running). x.top.count) c.a.view_is in (
-      lit≤ tt,
-      (
-        c.setup-setup.ensures.split,
-        (
-          c.setup-setup.ensures.bits,
-          (
-            subst (λ (z : Setup). c.a.inside.node < reserved_node z.bits) (sym c.setup-setup.ensures.value) (omega (arith, node, node_f3 c.args.arena.now c.args.seat.now c.args.a c.requires.stands)),
-            (
-              omega (arith, top, room_f3 c.args.arena.now c.args.seat.now c.args.a c.setup-setup.result c.setup-setup.ensures.value c.requires.stands),
-              subst (λ (z : Setup). z.limit < 2 ^ count_bits z.bits) (sym c.setup-setup.ensures.value) c.requires.stands.before.seat.arena.sized.counted,
-            ),
-          ),
-        ),
-      ),
-    )
+    let top = ap (λ (x : Running). x.top.count) c.a.view_is in
+    let to = subst (λ (x : Setup). c.a.inside.node < reserved_node x.bits) (sym z.value) (omega (arith, node, node_f3 c.args.arena.now c.args.seat.now c.args.a c.requires.stands)) in
+    let room : c.a.inside.top.count < c.setup-setup.result.limit = omega (arith, top, room_f3 c.args.arena.now c.args.seat.now c.args.a c.setup-setup.result z.value c.requires.stands) in
+    let limit = subst (λ (x : Setup). x.limit < 2 ^ count_bits x.bits) (sym z.value) c.requires.stands.before.seat.arena.sized.counted in
+    (lit≤ tt, (z.split, (z.bits, (to, (room, limit)))))

@@ -10,14 +10,19 @@ pub loop-index-preserved : goal.loop-index-preserved
 loop-index-preserved g c = again c.args.arena.now c.args.seat.now c.loop-index.seat c.loop-index.index c.loop-index.invariant _ c.in-Failed.ensures
 
 pub returns-in-Took : goal.returns-in-Took
-returns-in-Took g c = rw c.keep.ensures (took c.args.arena.now c.args.seat.now c.loop-index.seat c.loop-index.index c.loop-index.invariant _ c.args.turns _ c.loop-index-test.true c.in-Took.ensures)
+returns-in-Took g c =
+    rw c.keep.ensures
+    (took c.args.arena.now c.args.seat.now c.loop-index.seat c.loop-index.index c.loop-index.invariant _ c.args.turns _ c.loop-index-test.true c.in-Took.ensures)
 
 pub returns-in-Refused : goal.returns-in-Refused
-returns-in-Refused g c = rw c.keep-in-Refused.ensures (refused c.args.arena.now c.args.seat.now c.loop-index.seat c.loop-index.index c.loop-index.invariant _ c.args.turns _ c.loop-index-test.true c.in-Refused.ensures)
+returns-in-Refused g c =
+    rw c.keep-in-Refused.ensures
+    (refused c.args.arena.now c.args.seat.now c.loop-index.seat c.loop-index.index c.loop-index.invariant _ c.args.turns _ c.loop-index-test.true c.in-Refused.ensures)
 
 pub returns : goal.returns
 returns g c =
     let over = c.loop-index-test.false in
     let within = c.loop-index.auto.index-end in
     let e : c.loop-index.index ≡ c.args.turns = omega arith in
-    rw c.keep-2.ensures (gave_up c.args.arena.now c.args.seat.now c.loop-index.seat c.args.turns c.requires.turns (subst (Trying c.args.arena.now c.args.seat.now c.loop-index.seat) e c.loop-index.invariant))
+    let all = subst (Trying c.args.arena.now c.args.seat.now c.loop-index.seat) e c.loop-index.invariant in
+    rw c.keep-2.ensures (gave_up c.args.arena.now c.args.seat.now c.loop-index.seat c.args.turns c.requires.turns all)
