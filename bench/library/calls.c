@@ -1,5 +1,6 @@
-/* Times calls of libmsq: `calls QUEUE KIND COUNT` prints how many nanoseconds the works of KIND took, each thread COUNT times.
- * QUEUE is non-blocking, two-lock or ring, KIND one, four, pair or two; bench/queues/works.rs says what a thread does in each. */
+/* Times calls of libmsq: `calls QUEUE KIND COUNT [MANY]` prints how many nanoseconds the works of KIND took, each thread COUNT
+ * times. QUEUE is non-blocking, two-lock or ring, KIND one, four, pair or two; bench/queues/works.rs says what a thread does in
+ * each. With MANY, up to 64, that many values go at one call, and COUNT still counts values. */
 #define _POSIX_C_SOURCE 200809L
 
 #include "msq.h"
@@ -11,7 +12,7 @@
 #include <string.h>
 #include <time.h>
 
-enum { NODES = 65, TURNS = 8, MOST = 4 };
+enum { NODES = 65, TURNS = 8, MOST = 4, MOST_AT_ONCE = 64 };
 enum work { PAIRS, PUSHES, POPS };
 
 struct kind {
@@ -32,6 +33,7 @@ struct worker {
     _Alignas(64) msq_seat seat;
     enum work work;
     uint64_t count;
+    size_t many;
 };
 
 /* As crossbeam's backoff: spins longer each time, and then yields. */
@@ -67,20 +69,40 @@ static void pop(msq_seat *seat) {
     }
 }
 
+static void push_many(msq_seat *seat, size_t many) {
+    static const uint64_t bodies[MOST_AT_ONCE];
+    size_t count;
+    for (unsigned step = 0; many > 0; many -= count) {
+        if (msq_push_all(seat, bodies, many, TURNS, &count) != MSQ_OK) {
+            snooze(&step);
+        }
+    }
+}
+
+static void pop_many(msq_seat *seat, size_t many) {
+    msq_value values[MOST_AT_ONCE];
+    size_t count;
+    for (unsigned step = 0; many > 0; many -= count) {
+        if (msq_pop_up_to(seat, TURNS, values, many, &count) != MSQ_OK) {
+            snooze(&step);
+        }
+    }
+}
+
 static void *works(void *given) {
     struct worker *me = given;
-    for (uint64_t k = 0; k < me->count; k++) {
+    for (uint64_t k = 0; k < me->count; k += me->many) {
         if (me->work != POPS) {
-            push(&me->seat);
+            me->many > 1 ? push_many(&me->seat, me->many) : push(&me->seat);
         }
         if (me->work != PUSHES) {
-            pop(&me->seat);
+            me->many > 1 ? pop_many(&me->seat, me->many) : pop(&me->seat);
         }
     }
     return NULL;
 }
 
-static int time_of(uint32_t queue, const struct kind *kind, uint64_t count) {
+static int time_of(uint32_t queue, const struct kind *kind, uint64_t count, size_t many) {
     const uint8_t roles[MOST] = {MSQ_BOTH, MSQ_BOTH, MSQ_BOTH, MSQ_BOTH};
     msq_seat seats[MOST] = {0};
     struct worker workers[MOST];
@@ -91,7 +113,7 @@ static int time_of(uint32_t queue, const struct kind *kind, uint64_t count) {
     }
     clock_gettime(CLOCK_MONOTONIC, &began);
     for (unsigned k = 0; k < kind->threads; k++) {
-        workers[k] = (struct worker){seats[k], kind->works[k], count};
+        workers[k] = (struct worker){seats[k], kind->works[k], count, many};
         if (pthread_create(&ids[k], NULL, works, &workers[k])) {
             return 1;
         }
@@ -108,17 +130,18 @@ static int time_of(uint32_t queue, const struct kind *kind, uint64_t count) {
 }
 
 int main(int argc, char **argv) {
-    if (argc == 4) {
+    size_t many = argc == 5 ? strtoull(argv[4], NULL, 10) : 1;
+    if ((argc == 4 || argc == 5) && many >= 1 && many <= MOST_AT_ONCE) {
         uint32_t queue = MSQ_NON_BLOCKING;
         while (queue < MSQ_RING && strcmp(argv[1], msq_kind_name(queue)) != 0) {
             queue++;
         }
         for (size_t k = 0; k < sizeof kinds / sizeof *kinds; k++) {
             if (strcmp(argv[2], kinds[k].name) == 0) {
-                return time_of(queue, &kinds[k], strtoull(argv[3], NULL, 10));
+                return time_of(queue, &kinds[k], strtoull(argv[3], NULL, 10), many);
             }
         }
     }
-    fputs("calls non-blocking|two-lock|ring one|four|pair|two COUNT\n", stderr);
+    fputs("calls non-blocking|two-lock|ring one|four|pair|two COUNT [MANY]\n", stderr);
     return 2;
 }

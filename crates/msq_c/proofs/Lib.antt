@@ -7,3 +7,4 @@ pub mod WordMade
 pub mod Sizes
 pub mod Written
 pub mod Batches
+pub mod AtOnce

@@ -1,3 +1,4 @@
+pub mod Batches
 pub mod Boxed
 pub mod Codes
 pub mod Ends

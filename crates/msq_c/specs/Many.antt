@@ -1,5 +1,5 @@
 -- What calls of many values answer.
-use Rattle.std.specs.Prelude.{◌≡◌, ℕ, ◌<◌, ◌≤◌, false, true, List, ◌++◌, length, map, take, drop, get_or, Option, Some, None, Result, Ok, Err}
+use Rattle.std.specs.Prelude.{◌≡◌, ℕ, zero, suc, ◌+◌, ◌<◌, ◌≤◌, false, true, List, ◌++◌, length, map, take, drop, get_or, Option, Some, None, Result, Ok, Err}
 use Rattle.history.specs.declared.operations.Entry.{Entry}
 use Rattle.history.specs.declared.operations.Entry.TheVariants.{Push, Pop}
 use Rattle.history.specs.declared.operations.Taken.{Taken}
@@ -29,6 +29,12 @@ pushes number bodies = map (λ b. Push number b) bodies
 abbrev pub pops : (number : ℕ) → (values : List Taken) → List Entry
 pops number values = map (λ v. Pop number v) values
 
+-- the first ones of these bodies were pushed, so many of them, one at least
+pub record PushesFirst (k : Known) (bodies : List ℕ) (k' : Known) (count : ℕ) : Type 0 where
+  pub some : 1 ≤ count
+  pub few : count ≤ length bodies
+  pub makes : Makes k (pushes k.number (take count bodies)) k'
+
 -- the seat that was before a call of many ended: by then the first ones of these bodies were pushed, so many of them
 pub record PushedSo (s : OwnSeat) (bodies : List ℕ) (count : ℕ) (last : OwnSeat) : Type 0 where
   pub queue : queue_in last ≡ queue_in s
@@ -52,6 +58,23 @@ pub record AnswersPushAll (h h' : MsqSeat) (bodies : List ℕ) (turns count : �
   pub empty : NeedsHandle h out
   pub none : is_full h ≡ false → (count ≡ 0) × (h' ≡ h)
   pub pushed : is_full h ≡ true → PushesAll (own_at h) (own_at h') bodies turns count out
+
+-- a list whose places from one on have these values, and whose others are as before
+abbrev pub laid : {A : Type 0} (from : ℕ) (xs vs : List A) → List A
+laid from xs vs = take from vs ++ (xs ++ drop (from + length xs) vs)
+
+-- so many values were popped, and written into the places from one on
+pub record PoppedFrom (k : Known) (from : ℕ) (vs vs' : List MsqValue) (k' : Known) (count : ℕ) : Type 0 where
+  pub values : List Taken
+  pub long : length values ≡ count
+  pub few : from + count ≤ length vs
+  pub makes : Makes k (pops k.number values) k'
+  pub written : vs' ≡ laid from (map value_of values) vs
+
+-- the queue was found empty, and nothing was written; or so many values were popped
+abbrev pub PopsFrom : (k : Known) (from : ℕ) (vs vs' : List MsqValue) (k' : Known) (count : ℕ) → Type 0
+PopsFrom k from vs vs' k' zero = (vs' ≡ vs) × FoundEmpty k k'
+PopsFrom k from vs vs' k' (suc n) = PoppedFrom k from vs vs' k' (suc n)
 
 -- the seat that was before a call of many ended: by then so many values had been popped, and were written from the front
 pub record PoppedSo (s : OwnSeat) (vs vs' : List MsqValue) (count : ℕ) (last : OwnSeat) : Type 0 where

@@ -1,5 +1,7 @@
 -- What the calls of a seat with its share answer.
 use Rattle.std.specs.Prelude.{◌≡◌, ◌⊎◌, ℕ, ◌≤◌, ◌^◌, List}
+use Rattle.std.specs.Global.{Vec}
+use Rattle.history.specs.declared.operations.Taken.{Taken}
 use Rattle.history.specs.Limits.{body_bits}
 use Rattle.history.specs.Seats.{Permit, Known, MayPush, MayPop}
 use Rattle.history.specs.Answers.{StopsPush, StopsPop, StopsShut, PushRefused, PopRefused}
@@ -40,6 +42,10 @@ queue_in s = queue_of s.owned
 -- the seat itself
 abbrev pub seat_in : OwnSeat → SeatOf
 seat_in s = seat_of s.owned
+
+-- where a seat of a ring keeps what it pops at one step
+abbrev pub room_in : OwnSeat → Vec Taken
+room_in s = s.room
 
 -- what a seat knows
 abbrev pub known_in : OwnSeat → Known

@@ -47,3 +47,8 @@ EndsWith q end rest = EitherEnds (λ p. Leaves (picked_arena_of p)) (λ r e x. U
 abbrev pub IsEnough : Queue → (count : ℕ) → Type 0
 IsEnough (First q) count = Unit {0}
 IsEnough (Second q) count = count ≡ length (permits_in q)
+
+-- a queue is a ring
+abbrev pub IsRing : Queue → Type 0
+IsRing (First q) = ⊥
+IsRing (Second q) = Unit {0}

@@ -26,6 +26,7 @@ mod many_exports;
 mod own_seats;
 mod parts;
 mod rests;
+mod ring_acts;
 mod troubles;
 mod values;
 mod word_calls;

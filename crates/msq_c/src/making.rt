@@ -15,10 +15,11 @@ ghost use Rattle.msq_c.specs.Own.{owned_in};
 
 use crate::handles::MsqSeat;
 use crate::own_seats::{OwnSeat, Queue, QueueSeat};
+use crate::ring_acts::AT_ONCE;
 use crate::troubles::Trouble;
 use any_queue::{PickedQueue, bits_for};
 use either_queue::EitherQueue;
-use history::{MOST_ACTOR, Refusal};
+use history::{MOST_ACTOR, Refusal, Taken};
 use line_table::Kind;
 use node_arena::{Role, most_count, most_node};
 use owned_seats::{OwnedSeat, deal};
@@ -269,6 +270,20 @@ fn seats_of(
     Ok((owned, spacer))
 }
 
+// Room for what a seat pops at one step: of a ring for as many as that may be, and else for none.
+fn room_for(alloc: Global, seat: &OwnedSeat<Queue>) -> Result<Vec<Taken>, Trouble>
+    ensures { IfErr result IsMemory }
+{
+    let size = match seat.queue() {
+        EitherQueue::First(_) => 0,
+        EitherQueue::Second(_) => AT_ONCE,
+    };
+    let Ok(room) = Vec::with_capacity(alloc, size) else {
+        return Err(Trouble::Refused(Refusal::Memory));
+    };
+    Ok(room)
+}
+
 // Each seat in a block of its own.
 fn boxed(alloc: Global, owned: Vec<OwnedSeat<Queue>>) -> Result<Vec<Box<OwnSeat, Global>>, Trouble>
     ensures boxes { IfOk result (λ boxes. map (λ b. owned_in b.value) boxes.items ≡ owned.items) }
@@ -276,7 +291,8 @@ fn boxed(alloc: Global, owned: Vec<OwnedSeat<Queue>>) -> Result<Vec<Box<OwnSeat,
 {
     let mut boxes = Vec::new(alloc);
     for seat in owned {
-        let Ok(boxed) = Box::new(alloc, OwnSeat::new(seat)) else {
+        let room = room_for(alloc, &seat)?;
+        let Ok(boxed) = Box::new(alloc, OwnSeat::new(seat, room)) else {
             return Err(Trouble::Refused(Refusal::Memory));
         };
         if boxes.push(boxed).is_err() {

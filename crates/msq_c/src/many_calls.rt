@@ -37,7 +37,7 @@ pub(crate) fn pop_up_to(
         return (0, Err(Trouble::NoHandle));
     }
     let mut own = slot.lift(alloc);
-    let answer = own.pop_up_to(values, turns);
+    let answer = own.pop_up_to(alloc, values, turns);
     *slot = MsqSeat::of(own);
     answer
 }

@@ -28,25 +28,28 @@ pub struct EndRoom {
 /// one line of the cache, or on two that are fetched together.
 pub(crate) const APART: usize = 16;
 
-/// A seat of a queue of any kind, with its share of the queue, which lies first: include/msq.h compares these.
+/// A seat of a queue of any kind, with its share of the queue, which lies first: include/msq.h compares these. A seat of a ring
+/// has room for what it pops at one step, so that no pop takes memory.
 #[repr(C)]
 #[derive(Drop)]
 pub struct OwnSeat {
-    owned: OwnedSeat<Queue>,
+    pub(crate) owned: OwnedSeat<Queue>,
+    pub(crate) room: Vec<Taken>,
     apart: [u64; APART],
 }
 
 impl OwnSeat {
     ghost use Rattle.msq_c.specs.Own.{queue_in, seat_in, known_in, owned_in};
     ghost use Rattle.msq_c.specs.Own.{RefusesPush, RefusesPop, RefusesShut};
-    ghost use Rattle.msq_c.specs.Queues.{IsEnough};
+    ghost use Rattle.msq_c.specs.Queues.{IsEnough, IsRing};
     ghost use Rattle.msq_c.specs.Ends.{HasAnyRoom, IsRoomless};
 
-    pub(crate) fn new(owned: OwnedSeat<Queue>) -> OwnSeat
+    pub(crate) fn new(owned: OwnedSeat<Queue>, room: Vec<Taken>) -> OwnSeat
         ensures { owned_in result ≡ owned }
     {
         OwnSeat {
             owned,
+            room,
             apart: [0; APART],
         }
     }
@@ -54,8 +57,22 @@ impl OwnSeat {
     pub(crate) fn into_owned(self) -> OwnedSeat<Queue>
         ensures { result ≡ owned_in self }
     {
-        let OwnSeat { owned, apart: _ } = self;
+        let OwnSeat {
+            owned,
+            room: _,
+            apart: _,
+        } = self;
         owned
+    }
+
+    /// Whether the queue is a ring.
+    pub(crate) fn is_ring(&self) -> bool
+        ensures { MatchBool result (IsRing (queue_in self.now)) (¬ IsRing (queue_in self.now)) }
+    {
+        match self.owned.queue() {
+            EitherQueue::First(_) => false,
+            EitherQueue::Second(_) => true,
+        }
     }
 
     pub(crate) fn try_push(&mut self, number: u64, turns: u32) -> Result<(), Trouble>

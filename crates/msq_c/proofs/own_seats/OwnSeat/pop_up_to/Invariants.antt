@@ -1,5 +1,9 @@
+use Rattle.std.proofs.Common.{◌-◌, length}
 use Rattle.msq_c.specs.Many.{PoppedSo}
 use Rattle.msq_c.proofs.own_seats.OwnSeat.pop_up_to.Given as goal
 
-abbrev pub invariant-loop-i : goal.invariant-loop-i
-invariant-loop-i l = PoppedSo l.fn.self l.fn.values l.values l.i l.self
+abbrev pub invariant-loop-popped : goal.invariant-loop-popped
+invariant-loop-popped l = PoppedSo l.fn.self l.fn.values l.values l.popped l.self
+
+abbrev pub decreases-loop-popped : goal.decreases-loop-popped
+decreases-loop-popped l = length l.values - l.popped
