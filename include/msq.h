@@ -1,6 +1,6 @@
 /*
  * Bounded queues for any number of threads that push and pop: first in, first out.
- * docs/LIBRARY.md says how to build libmsq.a and a first program.
+ * docs/LIBRARY.md says how to build libmsq.a, and docs/LIBRARY_C.md has a first program.
  *
  * A thread calls by a seat of its own, of type msq_seat. Set it to zeros before it is filled: that is an empty one. No call
  * waits, but for the lock of MSQ_DEBUG, and none takes memory but msq_create and msq_close.
@@ -164,16 +164,18 @@ uint32_t msq_try_pop(msq_seat *seat, uint32_t turns, msq_value *value);
 uint32_t msq_try_shut(msq_seat *seat, uint32_t turns);
 
 /*
- * Pushes these bodies in their order, each as msq_try_push does, until one is refused: how many were pushed goes to `pushed`, and
- * the code is that of the one which was refused, or of the last one. Pushes of other seats may come between. Where there are
- * no bodies, any seat will do; without a seat 0 is written.
+ * Pushes these bodies in their order, as msq_try_push does, until one is refused: how many were pushed goes to `pushed`, and
+ * the code is that of the one which was refused, or of the last one. To MSQ_RING as many go at one step as the seat has in
+ * reserve, up to MSQ_RESERVE; else each goes by itself. Pushes of other seats may come between two steps. Each step has so many
+ * turns. Where there are no bodies, any seat will do; without a seat 0 is written.
  */
 uint32_t msq_push_all(msq_seat *seat, const uint64_t *bodies, size_t bodies_len, uint32_t turns, size_t *pushed);
 
 /*
- * Pops values, as many as there is room for, each as msq_try_pop does, until the queue is found empty or a pop is refused: they
+ * Pops values, as many as there is room for, as msq_try_pop does, until the queue is found empty or a pop is refused: they
  * go to `values`, from the front, and how many to `popped`. The code is that of the pop that took none, or of the last one.
- * Pops of other seats may come between. Without a seat 0 is written.
+ * From MSQ_RING up to 32 come at one step; else each comes by itself. Pops of other seats may come between two steps. Each step
+ * has so many turns. Without a seat 0 is written.
  */
 uint32_t msq_pop_up_to(msq_seat *seat, uint32_t turns, msq_value *values, size_t values_len, size_t *popped);
 
@@ -425,8 +427,12 @@ MSQ_INLINE void msq_end(struct msq_call *call) {
     __atomic_clear(&msq_running.locked, __ATOMIC_RELEASE);
 }
 
+/* A call that may free the block of its seat, which may be that of a new seat before this call ends. */
 MSQ_INLINE void msq_last(struct msq_call *call) {
-    (void)call;
+    while (__atomic_test_and_set(&msq_running.locked, __ATOMIC_ACQUIRE)) {
+    }
+    call->block = NULL;
+    __atomic_clear(&msq_running.locked, __ATOMIC_RELEASE);
 }
 
 #else

@@ -38,6 +38,25 @@ template <class Rep, class Period> uint64_t nanoseconds(std::chrono::duration<Re
     return static_cast<uint64_t>(std::chrono::duration_cast<std::chrono::nanoseconds>(time).count());
 }
 
+// Ends the queue of these handles, by each of whose seats a call has begun.
+inline msq_code end_of(std::vector<msq_seat> &raw, std::vector<msq_value> &left, msq_rest &rest) noexcept {
+    if (!msq_of_one_queue(raw.data(), raw.size())) {
+        return MSQ_TWO_QUEUES;
+    }
+    return static_cast<msq_code>((msq_close)(raw.data(), raw.size(), left.data(), left.size(), &rest));
+}
+
+#if __cplusplus >= 201703L
+// What a pop answers, and the value, which is there exactly at MSQ_OK.
+using popped = std::pair<msq_code, std::optional<msq_value>>;
+
+template <class Call> popped pop_by(Call call) noexcept {
+    msq_value value{};
+    const msq_code code = call(value);
+    return {code, code == MSQ_OK ? std::optional<msq_value>(value) : std::nullopt};
+}
+#endif
+
 } // namespace detail
 
 struct closed;
@@ -70,7 +89,7 @@ public:
         return answer([&] { return msq_shut_wake(&raw_, bells(), turns); });
     }
 
-    // Many at one call, as msq_push_all and msq_pop_up_to: how many were pushed, or popped, is told.
+    // Many at one call, as msq_push_all and msq_pop_up_to, over a ring by few steps: how many were pushed, or popped, is told.
     msq_code try_push_all(const uint64_t *bodies, size_t bodies_len, size_t &count, uint32_t turns = 8) noexcept {
         count = 0;
         return answer([&] { return msq_push_all_wake(&raw_, bells(), bodies, bodies_len, turns, &count); });
@@ -108,16 +127,16 @@ public:
 
 #if __cplusplus >= 201703L
     // The value is there exactly at MSQ_OK.
-    using popped = std::pair<msq_code, std::optional<msq_value>>;
+    using popped = detail::popped;
 
     popped try_pop(uint32_t turns = 8) noexcept {
-        return pop([&](msq_value &value) { return try_pop(value, turns); });
+        return detail::pop_by([&](msq_value &value) { return try_pop(value, turns); });
     }
     popped pop_wait() noexcept {
-        return pop([&](msq_value &value) { return pop_wait(value); });
+        return detail::pop_by([&](msq_value &value) { return pop_wait(value); });
     }
     template <class Rep, class Period> popped pop_wait_for(std::chrono::duration<Rep, Period> time) noexcept {
-        return pop([&](msq_value &value) { return pop_wait_for(value, time); });
+        return detail::pop_by([&](msq_value &value) { return pop_wait_for(value, time); });
     }
     // The bounds, and what is left, are there exactly at MSQ_OK.
     std::pair<msq_code, std::optional<msq_length>> len() noexcept {
@@ -144,13 +163,6 @@ private:
     template <class Call> msq_code answer(Call call) noexcept {
         return shared_ ? static_cast<msq_code>(call()) : MSQ_NO_SEAT;
     }
-#if __cplusplus >= 201703L
-    template <class Call> popped pop(Call call) noexcept {
-        msq_value value{};
-        const msq_code code = call(value);
-        return {code, code == MSQ_OK ? std::optional<msq_value>(value) : std::nullopt};
-    }
-#endif
 
     msq_seat raw_{};
     std::shared_ptr<detail::shared> shared_;
@@ -184,18 +196,29 @@ struct closed {
     uint64_t lost; // how many values were left beyond these, for want of room
 };
 
-// Ends the queue of these seats, which are all of its seats that are left, with room for so many values.
+// Ends the queue of these seats, which are all of its seats that are left, with room for so many values. No other call uses one of
+// them meanwhile: where MSQ_DEBUG tells of one, by MSQ_TWO_CALLS, no seat was touched.
 // Refused, the seats are as msq_close leaves them; else they are empty.
 inline closed close(std::vector<seat> &seats, size_t room) {
     std::vector<msq_seat> raw(seats.size());
-    closed found{MSQ_OK, msq_rest{}, std::vector<msq_value>(room), 0};
-    for (size_t k = 0; k < raw.size(); k++) {
-        raw[k] = std::exchange(seats[k].raw_, msq_seat{});
+    std::vector<msq_call> calls(seats.size());
+    closed found{MSQ_TWO_CALLS, msq_rest{}, std::vector<msq_value>(room), 0};
+    size_t begun = 0;
+    while (begun < calls.size() && msq_begin(&calls[begun], &seats[begun].raw_, 1)) {
+        begun++;
     }
-    found.code = static_cast<msq_code>(
-        msq_close(raw.data(), raw.size(), found.left.data(), found.left.size(), &found.rest));
-    for (size_t k = 0; k < raw.size(); k++) {
-        seats[k].raw_ = raw[k];
+    if (begun == calls.size()) {
+        for (size_t k = 0; k < raw.size(); k++) {
+            msq_last(&calls[k]);
+            raw[k] = std::exchange(seats[k].raw_, msq_seat{});
+        }
+        found.code = detail::end_of(raw, found.left, found.rest);
+        for (size_t k = 0; k < raw.size(); k++) {
+            seats[k].raw_ = raw[k];
+        }
+    }
+    while (begun > 0) {
+        msq_end(&calls[--begun]);
     }
     found.left.resize(static_cast<size_t>(std::min<uint64_t>(found.rest.left, room)));
     found.lost = found.rest.left - found.left.size();

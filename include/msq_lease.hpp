@@ -52,10 +52,16 @@ public:
     }
 #if __cplusplus >= 201703L
     // The value is there exactly at MSQ_OK.
-    std::pair<msq_code, std::optional<msq_value>> try_pop(uint32_t turns = 8) noexcept {
-        msq_value value{};
-        const msq_code code = try_pop(value, turns);
-        return {code, code == MSQ_OK ? std::optional<msq_value>(value) : std::nullopt};
+    using popped = detail::popped;
+
+    popped try_pop(uint32_t turns = 8) noexcept {
+        return detail::pop_by([&](msq_value &value) { return try_pop(value, turns); });
+    }
+    popped pop_wait() noexcept {
+        return detail::pop_by([&](msq_value &value) { return pop_wait(value); });
+    }
+    template <class Rep, class Period> popped pop_wait_for(std::chrono::duration<Rep, Period> time) noexcept {
+        return detail::pop_by([&](msq_value &value) { return pop_wait_for(value, time); });
     }
 #endif
     msq_code meet(lease &other) noexcept {

@@ -300,10 +300,13 @@ public:
 
 #if __cplusplus >= 201703L
     // The value at the front; none where there is none, whatever the code.
-    std::optional<T> try_pop() {
-        std::optional<T> value;
-        take({false, 0}, [&](T &&it) { value.emplace(std::move(it)); });
-        return value;
+    std::optional<T> try_pop() { return taken({false, 0}); }
+
+    // The same, and sleeps while the queue is empty: as long as it takes, so that there is none only where the queue is closed and
+    // empty, or a word is worn; or for some time.
+    std::optional<T> pop_wait() { return taken({true, MSQ_FOREVER}); }
+    template <class Rep, class Period> std::optional<T> pop_wait_for(std::chrono::duration<Rep, Period> time) {
+        return taken({true, detail::nanoseconds(time)});
     }
 #endif
 
@@ -400,6 +403,13 @@ private:
     template <class Use> msq_code take(patience time, Use use) {
         return call([&](auto how, msq_queue *at) { return how.pop(at, time, use); });
     }
+#if __cplusplus >= 201703L
+    std::optional<T> taken(patience how) {
+        std::optional<T> value;
+        take(how, [&](T &&it) { value.emplace(std::move(it)); });
+        return value;
+    }
+#endif
     // Where others are in the way it tries again.
     template <class Use> msq_code consumed(Use &use) {
         msq_code code = MSQ_BUSY;

@@ -143,6 +143,83 @@ static void many_are_pushed_and_popped(uint32_t kind) {
     msq_drop(&seats[1]);
 }
 
+/* Whether so many values have these bodies, one after another from `first` on. */
+static bool are_in_order(const msq_value *values, size_t count, uint64_t first) {
+    for (size_t k = 0; k < count; k++) {
+        if (values[k].body != first + k) {
+            return false;
+        }
+    }
+    return true;
+}
+
+/* More at one call than go to a ring at one step: to an empty queue, to a nearly full one, and with a shut in between. */
+static void steps_are_pushed_and_popped(uint32_t kind) {
+    enum { MANY = 70 };
+    const uint8_t roles[] = {MSQ_GIVER, MSQ_TAKER, MSQ_GIVER};
+    uint64_t bodies[300];
+    msq_seat seats[3] = {0};
+    msq_value values[300] = {{0, 0}};
+    size_t count, held, further, room = 0;
+    for (uint64_t k = 0; k < 300; k++) {
+        bodies[k] = k;
+    }
+    expect("create", msq_create(kind, 100, MSQ_MOST_COUNT, roles, 3, seats, 3), MSQ_OK);
+    expect("a push of more than a step", msq_push_all(&seats[0], bodies, MANY, 8, &count), MSQ_OK);
+    expect("all of them", count, MANY);
+    expect("a pop of one more than a step", msq_pop_up_to(&seats[1], 8, values, 33, &count), MSQ_OK);
+    expect("as many", count, 33);
+    expect("in their order", are_in_order(values, 33, 0), true);
+    expect("a pop of the others", msq_pop_up_to(&seats[1], 8, values, 300, &count), MSQ_EMPTY);
+    expect("as many", count, MANY - 33);
+    expect("in their order", are_in_order(values, count, 33), true);
+    expect("no further value", values[count].body, 0);
+    bodies[40] = MSQ_BODIES;
+    expect("one behind a step is no body", msq_push_all(&seats[0], bodies, MANY, 8, &count), MSQ_BAD_SIZE);
+    expect("those before it", count, 40);
+    expect("a pop of just a step", msq_pop_up_to(&seats[1], 8, values, 32, &count), MSQ_OK);
+    expect("a pop of the rest of it", msq_pop_up_to(&seats[1], 8, values + count, 8, &room), MSQ_OK);
+    expect("in their order", are_in_order(values, count + room, 0), true);
+    bodies[40] = 40;
+    expect("a push until it is full", msq_push_all(&seats[0], bodies, 300, 8, &held), MSQ_NO_NODE);
+    expect("a pop of two of them", msq_pop_up_to(&seats[1], 8, values, 2, &count), MSQ_OK);
+    expect("a push to a nearly full one", msq_push_all(&seats[0], bodies + held, 300 - held, 8, &further), MSQ_NO_NODE);
+    expect("no more than were popped, or a reserve", further <= 2 + MSQ_RESERVE, true);
+    expect("a shut by another seat", msq_try_shut(&seats[2], 8), MSQ_OK);
+    expect("a push behind it, where no node is free", msq_push_all(&seats[0], bodies, MANY, 8, &count),
+           kind == MSQ_RING ? MSQ_CLOSED : MSQ_NO_NODE);
+    expect("none", count, 0);
+    expect("a pop of all that was before it", msq_pop_up_to(&seats[1], 8, values + 2, 298, &count), MSQ_CLOSED);
+    expect("as many", count + 2, held + further);
+    expect("in their order", are_in_order(values, count + 2, 0), true);
+    for (size_t k = 0; k < 3; k++) {
+        msq_drop(&seats[k]);
+    }
+}
+
+/* A shut comes between two calls of many, while their seat of a ring has places in reserve. */
+static void a_shut_comes_between_steps(uint32_t kind) {
+    const uint8_t roles[] = {MSQ_GIVER, MSQ_TAKER, MSQ_GIVER};
+    uint64_t bodies[70];
+    msq_seat seats[3] = {0};
+    msq_value values[100] = {{0, 0}};
+    size_t count;
+    for (uint64_t k = 0; k < 70; k++) {
+        bodies[k] = k;
+    }
+    expect("create", msq_create(kind, 100, MSQ_MOST_COUNT, roles, 3, seats, 3), MSQ_OK);
+    expect("a push of more than a step", msq_push_all(&seats[0], bodies, 40, 8, &count), MSQ_OK);
+    expect("a shut by another seat", msq_try_shut(&seats[2], 8), MSQ_OK);
+    expect("a push behind it", msq_push_all(&seats[0], bodies, 70, 8, &count), MSQ_CLOSED);
+    expect("none", count, 0);
+    expect("a pop of all", msq_pop_up_to(&seats[1], 8, values, 100, &count), MSQ_CLOSED);
+    expect("those before the shut", count, 40);
+    expect("in their order", are_in_order(values, count, 0), true);
+    for (size_t k = 0; k < 3; k++) {
+        msq_drop(&seats[k]);
+    }
+}
+
 /* A push and a pop by one seat: how often the count of the free list can still be raised. */
 static uint64_t free_after_a_pair(msq_seat *seat) {
     msq_value value = {0, 0};
@@ -338,6 +415,8 @@ int main(void) {
         two_queues_are_told(kind);
         sizes_have_their_ranges(kind);
         many_are_pushed_and_popped(kind);
+        steps_are_pushed_and_popped(kind);
+        a_shut_comes_between_steps(kind);
         nodes_are_kept(kind);
     }
     for (uint32_t kind = MSQ_NON_BLOCKING; kind <= MSQ_TWO_LOCK; kind++) {

@@ -51,8 +51,22 @@ template <class Seat> struct calls {
                                  {"pop_wait", how::waits, [](Seat &it) { return it.pop_wait(value); }}};
     std::vector<call<Seat>> shuts{{"try_shut", how::turns, [](Seat &it) { return it.try_shut(turns); }}};
 
-    calls() { add_others(*this); }
+    calls() {
+        add_optional(*this);
+        add_others(*this);
+    }
 };
+
+// The code of a pop that answers an optional value, which is there exactly at MSQ_OK: else a code that no pop answers.
+template <class Popped> msq_code told(const Popped &popped) {
+    return popped.second.has_value() == (popped.first == MSQ_OK) ? popped.first : MSQ_IN_USE;
+}
+
+template <class Seat> void add_optional(calls<Seat> &all) {
+    all.pops.push_back({"try_pop, optional", how::turns, [](Seat &it) { return told(it.try_pop(turns)); }});
+    all.pops.push_back({"pop_wait_for, optional", how::times, [](Seat &it) { return told(it.pop_wait_for(soon)); }});
+    all.pops.push_back({"pop_wait, optional", how::waits, [](Seat &it) { return told(it.pop_wait()); }});
+}
 
 // A seat pushes and pops many too, which a lease doesn't.
 void add_others(calls<msq::lease> &) {}
@@ -106,8 +120,12 @@ template <class Seat> void each_state(msq::kind kind) {
     each(all.shuts, seats[0], "no seat", MSQ_NO_SEAT);
 
     open(seats, kind, 32, two);
-    each(all.pushes, seats[0], "room", MSQ_OK);
+    for (size_t k = 0; k < all.pops.size(); k += all.pushes.size()) {
+        each(all.pushes, seats[0], "room", MSQ_OK);
+    }
     each(all.pops, seats[1], "values", MSQ_OK);
+    while (seats[1].try_pop(value) == MSQ_OK) {
+    }
     each(all.pops, seats[1], "empty", MSQ_EMPTY, true);
     each(all.pushes, seats[1], "a taker", MSQ_NO_ROLE);
     each(all.pops, seats[0], "a giver", MSQ_NO_ROLE);
@@ -179,7 +197,9 @@ void others_are_refused(std::vector<msq::seat> &seats) {
     expect("emptiness", "another call", seats[0].emptiness(), MSQ_TWO_CALLS);
     expect("len", "another call", seats[0].len().first, MSQ_TWO_CALLS);
     expect("left", "another call", seats[0].left().first, MSQ_TWO_CALLS);
-    expect("close", "another call", msq::close(seats).code, MSQ_TWO_CALLS);
+    for (int k = 0; k < 1000; k++) {
+        expect("close", "another call", msq::close(seats).code, MSQ_TWO_CALLS);
+    }
 }
 
 // Each call of a seat in whose call a thread sleeps.
@@ -199,13 +219,11 @@ template <class Seat> void another_call_uses_the_seat(msq::kind kind) {
     while (seats[0].meet(seats[1]) != MSQ_TWO_CALLS) {
         std::this_thread::yield();
     }
-    // (it sleeps by then, and no more looks at its seat, which a close that is refused moves away and back)
-    std::this_thread::sleep_for(std::chrono::milliseconds(100));
+    others_are_refused(seats); // (it may still look at its seat, which a close that is refused leaves where it is)
     each(all.pushes, seats[0], "another call", MSQ_TWO_CALLS);
     each(all.pops, seats[0], "another call", MSQ_TWO_CALLS);
     each(all.shuts, seats[0], "another call", MSQ_TWO_CALLS);
     expect("meet", "another call", seats[1].meet(seats[0]), MSQ_TWO_CALLS);
-    others_are_refused(seats);
     expect("try_push", "another seat", seats[1].try_push(1), MSQ_OK);
     sleeper.join();
 }

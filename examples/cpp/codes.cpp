@@ -205,11 +205,29 @@ static void calls_throw() {
 #endif
 
 #if __cplusplus >= 201703L
-static void optional_values_come() {
-    auto queue = msq::queue<std::string>::create(4).second;
-    expect("none", !queue.try_pop());
-    queue.try_push("here");
-    expect("one", queue.try_pop() == std::string("here"));
+template <class box> static void optional_values_come(msq::kind kind) {
+    auto queue = msq::queue<box>::create(4, kind).second;
+    expect("none of an empty queue", !queue.try_pop() && !queue.pop_wait_for(milliseconds(1)));
+    for (int number = 1; number <= 3; number++) {
+        queue.try_push(box(number));
+    }
+    const auto one = queue.try_pop(), two = queue.pop_wait_for(milliseconds(1)), three = queue.pop_wait();
+    expect("each in its order", one && two && three && **one == 1 && **two == 2 && **three == 3);
+    std::thread giver([&] {
+        for (int number = 1; number <= 1000; number++) {
+            queue.push_wait(box(number));
+        }
+        queue.close();
+    });
+    int came = 0;
+    while (auto value = came % 2 == 0 ? queue.pop_wait() : queue.pop_wait_for(std::chrono::hours(1))) {
+        came += **value == came + 1;
+    }
+    giver.join();
+    expect("each until the queue is closed", came == 1000);
+    expect("none of a closed queue", !queue.try_pop() && !queue.pop_wait() && !queue.pop_wait_for(std::chrono::hours(1)));
+    msq::queue<box> no_queue;
+    expect("none of no queue", !no_queue.try_pop() && !no_queue.pop_wait() && !no_queue.pop_wait_for(milliseconds(1)));
 }
 #endif
 
@@ -247,7 +265,11 @@ int main() {
     calls_throw();
 #endif
 #if __cplusplus >= 201703L
-    optional_values_come();
+    for (auto kind : kinds) {
+        optional_values_come<small>(kind);
+        optional_values_come<large>(kind);
+        optional_values_come<std::optional<int>>(kind);
+    }
 #endif
     std::printf("%u answers as they should be, %u not\n", right, wrong);
     return wrong != 0;

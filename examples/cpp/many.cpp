@@ -2,9 +2,12 @@
 #include "msq.hpp"
 
 #include <algorithm>
+#include <atomic>
 #include <cstdio>
+#include <mutex>
 #include <numeric>
 #include <thread>
+#include <vector>
 
 static unsigned right, wrong;
 
@@ -73,10 +76,65 @@ static void sleepers_are_woken(msq::kind kind) {
     expect("each once, in order", in_order && came == total);
 }
 
+// Two push as many as go at a call, and two pop so: each value comes once, and those of each who pushes in their order.
+static void many_pass_between_four(msq::kind kind) {
+    auto made = msq::create(kind, 128, {msq::role::giver, msq::role::giver, msq::role::taker, msq::role::taker});
+    const uint64_t total = 20000;
+    std::atomic<uint64_t> came{0};
+    std::atomic<bool> in_order{true};
+    std::vector<std::vector<uint64_t>> bodies(2);
+    std::vector<std::thread> threads;
+    std::mutex guard;
+    for (unsigned k = 0; k < 2; k++) {
+        threads.emplace_back([&, k] {
+            std::vector<uint64_t> mine(total);
+            std::iota(mine.begin(), mine.end(), 0);
+            for (size_t next = 0, count = 0; next < total; next += count) {
+                made.second[k].try_push_all(mine.data() + next, std::min<size_t>(50, total - next), count);
+                if (count == 0) {
+                    std::this_thread::yield();
+                }
+            }
+        });
+        threads.emplace_back([&, k] {
+            std::vector<msq_value> values(50);
+            std::vector<std::vector<uint64_t>> mine(2);
+            while (came < 2 * total) {
+                size_t count = 0;
+                made.second[2 + k].try_pop_up_to(values.data(), values.size(), count);
+                for (size_t v = 0; v < count; v++) {
+                    std::vector<uint64_t> &those = mine.at(values[v].from - 1u);
+                    in_order = in_order && (those.empty() || those.back() < values[v].body);
+                    those.push_back(values[v].body);
+                }
+                came += count;
+                if (count == 0) {
+                    std::this_thread::yield();
+                }
+            }
+            std::lock_guard<std::mutex> hold(guard);
+            for (unsigned from = 0; from < 2; from++) {
+                bodies[from].insert(bodies[from].end(), mine[from].begin(), mine[from].end());
+            }
+        });
+    }
+    for (auto &thread : threads) {
+        thread.join();
+    }
+    bool once = came == 2 * total;
+    for (auto &those : bodies) {
+        std::sort(those.begin(), those.end());
+        once = once && std::unique(those.begin(), those.end()) == those.end() && those.size() == total;
+    }
+    expect("each once", once);
+    expect("in the order of who pushed it", in_order);
+}
+
 int main() {
     for (auto kind : {msq::kind::non_blocking, msq::kind::two_lock, msq::kind::ring}) {
         many_pass(kind);
         sleepers_are_woken(kind);
+        many_pass_between_four(kind);
     }
     std::printf("%u answers as they should be, %u not\n", right, wrong);
     return wrong != 0;

@@ -28,6 +28,11 @@ pub fn boxed<T: Send>(
 }
 
 /// As [`boxed`], with a limit of its counts, as [`queue_with_limit`] has one.
+///
+/// ```
+/// let (mut senders, _receivers) = msq::boxed_with_limit(msq::Kind::NonBlocking, 8, 3, 1, 1).unwrap();
+/// senders[0].send(Box::new("dropped with the queue")).unwrap();
+/// ```
 pub fn boxed_with_limit<T: Send>(
     kind: Kind,
     nodes: u32,
@@ -102,6 +107,10 @@ fn unboxed<T>(address: u64) -> Box<T> {
 /// fn is_sent<T: Send>() {}
 /// is_sent::<msq::BoxSender<std::rc::Rc<u8>>>();
 /// ```
+/// ```compile_fail
+/// fn is_shared<T: Sync>() {}
+/// is_shared::<msq::BoxSender<u8>>();
+/// ```
 pub struct BoxSender<T> {
     seat: Sender,
     // (behind the seat, which is dropped first)
@@ -154,21 +163,49 @@ impl<T: Send> BoxSender<T> {
     }
 
     /// Pushes a box, in so many turns at most, 1 or more.
+    ///
+    /// ```
+    /// let (mut senders, mut receivers) = msq::boxed(msq::Kind::NonBlocking, 64, 1, 1).unwrap();
+    /// senders[0].try_push(Box::new("moved"), 8).unwrap();
+    /// senders[0].try_shut(8).unwrap();
+    /// let (refusal, back) = senders[0].try_push(Box::new("back"), 8).unwrap_err();
+    /// assert_eq!((refusal, *back), (msq::Refusal::Closed, "back"));
+    /// assert_eq!(*receivers[0].recv().unwrap(), "moved");
+    /// ```
     pub fn try_push(&mut self, value: Box<T>, turns: u32) -> Result<(), Refused<T>> {
         self.push(value, |seat, body| seat.try_push(body, turns))
     }
 
     /// Pushes a box, and sleeps while the queue is full.
+    ///
+    /// ```
+    /// let (mut senders, mut receivers) = msq::boxed(msq::Kind::NonBlocking, 64, 1, 1).unwrap();
+    /// senders[0].send(Box::new("moved")).unwrap();
+    /// assert_eq!(*receivers[0].recv().unwrap(), "moved");
+    /// ```
     pub fn send(&mut self, value: Box<T>) -> Result<(), Refused<T>> {
         self.push(value, Sender::send)
     }
 
     /// Pushes a box, and sleeps while the queue is full, for this time at most: `NoNode` after it.
+    ///
+    /// ```
+    /// use std::time::Duration;
+    /// let (mut senders, mut receivers) = msq::boxed(msq::Kind::NonBlocking, 64, 1, 1).unwrap();
+    /// senders[0].send_timeout(Box::new("moved"), Duration::from_millis(1)).unwrap();
+    /// assert_eq!(*receivers[0].recv().unwrap(), "moved");
+    /// ```
     pub fn send_timeout(&mut self, value: Box<T>, time: Duration) -> Result<(), Refused<T>> {
         self.push(value, |seat, body| seat.send_timeout(body, time))
     }
 
     /// Shuts the queue, as [`Sender::try_shut`] does.
+    ///
+    /// ```
+    /// let (mut senders, mut receivers) = msq::boxed::<String>(msq::Kind::Ring, 64, 1, 1).unwrap();
+    /// senders[0].try_shut(8).unwrap();
+    /// assert_eq!(receivers[0].recv(), Err(msq::Refusal::Closed));
+    /// ```
     pub fn try_shut(&mut self, turns: u32) -> Result<(), Refusal> {
         self.seat.try_shut(turns)
     }
@@ -176,18 +213,39 @@ impl<T: Send> BoxSender<T> {
 
 impl<T: Send> BoxReceiver<T> {
     /// Pops the box at the front, in so many turns at most, 1 or more; none where the queue was empty.
+    ///
+    /// ```
+    /// let (mut senders, mut receivers) = msq::boxed(msq::Kind::NonBlocking, 64, 1, 1).unwrap();
+    /// assert_eq!(receivers[0].try_pop(8), Ok(None));
+    /// senders[0].send(Box::new(42)).unwrap();
+    /// assert_eq!(receivers[0].try_pop(8), Ok(Some(Box::new(42))));
+    /// ```
     pub fn try_pop(&mut self, turns: u32) -> Result<Option<Box<T>>, Refusal> {
         let value = self.seat.try_pop(turns)?;
         Ok(value.map(|value| unboxed(value.body.number())))
     }
 
     /// Pops the box at the front, and sleeps while the queue is empty.
+    ///
+    /// ```
+    /// let (mut senders, mut receivers) = msq::boxed(msq::Kind::NonBlocking, 64, 1, 1).unwrap();
+    /// std::thread::scope(|scope| {
+    ///     scope.spawn(|| senders[0].send(Box::new(42)).unwrap());
+    ///     assert_eq!(receivers[0].recv(), Ok(Box::new(42)));
+    /// });
+    /// ```
     pub fn recv(&mut self) -> Result<Box<T>, Refusal> {
         let value = self.seat.recv()?;
         Ok(unboxed(value.body.number()))
     }
 
     /// Pops the box at the front, and sleeps while the queue is empty, for this time at most; none after it.
+    ///
+    /// ```
+    /// use std::time::Duration;
+    /// let (_senders, mut receivers) = msq::boxed::<String>(msq::Kind::Ring, 64, 1, 1).unwrap();
+    /// assert_eq!(receivers[0].recv_timeout(Duration::from_millis(1)), Ok(None));
+    /// ```
     pub fn recv_timeout(&mut self, time: Duration) -> Result<Option<Box<T>>, Refusal> {
         let value = self.seat.recv_timeout(time)?;
         Ok(value.map(|value| unboxed(value.body.number())))

@@ -72,6 +72,11 @@ pub enum RecvTimeoutError {
 
 impl<T> SendError<T> {
     /// The value.
+    ///
+    /// ```
+    /// let unsent = msq::channel::SendError(1);
+    /// assert_eq!(unsent.into_inner(), 1);
+    /// ```
     pub fn into_inner(self) -> T {
         self.0
     }
@@ -79,6 +84,13 @@ impl<T> SendError<T> {
 
 impl<T> TrySendError<T> {
     /// The value.
+    ///
+    /// ```
+    /// use msq::channel::{SendError, TrySendError};
+    /// let unsent = TrySendError::from(SendError(1));
+    /// assert!(unsent.is_disconnected() && !unsent.is_full());
+    /// assert_eq!(unsent.into_inner(), 1);
+    /// ```
     pub fn into_inner(self) -> T {
         match self {
             TrySendError::Full(value) | TrySendError::Disconnected(value) => value,
@@ -86,11 +98,27 @@ impl<T> TrySendError<T> {
     }
 
     /// Whether the channel is full.
+    ///
+    /// ```
+    /// let (sender, receiver) = msq::channel::bounded(8).unwrap();
+    /// while sender.try_send(1).is_ok() {}
+    /// assert!(sender.is_full() && receiver.is_full());
+    /// ```
+    ///
+    /// ```
+    /// use msq::channel::TrySendError;
+    /// assert!(TrySendError::Full(1).is_full());
+    /// ```
     pub fn is_full(&self) -> bool {
         matches!(self, TrySendError::Full(_))
     }
 
     /// Whether all receivers are gone.
+    ///
+    /// ```
+    /// use msq::channel::TrySendError;
+    /// assert!(TrySendError::Disconnected(1).is_disconnected());
+    /// ```
     pub fn is_disconnected(&self) -> bool {
         matches!(self, TrySendError::Disconnected(_))
     }
@@ -98,6 +126,12 @@ impl<T> TrySendError<T> {
 
 impl<T> SendTimeoutError<T> {
     /// The value.
+    ///
+    /// ```
+    /// let unsent = msq::channel::SendTimeoutError::Timeout(1);
+    /// assert!(unsent.is_timeout() && !unsent.is_disconnected());
+    /// assert_eq!(unsent.into_inner(), 1);
+    /// ```
     pub fn into_inner(self) -> T {
         match self {
             SendTimeoutError::Timeout(value) | SendTimeoutError::Disconnected(value) => value,
@@ -105,13 +139,90 @@ impl<T> SendTimeoutError<T> {
     }
 
     /// Whether the channel was full for all that time.
+    ///
+    /// ```
+    /// use msq::channel::SendTimeoutError;
+    /// assert!(SendTimeoutError::Timeout(1).is_timeout());
+    /// ```
     pub fn is_timeout(&self) -> bool {
         matches!(self, SendTimeoutError::Timeout(_))
     }
 
     /// Whether all receivers are gone.
+    ///
+    /// ```
+    /// use msq::channel::SendTimeoutError;
+    /// assert!(SendTimeoutError::Disconnected(1).is_disconnected());
+    /// ```
     pub fn is_disconnected(&self) -> bool {
         matches!(self, SendTimeoutError::Disconnected(_))
+    }
+}
+
+impl TryRecvError {
+    /// Whether the channel is empty, and senders are left.
+    ///
+    /// ```
+    /// let (_sender, receiver) = msq::channel::bounded::<String>(8).unwrap();
+    /// assert!(receiver.try_recv().unwrap_err().is_empty());
+    /// ```
+    pub fn is_empty(&self) -> bool {
+        *self == TryRecvError::Empty
+    }
+
+    /// Whether the channel is empty, and all senders are gone.
+    ///
+    /// ```
+    /// let (sender, receiver) = msq::channel::bounded::<String>(8).unwrap();
+    /// drop(sender);
+    /// assert!(receiver.try_recv().unwrap_err().is_disconnected());
+    /// ```
+    pub fn is_disconnected(&self) -> bool {
+        *self == TryRecvError::Disconnected
+    }
+}
+
+impl RecvTimeoutError {
+    /// Whether the channel was empty for all that time.
+    ///
+    /// ```
+    /// assert!(msq::channel::RecvTimeoutError::Timeout.is_timeout());
+    /// ```
+    pub fn is_timeout(&self) -> bool {
+        *self == RecvTimeoutError::Timeout
+    }
+
+    /// Whether the channel is empty, and all senders are gone.
+    ///
+    /// ```
+    /// assert!(msq::channel::RecvTimeoutError::Disconnected.is_disconnected());
+    /// ```
+    pub fn is_disconnected(&self) -> bool {
+        *self == RecvTimeoutError::Disconnected
+    }
+}
+
+impl<T> From<SendError<T>> for TrySendError<T> {
+    fn from(SendError(value): SendError<T>) -> TrySendError<T> {
+        TrySendError::Disconnected(value)
+    }
+}
+
+impl<T> From<SendError<T>> for SendTimeoutError<T> {
+    fn from(SendError(value): SendError<T>) -> SendTimeoutError<T> {
+        SendTimeoutError::Disconnected(value)
+    }
+}
+
+impl From<RecvError> for TryRecvError {
+    fn from(_: RecvError) -> TryRecvError {
+        TryRecvError::Disconnected
+    }
+}
+
+impl From<RecvError> for RecvTimeoutError {
+    fn from(_: RecvError) -> RecvTimeoutError {
+        RecvTimeoutError::Disconnected
     }
 }
 
@@ -218,6 +329,12 @@ pub fn bounded<T: Send>(capacity: u32) -> Result<(Sender<T>, Receiver<T>), Refus
 
 /// As [`bounded`], with so many seats: of more threads that are in a call at one time, some wait for others to leave it. A thread
 /// that sleeps is in none.
+///
+/// ```
+/// let (sender, receiver) = msq::channel::bounded_for(8, 4).unwrap();
+/// sender.send(1).unwrap();
+/// assert_eq!(receiver.recv(), Ok(1));
+/// ```
 pub fn bounded_for<T: Send>(
     capacity: u32,
     threads: u16,
@@ -263,6 +380,14 @@ pub fn bounded_of<T: Send>(
 /// is_shared(&sender);
 /// is_shared(&receiver);
 /// ```
+/// ```compile_fail
+/// fn is_shared<T: Sync>() {}
+/// is_shared::<msq::channel::Sender<std::rc::Rc<u8>>>();
+/// ```
+/// ```compile_fail
+/// fn is_sent<T: Send>() {}
+/// is_sent::<msq::channel::Receiver<std::rc::Rc<u8>>>();
+/// ```
 pub struct Sender<T> {
     shared: Arc<Shared<T>>,
 }
@@ -305,11 +430,27 @@ impl<T> Sender<T> {
     }
 
     /// Sends a value, and sleeps while the channel is full, for this time at most.
+    ///
+    /// ```
+    /// use std::time::Duration;
+    /// let (sender, _receiver) = msq::channel::bounded(1).unwrap();
+    /// while sender.try_send(1).is_ok() {}
+    /// assert!(sender.send_timeout(2, Duration::from_millis(1)).unwrap_err().is_timeout());
+    /// ```
     pub fn send_timeout(&self, value: T, time: Duration) -> Result<(), SendTimeoutError<T>> {
         self.send_in_time(value, after(time))
     }
 
     /// Sends a value, and sleeps while the channel is full, until this moment at most.
+    ///
+    /// ```
+    /// use std::time::{Duration, Instant};
+    /// let (sender, receiver) = msq::channel::bounded(8).unwrap();
+    /// sender.send_deadline(1, Instant::now() + Duration::from_millis(1)).unwrap();
+    /// drop(receiver);
+    /// let unsent = sender.send_deadline(2, Instant::now()).unwrap_err();
+    /// assert!(unsent.is_disconnected());
+    /// ```
     pub fn send_deadline(&self, value: T, until: Instant) -> Result<(), SendTimeoutError<T>> {
         self.send_in_time(value, Some(until))
     }
@@ -329,6 +470,14 @@ impl<T> Sender<T> {
 
 impl<T> Receiver<T> {
     /// Receives the value at the front, and sleeps while the channel is empty.
+    ///
+    /// ```
+    /// let (sender, receiver) = msq::channel::bounded(8).unwrap();
+    /// std::thread::scope(|scope| {
+    ///     scope.spawn(|| sender.send("here").unwrap());
+    ///     assert_eq!(receiver.recv(), Ok("here"));
+    /// });
+    /// ```
     pub fn recv(&self) -> Result<T, RecvError> {
         loop {
             match self.shared.queue.pop_until(None) {
@@ -357,11 +506,28 @@ impl<T> Receiver<T> {
     }
 
     /// Receives the value at the front, and sleeps while the channel is empty, for this time at most.
+    ///
+    /// ```
+    /// use msq::channel::RecvTimeoutError;
+    /// use std::time::Duration;
+    /// let (sender, receiver) = msq::channel::bounded::<String>(8).unwrap();
+    /// let time = Duration::from_millis(1);
+    /// assert_eq!(receiver.recv_timeout(time), Err(RecvTimeoutError::Timeout));
+    /// drop(sender);
+    /// assert_eq!(receiver.recv_timeout(time), Err(RecvTimeoutError::Disconnected));
+    /// ```
     pub fn recv_timeout(&self, time: Duration) -> Result<T, RecvTimeoutError> {
         self.recv_in_time(after(time))
     }
 
     /// Receives the value at the front, and sleeps while the channel is empty, until this moment at most.
+    ///
+    /// ```
+    /// use std::time::{Duration, Instant};
+    /// let (sender, receiver) = msq::channel::bounded(8).unwrap();
+    /// sender.send(1).unwrap();
+    /// assert_eq!(receiver.recv_deadline(Instant::now() + Duration::from_secs(1)), Ok(1));
+    /// ```
     pub fn recv_deadline(&self, until: Instant) -> Result<T, RecvTimeoutError> {
         self.recv_in_time(Some(until))
     }
@@ -375,6 +541,12 @@ impl<T> Receiver<T> {
     }
 
     /// The values that come, which sleeps while there is none, until all senders are gone.
+    ///
+    /// ```
+    /// let (sender, receiver) = msq::channel::bounded(8).unwrap();
+    /// std::thread::spawn(move || (1..=100).for_each(|number| sender.send(number).unwrap()));
+    /// assert_eq!(receiver.iter().sum::<u32>(), 5050);
+    /// ```
     pub fn iter(&self) -> Iter<'_, T> {
         Iter { receiver: self }
     }
@@ -411,6 +583,13 @@ macro_rules! ends {
             }
 
             /// Whether the channel is empty.
+            ///
+            /// ```
+            /// let (sender, receiver) = msq::channel::bounded(8).unwrap();
+            /// assert!(sender.is_empty());
+            /// sender.send(1).unwrap();
+            /// assert!(!receiver.is_empty());
+            /// ```
             pub fn is_empty(&self) -> bool {
                 self.shared.queue.is_empty()
             }
@@ -421,11 +600,24 @@ macro_rules! ends {
             }
 
             /// How many values there is room for at least.
+            ///
+            /// ```
+            /// let (sender, receiver) = msq::channel::bounded(8).unwrap();
+            /// sender.send(1).unwrap();
+            /// assert_eq!((sender.capacity(), receiver.capacity()), (Some(8), Some(8)));
+            /// ```
             pub fn capacity(&self) -> Option<usize> {
                 usize::try_from(self.shared.queue.capacity()).ok()
             }
 
             /// Whether both are ends of one channel.
+            ///
+            /// ```
+            /// let (sender, receiver) = msq::channel::bounded(8).unwrap();
+            /// sender.send(1).unwrap();
+            /// assert!(sender.same_channel(&sender.clone()));
+            /// assert!(receiver.same_channel(&receiver.clone()));
+            /// ```
             pub fn same_channel(&self, other: &$end<T>) -> bool {
                 Arc::ptr_eq(&self.shared, &other.shared)
             }

@@ -55,6 +55,11 @@ impl fmt::Debug for SeatPool {
 
 impl SeatPool {
     /// A queue with so many nodes, and so many seats that push and that pop, as [`queue`](crate::queue) makes it.
+    ///
+    /// ```
+    /// let pool = msq::SeatPool::new(msq::Kind::NonBlocking, 64, 4, 1).unwrap();
+    /// assert!(pool.sender().is_some());
+    /// ```
     pub fn new(
         kind: Kind,
         nodes: u32,
@@ -65,6 +70,11 @@ impl SeatPool {
     }
 
     /// As [`queue_with_limit`] makes it: for tests.
+    ///
+    /// ```
+    /// let pool = msq::SeatPool::with_limit(msq::Kind::NonBlocking, 8, 3, 4, 1).unwrap();
+    /// assert!(pool.sender().unwrap().left().pushes <= 3);
+    /// ```
     pub fn with_limit(
         kind: Kind,
         nodes: u32,
@@ -80,17 +90,43 @@ impl SeatPool {
     }
 
     /// A seat that pushes, until the lease is dropped; none where each was found leased.
+    ///
+    /// ```
+    /// let pool = msq::SeatPool::new(msq::Kind::NonBlocking, 64, 1, 1).unwrap();
+    /// let one = pool.sender();
+    /// assert!(one.is_some() && pool.sender().is_none());
+    /// drop(one);
+    /// assert!(pool.sender().is_some());
+    /// ```
     pub fn sender(&self) -> Option<Lease<Sender>> {
         Lease::of(&self.senders)
     }
 
     /// A seat that pops, until the lease is dropped; none where each was found leased.
+    ///
+    /// ```
+    /// let pool = msq::SeatPool::new(msq::Kind::NonBlocking, 64, 1, 1).unwrap();
+    /// pool.sender().unwrap().send(msq::Body::from(42)).unwrap();
+    /// assert_eq!(pool.receiver().unwrap().recv().unwrap().body.number(), 42);
+    /// ```
     pub fn receiver(&self) -> Option<Lease<Receiver>> {
         Lease::of(&self.receivers)
     }
 }
 
-/// A seat that was leased: a [`Sender`] or a [`Receiver`]. A drop gives it back, with what it has seen.
+/// A seat that was leased: a [`Sender`] or a [`Receiver`]. A drop gives it back, with what it has seen. Threads share a pool, and a
+/// lease is one thread's at a time:
+///
+/// ```
+/// fn is_sent<T: Send>() {}
+/// fn is_shared<T: Sync>() {}
+/// is_shared::<msq::SeatPool>();
+/// is_sent::<msq::Lease<msq::Sender>>();
+/// ```
+/// ```compile_fail
+/// fn is_shared<T: Sync>() {}
+/// is_shared::<msq::Lease<msq::Sender>>();
+/// ```
 pub struct Lease<S> {
     home: Arc<Places<S>>,
     index: usize,

@@ -48,6 +48,11 @@ impl Body {
     pub const MOST: u64 = (1 << 48) - 1;
 
     /// The body of this number; none from 2^48 on.
+    ///
+    /// ```
+    /// assert_eq!(msq::Body::new(42).unwrap().number(), 42);
+    /// assert_eq!(msq::Body::new(1 << 48), None);
+    /// ```
     pub const fn new(number: u64) -> Option<Body> {
         if number <= Body::MOST {
             Some(Body(number))
@@ -57,6 +62,10 @@ impl Body {
     }
 
     /// Its number.
+    ///
+    /// ```
+    /// assert_eq!(msq::Body::from(42).number(), 42);
+    /// ```
     pub const fn number(self) -> u64 {
         self.0
     }
@@ -232,6 +241,10 @@ impl Drop for Seat {
 /// fn is_shared<T: Sync>() {}
 /// is_shared::<msq::Sender>();
 /// ```
+/// ```compile_fail
+/// fn is_copied<T: Clone>() {}
+/// is_copied::<msq::Sender>();
+/// ```
 pub struct Sender {
     seat: Seat,
 }
@@ -264,6 +277,12 @@ impl fmt::Debug for Receiver {
 
 /// A queue with so many nodes, from 2 on, and so many seats that push and that pop. There is room for one value less than
 /// there are nodes, and each seat may keep one node. The fewer nodes, the longer it lasts: see docs/QUEUES.md.
+///
+/// ```
+/// let (senders, receivers) = msq::queue(msq::Kind::Ring, 64, 3, 2).unwrap();
+/// assert_eq!((senders.len(), receivers.len()), (3, 2));
+/// assert_eq!(msq::queue(msq::Kind::Ring, 1, 3, 2).err(), Some(msq::Refusal::BadSize));
+/// ```
 pub fn queue(
     kind: Kind,
     nodes: u32,
@@ -276,6 +295,17 @@ pub fn queue(
 /// As [`queue`], with a limit of its counts, from 1 on: for tests, as a smaller one only wears out sooner. One above the
 /// greatest count that so many nodes leave room for is lowered to that. At an even limit a worn queue may be refused `NoNode`
 /// for good.
+///
+/// ```
+/// let (mut senders, mut receivers) = msq::queue_with_limit(msq::Kind::NonBlocking, 8, 3, 1, 1).unwrap();
+/// let refusal = loop {
+///     let sent = senders[0].send(msq::Body::from(42));
+///     if let Err(refusal) = sent.and_then(|()| receivers[0].recv()) {
+///         break refusal;
+///     }
+/// };
+/// assert!(matches!(refusal, msq::Refusal::WornOut(_)));
+/// ```
 pub fn queue_with_limit(
     kind: Kind,
     nodes: u32,
@@ -300,23 +330,57 @@ pub fn queue_with_limit(
 
 impl Sender {
     /// Pushes a body, in so many turns at most, 1 or more.
+    ///
+    /// ```
+    /// let (mut senders, mut receivers) = msq::queue(msq::Kind::NonBlocking, 64, 1, 1).unwrap();
+    /// assert_eq!(senders[0].try_push(msq::Body::from(42), 8), Ok(()));
+    /// assert_eq!(receivers[0].try_pop(8).unwrap().unwrap().body.number(), 42);
+    /// ```
     pub fn try_push(&mut self, body: Body, turns: u32) -> Result<(), Refusal> {
         push(&mut self.seat.raw, &self.seat.bells, body, turns)
     }
 
     /// Pushes a body, and sleeps while the queue is full, until a pop or a shut wakes it. Refused `Closed` or `WornOut`.
+    ///
+    /// ```
+    /// use msq::{Body, Refusal};
+    /// let (mut senders, mut receivers) = msq::queue(msq::Kind::NonBlocking, 64, 1, 1).unwrap();
+    /// senders[0].send(Body::from(42)).unwrap();
+    /// senders[0].try_shut(8).unwrap();
+    /// assert_eq!(senders[0].send(Body::from(43)), Err(Refusal::Closed));
+    /// ```
     pub fn send(&mut self, body: Body) -> Result<(), Refusal> {
         self.seat.send(body, None)
     }
 
     /// As [`Sender::send`], for this time at most; then it tries once more: refused also `NoNode`, or `Busy` where others
     /// were in the way of that last try.
+    ///
+    /// ```
+    /// use std::time::Duration;
+    /// let (mut senders, _receivers) = msq::queue(msq::Kind::NonBlocking, 2, 1, 1).unwrap();
+    /// let refusal = loop {
+    ///     if let Err(refusal) = senders[0].send_timeout(msq::Body::from(42), Duration::from_millis(1)) {
+    ///         break refusal;
+    ///     }
+    /// };
+    /// assert_eq!(refusal, msq::Refusal::NoNode);
+    /// ```
     pub fn send_timeout(&mut self, body: Body, time: Duration) -> Result<(), Refusal> {
         self.seat.send(body, bells::after(time))
     }
 
     /// Shuts the queue, in so many turns at most, 1 or more: no push comes after it, and what is in it stays to be popped.
     /// `Closed` where it was shut before. All that sleep are woken.
+    ///
+    /// ```
+    /// let (mut senders, mut receivers) = msq::queue(msq::Kind::NonBlocking, 64, 1, 1).unwrap();
+    /// senders[0].send(msq::Body::from(42)).unwrap();
+    /// senders[0].try_shut(8).unwrap();
+    /// assert_eq!(senders[0].try_shut(8), Err(msq::Refusal::Closed));
+    /// assert!(receivers[0].recv().is_ok());
+    /// assert_eq!(receivers[0].recv(), Err(msq::Refusal::Closed));
+    /// ```
     pub fn try_shut(&mut self, turns: u32) -> Result<(), Refusal> {
         // SAFETY: the seat is full, and borrowed for this call alone.
         let code = unsafe { raw::msq_try_shut(&mut self.seat.raw, turns) };
@@ -326,6 +390,13 @@ impl Sender {
 
 impl Receiver {
     /// Pops the value at the front, in so many turns at most, 1 or more; none where the queue was empty.
+    ///
+    /// ```
+    /// let (mut senders, mut receivers) = msq::queue(msq::Kind::NonBlocking, 64, 1, 1).unwrap();
+    /// assert_eq!(receivers[0].try_pop(8), Ok(None));
+    /// senders[0].send(msq::Body::from(42)).unwrap();
+    /// assert_eq!(receivers[0].try_pop(8).unwrap().unwrap().from, 1);
+    /// ```
     pub fn try_pop(&mut self, turns: u32) -> Result<Option<Value>, Refusal> {
         pop(&mut self.seat.raw, &self.seat.bells, turns)
     }
@@ -350,6 +421,14 @@ impl Receiver {
 
     /// As [`Receiver::recv`], for this time at most; then it looks once more: none where the queue was empty, and refused
     /// also `Busy`, where others were in the way of that last look.
+    ///
+    /// ```
+    /// use std::time::Duration;
+    /// let (mut senders, mut receivers) = msq::queue(msq::Kind::NonBlocking, 64, 1, 1).unwrap();
+    /// assert_eq!(receivers[0].recv_timeout(Duration::from_millis(1)), Ok(None));
+    /// senders[0].send(msq::Body::from(42)).unwrap();
+    /// assert!(receivers[0].recv_timeout(Duration::MAX).unwrap().is_some());
+    /// ```
     pub fn recv_timeout(&mut self, time: Duration) -> Result<Option<Value>, Refusal> {
         self.seat.recv(bells::after(time))
     }

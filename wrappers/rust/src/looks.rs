@@ -82,17 +82,37 @@ macro_rules! looks {
     ($who:ident) => {
         impl $who {
             /// Whether the queue holds a value.
+            ///
+            /// ```
+            /// use msq::Emptiness;
+            /// let (mut senders, mut receivers) = msq::queue(msq::Kind::NonBlocking, 64, 1, 1).unwrap();
+            /// assert_eq!(receivers[0].emptiness(), Emptiness::Empty);
+            /// senders[0].send(msq::Body::from(42)).unwrap();
+            /// assert_eq!(senders[0].emptiness(), Emptiness::Holds);
+            /// ```
             pub fn emptiness(&mut self) -> Emptiness {
                 self.seat.emptiness()
             }
 
             /// How many values it holds; none exactly of a two-lock queue, of which that can't be told.
+            ///
+            /// ```
+            /// let (mut senders, mut receivers) = msq::queue(msq::Kind::NonBlocking, 64, 1, 1).unwrap();
+            /// senders[0].send(msq::Body::from(42)).unwrap();
+            /// assert_eq!(receivers[0].len(), Some(msq::Length { least: 1, most: 1 }));
+            /// ```
             #[allow(clippy::len_without_is_empty)]
             pub fn len(&mut self) -> Option<Length> {
                 self.seat.len()
             }
 
             /// How many pushes it has left.
+            ///
+            /// ```
+            /// let (mut senders, mut receivers) = msq::queue(msq::Kind::NonBlocking, 64, 1, 1).unwrap();
+            /// assert!(senders[0].left().pushes > 1 << 40);
+            /// assert!(receivers[0].left().pushes > 1 << 40);
+            /// ```
             pub fn left(&mut self) -> Left {
                 self.seat.left()
             }

@@ -2,8 +2,9 @@
 use crate::{answer, raw, Body, Receiver, Refusal, Sender, Value};
 
 impl Sender {
-    /// Pushes these bodies in their order, each in so many turns at most, 1 or more, until one is refused: how many were pushed, and
-    /// why no more were. Pushes of other seats may come between.
+    /// Pushes these bodies in their order until one is refused: how many were pushed, and why no more were. To a ring as many go at
+    /// one step as the seat has in reserve, up to 32; otherwise each goes by itself. A step has so many turns, 1 or more. Pushes of
+    /// other seats may come between two steps.
     ///
     /// ```
     /// let (mut senders, mut receivers) = msq::queue(msq::Kind::Ring, 64, 1, 1).unwrap();
@@ -31,8 +32,16 @@ impl Sender {
 }
 
 impl Receiver {
-    /// Pops values, so many at most, each in so many turns at most, 1 or more, until the queue is empty or a pop is refused: those that
-    /// were popped, in their order, and why it was refused. Takes memory for so many values first.
+    /// Pops values, so many at most, until the queue is empty or a pop is refused: those that were popped, in their order, and why it
+    /// was refused. From a ring up to 32 come at one step; otherwise each comes by itself. A step has so many turns, 1 or more. Takes
+    /// memory for so many values first.
+    ///
+    /// ```
+    /// let (mut senders, mut receivers) = msq::queue(msq::Kind::NonBlocking, 64, 1, 1).unwrap();
+    /// senders[0].send(msq::Body::from(42)).unwrap();
+    /// let (values, told) = receivers[0].try_pop_up_to(8, 8);
+    /// assert_eq!((values.len(), told), (1, Ok(())));
+    /// ```
     pub fn try_pop_up_to(&mut self, most: usize, turns: u32) -> (Vec<Value>, Result<(), Refusal>) {
         let mut found = vec![raw::Value { body: 0, from: 0 }; most];
         let mut count = 0;

@@ -45,6 +45,19 @@ pub struct PushError<T> {
     pub value: T,
 }
 
+impl<T> PushError<T> {
+    /// The value.
+    ///
+    /// ```
+    /// let queue = msq::Queue::new(8).unwrap();
+    /// queue.close().unwrap();
+    /// assert_eq!(queue.push(1).unwrap_err().into_inner(), 1);
+    /// ```
+    pub fn into_inner(self) -> T {
+        self.value
+    }
+}
+
 impl<T> fmt::Debug for PushError<T> {
     fn fmt(&self, f: &mut fmt::Formatter<'_>) -> fmt::Result {
         write!(f, "PushError({:?}, ..)", self.refusal)
@@ -65,12 +78,24 @@ fn unpushed<T>((refusal, value): (Refusal, T)) -> PushError<T> {
 
 impl<T: Send> Queue<T> {
     /// A non-blocking queue with room for so many values at least, 1 or more. Refused `BadSize` or `Memory`.
+    ///
+    /// ```
+    /// let queue = msq::Queue::new(8).unwrap();
+    /// queue.push("text").unwrap();
+    /// assert_eq!(msq::Queue::<String>::new(0).err(), Some(msq::Refusal::BadSize));
+    /// ```
     pub fn new(capacity: u32) -> Result<Queue<T>, Refusal> {
         Queue::of(Kind::NonBlocking, capacity, THREADS)
     }
 
     /// A queue of this kind, with so many seats: of more threads that are in a call at one time, some wait for others to leave it.
     /// A thread that sleeps is in none.
+    ///
+    /// ```
+    /// let queue = msq::Queue::of(msq::Kind::Ring, 8, 4).unwrap();
+    /// queue.push("text").unwrap();
+    /// assert_eq!(queue.pop(), Ok(Some("text")));
+    /// ```
     pub fn of(kind: Kind, capacity: u32, threads: u16) -> Result<Queue<T>, Refusal> {
         Ok(Queue {
             queue: Pooled::new(kind, capacity, threads)?,
@@ -95,21 +120,52 @@ impl<T> Queue<T> {
     }
 
     /// Pushes a value, and sleeps while the queue is full. Refused `Closed`.
+    ///
+    /// ```
+    /// let queue = msq::Queue::new(1).unwrap();
+    /// std::thread::scope(|scope| {
+    ///     scope.spawn(|| (1..=100).for_each(|number| queue.push_wait(number).unwrap()));
+    ///     assert!((1..=100).all(|number| queue.pop_wait() == Some(number)));
+    /// });
+    /// ```
     pub fn push_wait(&self, value: T) -> Result<(), PushError<T>> {
         self.queue.push_until(value, None).map_err(unpushed)
     }
 
     /// The same, for this time at most; refused `NoNode` after it.
+    ///
+    /// ```
+    /// use std::time::Duration;
+    /// let queue = msq::Queue::new(1).unwrap();
+    /// while queue.push(1).is_ok() {}
+    /// let unpushed = queue.push_timeout(2, Duration::from_millis(1)).unwrap_err();
+    /// assert_eq!((unpushed.refusal, unpushed.value), (msq::Refusal::NoNode, 2));
+    /// ```
     pub fn push_timeout(&self, value: T, time: Duration) -> Result<(), PushError<T>> {
         self.queue.push_until(value, after(time)).map_err(unpushed)
     }
 
     /// Pops the value at the front; none where the queue is empty. Refused `Closed` where it is closed too.
+    ///
+    /// ```
+    /// let queue = msq::Queue::new(8).unwrap();
+    /// assert_eq!(queue.pop(), Ok(None));
+    /// queue.push(1).unwrap();
+    /// assert_eq!(queue.pop(), Ok(Some(1)));
+    /// ```
     pub fn pop(&self) -> Result<Option<T>, Refusal> {
         self.queue.try_pop()
     }
 
     /// Pops the value at the front, and sleeps while the queue is empty; none where it is closed too, or worn.
+    ///
+    /// ```
+    /// let queue = msq::Queue::new(8).unwrap();
+    /// queue.push(1).unwrap();
+    /// queue.close().unwrap();
+    /// assert_eq!(queue.pop_wait(), Some(1));
+    /// assert_eq!(queue.pop_wait(), None);
+    /// ```
     pub fn pop_wait(&self) -> Option<T> {
         loop {
             match self.queue.pop_until(None) {
@@ -120,27 +176,97 @@ impl<T> Queue<T> {
     }
 
     /// Pops the value at the front, and sleeps while the queue is empty, for this time at most; none after it. Refused `Closed`.
+    ///
+    /// ```
+    /// use std::time::Duration;
+    /// let queue = msq::Queue::<String>::new(8).unwrap();
+    /// assert_eq!(queue.pop_timeout(Duration::from_millis(1)), Ok(None));
+    /// ```
     pub fn pop_timeout(&self, time: Duration) -> Result<Option<T>, Refusal> {
         self.queue.pop_until(after(time))
     }
 
     /// Closes the queue: no push comes after it, and what is in it stays to be popped. All that sleep are woken. Refused
     /// `Closed` where it was closed before.
+    ///
+    /// ```
+    /// let queue = msq::Queue::new(8).unwrap();
+    /// queue.push(1).unwrap();
+    /// queue.close().unwrap();
+    /// assert!(queue.push(2).is_err());
+    /// assert_eq!(queue.pop_wait(), Some(1));
+    /// ```
     pub fn close(&self) -> Result<(), Refusal> {
         self.queue.shut()
     }
 
     /// Bounds of how many values the queue held at a moment of the call; none of the two-lock queue.
+    ///
+    /// ```
+    /// let queue = msq::Queue::new(8).unwrap();
+    /// queue.push(1).unwrap();
+    /// assert_eq!(queue.len(), Some(msq::Length { least: 1, most: 1 }));
+    /// ```
     pub fn len(&self) -> Option<Length> {
         self.queue.len()
     }
 
     /// Whether the queue held no value at a moment of the call.
+    ///
+    /// ```
+    /// let queue = msq::Queue::new(8).unwrap();
+    /// assert!(queue.is_empty());
+    /// queue.push(1).unwrap();
+    /// assert!(!queue.is_empty());
+    /// ```
     pub fn is_empty(&self) -> bool {
         self.queue.is_empty()
     }
 
+    /// Whether the queue held as many values as there is room for at least; none of the two-lock queue, which counts no length.
+    ///
+    /// ```
+    /// let queue = msq::Queue::new(8).unwrap();
+    /// while queue.push(1).is_ok() {}
+    /// assert_eq!(queue.is_full(), Some(true));
+    /// ```
+    pub fn is_full(&self) -> Option<bool> {
+        let held = self.len()?;
+        Some(held.least >= u64::from(self.capacity()))
+    }
+
+    /// The values that come, which sleeps while there is none, until the queue is closed and empty.
+    ///
+    /// ```
+    /// let queue = msq::Queue::new(8).unwrap();
+    /// std::thread::scope(|scope| {
+    ///     scope.spawn(|| {
+    ///         (1..=100).for_each(|number| queue.push_wait(number).unwrap());
+    ///         queue.close().unwrap();
+    ///     });
+    ///     assert!(queue.iter().eq(1..=100));
+    /// });
+    /// ```
+    pub fn iter(&self) -> impl Iterator<Item = T> + '_ {
+        std::iter::from_fn(|| self.pop_wait())
+    }
+
+    /// The values that are there, until the queue is found empty.
+    ///
+    /// ```
+    /// let queue = msq::Queue::new(8).unwrap();
+    /// (1..=3).for_each(|number| queue.push(number).unwrap());
+    /// assert!(queue.try_iter().eq(1..=3));
+    /// ```
+    pub fn try_iter(&self) -> impl Iterator<Item = T> + '_ {
+        std::iter::from_fn(|| self.pop().ok().flatten())
+    }
+
     /// How many values there is room for at least.
+    ///
+    /// ```
+    /// assert_eq!(msq::Queue::<String>::new(8).unwrap().capacity(), 8);
+    /// ```
     pub fn capacity(&self) -> u32 {
         self.queue.capacity()
     }

@@ -79,6 +79,21 @@ fn many_pass_at_one_call() {
 }
 
 #[test]
+fn more_pass_than_go_at_one_step() {
+    for kind in KINDS {
+        let (mut senders, mut receivers) = msq::queue(kind, 100, 1, 1).unwrap();
+        let bodies: Vec<Body> = (0..90).map(Body::from).collect();
+        assert_eq!(senders[0].try_push_all(&bodies, 8), (90, Ok(())));
+        let (first, told) = receivers[0].try_pop_up_to(50, 8);
+        assert_eq!((first.len(), told), (50, Ok(())));
+        let (rest, told) = receivers[0].try_pop_up_to(50, 8);
+        assert_eq!((rest.len(), told), (40, Ok(())), "empty behind them");
+        let came = first.iter().chain(&rest).map(|value| value.body);
+        assert!(came.eq(bodies), "in their order");
+    }
+}
+
+#[test]
 fn a_queue_answers() {
     for kind in KINDS {
         let queue = Queue::of(kind, 2, 1).unwrap();
