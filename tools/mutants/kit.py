@@ -8,7 +8,9 @@ LibraryOfRt name each part that is used; another kit has to keep these, or this 
     rt.rtlib.crates_below(folder)                 the crates of crates.txt, each after those that it stands on
     rt.rtlib.RATTLE                               the checker, with the commands and flags of Kit.check
     a crate's folder, name, rlib, said, deps      where it and its built library are, and what its line of crates.txt says
-    a crate's below(), words(flags, keeps)        the libraries below it, each after those that it uses, and a check's words
+    a crate's below()                             the libraries below it, each after those that it uses
+    a crate's words(flags, keeps, as_source)      a check's words, also over the sources of these libraries
+    a crate's is_built()                          whether its library is built as its sources are
     a crate's out, build_rlib(flags, anew)        where it prints, and the build of its library
     a crate's has_tests()                         whether it has tests
     a crate's stamp()                             a digest of what its library is made of (tools/stamps)
@@ -48,7 +50,9 @@ class LibraryOfRt(Protocol):
 
     def below(self) -> list["LibraryOfRt"]: ...
 
-    def words(self, flags: list[str], tests: bool = False, keeps: bool = True) -> list[str]: ...
+    def words(self, flags: list[str], tests: bool = False, keeps: bool = True, as_source: bool = False) -> list[str]: ...
+
+    def is_built(self) -> bool: ...
 
     def build_rlib(self, flags: list[str], anew: bool) -> int: ...
 
@@ -97,6 +101,17 @@ class Kit:
             [*lib.guarded(), *words], cwd=folder, stdin=subprocess.DEVNULL, stdout=subprocess.PIPE, stderr=subprocess.STDOUT, errors="replace"
         )
         return ran.returncode, ran.stdout.rstrip("\n")
+
+    def read(self, crate: LibraryOfRt, folder: str) -> str:
+        """Has the checker read a copy of a crate in a folder, and prove nothing: over the libraries below it where all are built, else over
+        their sources. Returns what it said."""
+        as_source = not all(it.is_built() for it in crate.below())
+        words = crate.words(["--jobs", "1", "--only", "", "--allow-holes"], keeps=False, as_source=as_source)
+        ran = subprocess.run(
+            [*self.rt.rtlib.guarded(), self.rt.rtlib.RATTLE, "check", *words],
+            cwd=folder, stdin=subprocess.DEVNULL, stdout=subprocess.PIPE, stderr=subprocess.STDOUT, errors="replace",
+        )
+        return ran.stdout.rstrip("\n")
 
     def build(self, crate: LibraryOfRt) -> None:
         """Builds a crate's library where it has changed; what the checker says is shown only where it refuses the library."""

@@ -11,7 +11,7 @@ from mutants.keys import keys_of, units_of
 from mutants.kit import Kit, have_libraries, stop
 from mutants.record import Record
 from mutants.report import Report
-from mutants.runs import try_all, try_alone, try_true
+from mutants.runs import try_all, try_alone, try_read, try_true
 from mutants.trials import Trials
 from mutants.turns import MINUTES, Ceiling, Rank, is_due, number, own_change, seed_at
 
@@ -46,6 +46,7 @@ def words_told(head: str) -> argparse.Namespace:
     told.add_argument("--alone", action="store_true", help="try each of these edits in a check of its own")
     told.add_argument("--groups", action="store_true", help="only show which edits are tried together")
     told.add_argument("--true-bodies", action="store_true", help="check the functions without their edits, which must be proved")
+    told.add_argument("--read", action="store_true", help="only look that the checker can read the edits, and prove nothing")
     told.add_argument("--over-out", action="store_true", help="over what rt check kept in out/")
     told.add_argument("--all", action="store_true", help="try those too that the record has as refused, however long it takes")
     told.add_argument("--new", action="store_true", help="try only what the record doesn't have")
@@ -54,8 +55,8 @@ def words_told(head: str) -> argparse.Namespace:
     told.add_argument("--minutes", type=float, metavar="N", help=f"try for at most so many processor minutes ({MINUTES:.0f}; with --all or --alone, all)")
     told.add_argument("--jobs", type=int, metavar="N", help="so many checks at a time (one a processor)")
     words = told.parse_args()
-    if words.record and (words.groups or words.true_bodies or words.over_out):
-        told.error("--record goes with none of --groups, --true-bodies and --over-out: the record is of edits tried from nothing")
+    if words.record and (words.groups or words.read or words.true_bodies or words.over_out):
+        told.error("--record goes with none of --groups, --read, --true-bodies and --over-out: the record is of edits tried from nothing")
     return words
 
 
@@ -77,7 +78,7 @@ class Recorded:
         self.trials = [Trials(kit, it, chosen[it.folder], words.over_out) for it in crates if chosen.get(it.folder)]
         self.records = {it.name: Record(it.folder) for it in crates if it.folder in chosen and (chosen[it.folder] or not words.alone)}
         self.folders = {it.name: it.folder for it in crates}
-        self.keys = {} if words.groups or words.true_bodies else self.keys_now()
+        self.keys = {} if words.groups or words.read or words.true_bodies else self.keys_now()
         self.seed = seed_at(self.top)
         self.untried = 0
 
@@ -161,15 +162,16 @@ def main(head: str) -> int:
             for group in it.groups():
                 print(f"{it.crate.name}: {' '.join(e.name for e in group)}")
         return 0
-    is_recorded = not words.true_bodies
+    is_recorded = not (words.read or words.true_bodies)
     if is_recorded:
         recorded.choose(report)
         recorded.tell_gone(report)
     else:
         recorded.trials.sort(key=recorded.draw)
-    have_libraries(kit, [it.crate for it in recorded.trials])
-    ceiling = Ceiling(words.minutes if words.minutes is not None or words.all or words.alone else MINUTES)
-    way = try_alone if words.alone else try_true if words.true_bodies else try_all
+    if not words.read:
+        have_libraries(kit, [it.crate for it in recorded.trials])
+    ceiling = Ceiling(words.minutes if words.minutes is not None or words.all or words.alone or words.read else MINUTES)
+    way = try_read if words.read else try_alone if words.alone else try_true if words.true_bodies else try_all
     tasks = [(kit.need(it.crate), functools.partial(way, it, report, ceiling)) for it in recorded.trials]
     if ceiling.minutes is None:
         tasks.sort(key=lambda it: -it[0])

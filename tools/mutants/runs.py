@@ -34,6 +34,14 @@ def try_true(trials: Trials, report: Report, ceiling: Ceiling) -> None:
     in_turn(trials, groups, report, ceiling, lambda group, kept: try_true_group(trials, group, kept, report))
 
 
+def try_read(trials: Trials, report: Report, ceiling: Ceiling) -> None:
+    """Looks which edits the checker can read, and proves nothing."""
+    for edit in trials.edits:
+        if edit.fault:
+            report.count(False, f"{edit.label()}: BAD EDIT: {edit.fault}")
+    in_turn(trials, trials.groups(), report, ceiling, lambda group, kept: trials.read_group(group, report))
+
+
 def in_turn(trials: Trials, groups: list[list[Edit]], report: Report, ceiling: Ceiling, call: Callable[[list[Edit], str], None]) -> None:
     """Makes a call for each group, over what the calls before it proved. The groups for which the ceiling leaves no time wait."""
     with contextlib.ExitStack() as at_end:

@@ -57,6 +57,17 @@ class Checked:
         return found
 
 
+def is_read(said: str) -> bool:
+    """Returns whether the checker could read what it was given."""
+    return said.rpartition("\n")[2].startswith("only=") and not UNREAD.search(said)
+
+
+def first_error(said: str) -> str:
+    """Returns how to say of an edit that the checker can't read it."""
+    first = next((it for it in said.split("\n") if ": error" in it or it.startswith("error")), said[-300:])
+    return f"BAD EDIT: the checker can't read the edited text: {first[:200]}"
+
+
 class Trials:
     """A crate whose edits are tried. marks: what second tries said of edits before, by their names."""
 
@@ -82,8 +93,7 @@ class Trials:
         with tempfile.TemporaryDirectory(prefix="wrong-") as room:
             made.write(room)
             status, said = self.kit.check(self.crate, room, kept, only, is_hollow)
-        reached = said.rpartition("\n")[2].startswith("only=") and not UNREAD.search(said)
-        return Checked(status == 0, reached, goals_in(said), said, made)
+        return Checked(status == 0, is_read(said), goals_in(said), said, made)
 
     @contextlib.contextmanager
     def kept(self) -> Iterator[str]:
@@ -104,8 +114,7 @@ class Trials:
         if check.is_proved:
             return Verdict(edit, cause="NOT REFUSED: the crate is still proved with it")
         if not check.reached:
-            first = next((it for it in check.said.split("\n") if ": error" in it or it.startswith("error")), check.said[-300:])
-            return Verdict(edit, cause=f"BAD EDIT: the checker can't read the edited text: {first[:200]}")
+            return Verdict(edit, cause=first_error(check.said))
         others = "; ".join(str(it) for it in check.goals[:3]) or "no goal is named"
         return Verdict(edit, cause=f"NOT REFUSED AT ITS OWN GOAL: the checker names {others}")
 
@@ -157,6 +166,33 @@ class Trials:
         for edit in group:
             report.judge(verdicts.get(edit.name) or self.alone(edit, kept))
         report.note(f"({self.crate.name}: a group of {len(group)} in {time.monotonic() - began:.0f} s)")
+
+    def read(self, edits: list[Edit]) -> tuple[bool, str, Copy]:
+        """Has the checker read a copy of the crate with these edits made, and prove nothing. Returns whether it could, and what it said."""
+        made = Copy(self.bodies, edits, is_hollow=True)
+        if made.fault:
+            return False, made.fault, made
+        with tempfile.TemporaryDirectory(prefix="wrong-") as room:
+            made.write(room)
+            said = self.kit.read(self.crate, room)
+        return is_read(said), said, made
+
+    def read_group(self, group: list[Edit], report: Report) -> None:
+        """Counts which edits of one copy the checker can read, each alone where it can't read all of them at once."""
+        began = time.monotonic()
+        can_read, said, made = self.read(group)
+        if not can_read and len(group) > 1:
+            unread = made.unread(group, said) or group
+            for edit in unread:
+                self.read_group([edit], report)
+            if len(unread) < len(group):
+                self.read_group([it for it in group if it not in unread], report)
+            return
+        if can_read:
+            report.passed += len(group)
+            report.note(f"({self.crate.name}: {len(group)} read in {time.monotonic() - began:.0f} s)")
+        else:
+            report.count(False, f"{group[0].label()}: {first_error(said)}")
 
     def groups(self) -> list[list[Edit]]:
         return groups_of([it for it in self.edits if not it.fault])

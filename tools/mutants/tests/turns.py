@@ -31,7 +31,7 @@ FIRST, DRAWN, LAST = ["uncommitted", "changed_again", "newer", "older"], {"recor
 
 def recorded_in(top: str, **said: object) -> Recorded:
     """Returns the edits of a repository as a run with these words finds them."""
-    words = {"names": [], "part": slice(None), **dict.fromkeys(("alone", "groups", "true_bodies", "over_out", "all", "new", "record"), False)}
+    words = {"names": [], "part": slice(None), **dict.fromkeys(("alone", "groups", "read", "true_bodies", "over_out", "all", "new", "record"), False)}
     before = os.getcwd()
     os.chdir(top)
     try:
