@@ -55,20 +55,63 @@ struct patience {
     uint64_t ns;
 };
 
-// Values that pass as the words that their bytes are.
-template <class T> struct by_words {
+// A queue of one word, and one of three. What is left of it goes to the `destroy_one` of how its values pass.
+struct one_word {
+    using words = uint64_t;
+    static uint32_t open(msq_queue *home, uint32_t kind, uint32_t capacity, uint16_t threads) noexcept {
+        return msq_word_open(home, kind, capacity, threads);
+    }
+    static uint32_t push(msq_queue *home, words word, patience how) noexcept {
+        return how.waits ? msq_word_queue_push_wait_for(home, word, how.ns) : msq_word_queue_push(home, word);
+    }
+    static uint32_t pop(msq_queue *home, words &word, patience how) noexcept {
+        return how.waits ? msq_word_queue_pop_wait_for(home, &word, how.ns) : msq_word_queue_pop(home, &word);
+    }
+    static uint32_t shut(msq_queue *home) noexcept { return msq_word_queue_shut(home); }
+    static uint32_t emptiness(msq_queue *home) noexcept { return msq_word_queue_emptiness(home); }
+    static uint32_t len(msq_queue *home, msq_length *length) noexcept { return msq_word_queue_len(home, length); }
+    template <class How> static void destroy(msq_queue *home) noexcept {
+        msq_word_destroy(home, [](uint64_t word, void *) { How::destroy_one(word); }, nullptr);
+    }
+};
+struct three_words {
+    using words = msq_words;
     static uint32_t open(msq_queue *home, uint32_t kind, uint32_t capacity, uint16_t threads) noexcept {
         return msq_words_open(home, kind, capacity, threads);
+    }
+    static uint32_t push(msq_queue *home, const words &all, patience how) noexcept {
+        return how.waits ? msq_words_queue_push_wait_for(home, &all, how.ns) : msq_words_queue_push(home, &all);
+    }
+    static uint32_t pop(msq_queue *home, words &all, patience how) noexcept {
+        return how.waits ? msq_words_queue_pop_wait_for(home, &all, how.ns) : msq_words_queue_pop(home, &all);
+    }
+    static uint32_t shut(msq_queue *home) noexcept { return msq_words_queue_shut(home); }
+    static uint32_t emptiness(msq_queue *home) noexcept { return msq_words_queue_emptiness(home); }
+    static uint32_t len(msq_queue *home, msq_length *length) noexcept { return msq_words_queue_len(home, length); }
+    template <class How> static void destroy(msq_queue *home) noexcept {
+        msq_words_destroy(home, [](const msq_words *all, void *) { How::destroy_one(*all); }, nullptr);
+    }
+};
+
+// The queue of words in which values of this type lie.
+template <class T> using width_of = std::conditional_t<sizeof(T) <= sizeof(uint64_t), one_word, three_words>;
+
+// Values that pass as the words that their bytes are.
+template <class T> struct by_words {
+    using width = width_of<T>;
+    using words = typename width::words;
+
+    static uint32_t open(msq_queue *home, uint32_t kind, uint32_t capacity, uint16_t threads) noexcept {
+        return width::open(home, kind, capacity, threads);
     }
 
     // The value stays where it isn't pushed; else its bytes are the queue's.
     static uint32_t push(msq_queue *home, T &value, patience how) {
         alignas(T) unsigned char raw[sizeof(T)];
         T *moved = new (raw) T(std::move(value));
-        msq_words words{};
-        std::memcpy(&words, raw, sizeof raw);
-        const uint32_t code = how.waits ? msq_words_queue_push_wait_for(home, &words, how.ns)
-                                        : msq_words_queue_push(home, &words);
+        words all{};
+        std::memcpy(&all, raw, sizeof raw);
+        const uint32_t code = width::push(home, all, how);
         if (code != MSQ_OK) {
             value = std::move(*moved);
             moved->~T();
@@ -77,35 +120,34 @@ template <class T> struct by_words {
     }
 
     template <class Use> static uint32_t pop(msq_queue *home, patience how, Use use) {
-        msq_words words{};
-        const uint32_t code = how.waits ? msq_words_queue_pop_wait_for(home, &words, how.ns)
-                                        : msq_words_queue_pop(home, &words);
+        words all{};
+        const uint32_t code = width::pop(home, all, how);
         if (code == MSQ_OK) {
-            let_go(words, use);
+            let_go(all, use);
         }
         return code;
     }
 
-    static uint32_t shut(msq_queue *home) noexcept { return msq_words_queue_shut(home); }
-    static void destroy(msq_queue *home) noexcept { msq_words_destroy(home, destroy_one, nullptr); }
-    static uint32_t emptiness(msq_queue *home) noexcept { return msq_words_queue_emptiness(home); }
-    static uint32_t len(msq_queue *home, msq_length *length) noexcept { return msq_words_queue_len(home, length); }
+    static uint32_t shut(msq_queue *home) noexcept { return width::shut(home); }
+    static void destroy(msq_queue *home) noexcept { width::template destroy<by_words>(home); }
+    static uint32_t emptiness(msq_queue *home) noexcept { return width::emptiness(home); }
+    static uint32_t len(msq_queue *home, msq_length *length) noexcept { return width::len(home, length); }
     static uint32_t left(msq_queue *, msq_remaining *) noexcept { return MSQ_UNCOUNTED; }
+    static void destroy_one(const words &all) noexcept {
+        let_go(all, [](T &&) {});
+    }
 
 private:
     // The value with these bytes, which ends once it was used.
-    template <class Use> static void let_go(const msq_words &words, Use use) {
+    template <class Use> static void let_go(const words &all, Use use) {
         struct held {
             alignas(T) unsigned char raw[sizeof(T)];
             T &value() noexcept { return *reinterpret_cast<T *>(raw); }
             ~held() { value().~T(); }
         };
         held it;
-        std::memcpy(it.raw, &words, sizeof it.raw);
+        std::memcpy(it.raw, &all, sizeof it.raw);
         use(std::move(it.value()));
-    }
-    static void destroy_one(const msq_words *words, void *) noexcept {
-        let_go(*words, [](T &&) {});
     }
 };
 

@@ -21,7 +21,7 @@
 enum turn { NOBODY, OTHER, BACK, OVER };
 enum who { ME, ANOTHER };
 
-/* Seats of numbers, leased from a queue, or of words, or of a queue of words: the first thread's, and the other one's. */
+/* Seats of numbers, leased from a queue, or of words, three or one, or of a queue of such: the first thread's, and the other one's. */
 struct seats {
     uint32_t (*open)(uint64_t limit);
     uint32_t (*push)(enum who who);
@@ -34,6 +34,7 @@ static uint64_t came[2], pushed;
 static msq_queue queue;
 static msq_seat *seats[2];
 static msq_words_seat word_seats[2];
+static msq_word_seat single_seats[2];
 
 static uint32_t open_numbers(uint64_t limit) {
     const uint32_t code = msq_queue_create(&queue, MSQ_NON_BLOCKING, 4, limit, roles, 2);
@@ -78,6 +79,46 @@ static void drop_words(void) {
     msq_words_drop(&word_seats[ANOTHER]);
 }
 
+static uint32_t open_singles(uint64_t limit) {
+    return msq_word_create(MSQ_NON_BLOCKING, 4, limit, roles, 2, single_seats, 2);
+}
+
+static uint32_t push_single(enum who who) {
+    return msq_word_push(&single_seats[who], ++pushed, 8);
+}
+
+static uint32_t pop_single(enum who who, uint32_t turns) {
+    msq_value value = {0, 0};
+    const uint32_t code = msq_word_pop(&single_seats[who], turns, &value);
+    came[who] = value.body;
+    return code;
+}
+
+static void drop_singles(void) {
+    msq_word_drop(&single_seats[ME]);
+    msq_word_drop(&single_seats[ANOTHER]);
+}
+
+static uint32_t open_single_queue(uint64_t limit) {
+    (void)limit;
+    return msq_word_open(&queue, MSQ_NON_BLOCKING, 4, 2);
+}
+
+static uint32_t push_to_single_queue(enum who who) {
+    (void)who;
+    return msq_word_queue_push(&queue, ++pushed);
+}
+
+static uint32_t pop_of_single_queue(enum who who, uint32_t turns) {
+    uint64_t word;
+    (void)who, (void)turns;
+    return msq_word_queue_pop(&queue, &word);
+}
+
+static void drop_single_queue(void) {
+    (void)msq_word_destroy(&queue, NULL, NULL);
+}
+
 static uint32_t open_word_queue(uint64_t limit) {
     (void)limit;
     return msq_words_open(&queue, MSQ_NON_BLOCKING, 4, 2);
@@ -102,6 +143,8 @@ static void drop_word_queue(void) {
 static const struct seats numbers = {open_numbers, push_number, pop_number, drop_numbers};
 static const struct seats of_words = {open_words, push_words, pop_words, drop_words};
 static const struct seats word_queue = {open_word_queue, push_to_queue, pop_of_queue, drop_word_queue};
+static const struct seats of_one = {open_singles, push_single, pop_single, drop_singles};
+static const struct seats single_queue = {open_single_queue, push_to_single_queue, pop_of_single_queue, drop_single_queue};
 
 /* The calls that push, each by the first thread's seat. */
 static uint32_t try_push(void) {
@@ -134,6 +177,10 @@ static uint32_t words_push(void) {
     return push_words(ME);
 }
 
+static uint32_t word_push(void) {
+    return push_single(ME);
+}
+
 /* These lease a seat: the only one that is free. */
 static uint32_t queue_push(void) {
     msq_release(&queue, seats[ME]);
@@ -163,6 +210,18 @@ static uint32_t words_shut(void) {
     return msq_words_shut(&word_seats[ME], 1);
 }
 
+static uint32_t word_shut(void) {
+    return msq_word_shut(&single_seats[ME], 1);
+}
+
+static uint32_t see_word(void) {
+    return msq_word_emptiness(&single_seats[ME]);
+}
+
+static uint32_t see_single_queue(void) {
+    return msq_word_queue_emptiness(&queue);
+}
+
 static uint32_t see_words(void) {
     return msq_words_emptiness(&word_seats[ME]);
 }
@@ -185,6 +244,7 @@ static const struct call pushes[] = {
     {"msq_push_wait", &numbers, push_wait},
     {"msq_push_wait_for", &numbers, push_wait_for},
     {"msq_words_push", &of_words, words_push},
+    {"msq_word_push", &of_one, word_push},
     {"msq_queue_push", &numbers, queue_push},
     {"msq_queue_push_wait", &numbers, queue_push_wait},
     {"msq_queue_push_wait_for", &numbers, queue_push_wait_for},
@@ -194,11 +254,14 @@ static const struct call shuts[] = {
     {"msq_try_shut", &numbers, try_shut},
     {"msq_shut_wake", &numbers, shut_wake},
     {"msq_words_shut", &of_words, words_shut},
+    {"msq_word_shut", &of_one, word_shut},
     {NULL, NULL, NULL},
 };
 static const struct call looks[] = {
     {"msq_words_emptiness", &of_words, see_words},
     {"msq_words_queue_emptiness", &word_queue, see_word_queue},
+    {"msq_word_emptiness", &of_one, see_word},
+    {"msq_word_queue_emptiness", &single_queue, see_single_queue},
     {NULL, NULL, NULL},
 };
 

@@ -40,11 +40,11 @@ static void it_is_full(uint32_t kind) {
 /* A taker pushes and shuts, and a giver pops. */
 static void seats_have_their_roles(uint32_t kind) {
     opens(kind, 8, MSQ_MOST_COUNT, 2);
-    giver = &seats[1], taker = &seats[0], word_giver = &word_seats[1], word_taker = &word_seats[0];
+    sit(1, 0);
     each(all->pushes, "a taker", MSQ_NO_ROLE);
     each(all->pops, "a giver", MSQ_NO_ROLE);
     each(all->shuts, "a taker", MSQ_NO_ROLE);
-    giver = &seats[0], taker = &seats[1], word_giver = &word_seats[0], word_taker = &word_seats[1];
+    sit(0, 1);
     all->drop();
 }
 
@@ -109,36 +109,45 @@ static void a_full_queue_is_told(void) {
     all->drop();
 }
 
-static void count_one(const msq_words *left, void *number) {
+static void count_words(const msq_words *left, void *number) {
     *(uint32_t *)number += left->word[1] == words.word[1];
 }
+static void count_word(uint64_t left, void *number) {
+    *(uint32_t *)number += left == word;
+}
+static uint32_t number;
+CALL(end_words, msq_words_destroy(&queue, count_words, &number))
+CALL(end_word, msq_word_destroy(&queue, count_word, &number))
 
 /* Words of which pops end before there are none go to who frees them, each once. */
-static void worn_words_are_freed(uint32_t kind) {
-    uint32_t number = 0;
-    opens(kind, 16, 1, 2);
-    first_of(all->pushes, "new", MSQ_OK);
-    first_of(all->pushes, "new", MSQ_OK);
-    expect(all->name, "msq_words_destroy", "a worn end", msq_words_destroy(&queue, count_one, &number), MSQ_OK);
-    expect(all->name, "msq_words_destroy", "two words", number, 2);
+static void worn_words_are_freed(const struct family *of_words, const struct call *end) {
+    all = of_words;
+    for (uint32_t kind = MSQ_NON_BLOCKING; kind <= MSQ_TWO_LOCK; kind++) {
+        number = 0;
+        opens(kind, 16, 1, 2);
+        first_of(all->pushes, "new", MSQ_OK);
+        first_of(all->pushes, "new", MSQ_OK);
+        first_of(end, "a worn end", MSQ_OK);
+        expect(all->name, end->name, "two values", number, 2);
+    }
 }
 
 #ifdef MSQ_DEBUG
 /* Each call of a seat while another one uses it. */
 static void another_call_uses_the_seat(uint32_t kind) {
-    const struct family *numbers = &families[0], *of_words = &families[1];
+    msq_seat *const places[BY_SEATS] = {&seats[2], &word_seats[2].seat, &single_seats[2].seat};
     struct msq_call call;
     opens(kind, 8, MSQ_MOST_COUNT, 3);
-    giver = taker = &seats[2], word_giver = word_taker = &word_seats[2];
-    (void)msq_begin(&call, all == of_words ? &word_seats[2].seat : &seats[2], 1);
-    if (all == numbers || all == of_words) {
+    sit(2, 2);
+    (void)msq_begin(&call, all < families + BY_SEATS ? places[all - families] : &seats[2], 1);
+    if (all < families + BY_SEATS) {
         each(all->pushes, "another call", MSQ_TWO_CALLS);
         each(all->pops, "another call", MSQ_TWO_CALLS);
         each(all->shuts, "another call", MSQ_TWO_CALLS);
         seen("another call", MSQ_TWO_CALLS);
     }
     msq_end(&call);
-    giver = &seats[0], taker = &seats[1], word_giver = &word_seats[0], word_taker = &word_seats[1];
+    sit(0, 1);
     all->drop();
 }
 #endif
@@ -168,8 +177,8 @@ int main(void) {
         }
         a_full_queue_is_told();
     }
-    all = &families[FAMILIES - 1];
-    worn_words_are_freed(MSQ_NON_BLOCKING);
-    worn_words_are_freed(MSQ_TWO_LOCK);
+    const struct call of_three = {"msq_words_destroy", end_words, 0}, of_one = {"msq_word_destroy", end_word, 0};
+    worn_words_are_freed(&families[FAMILIES - 2], &of_three);
+    worn_words_are_freed(&families[FAMILIES - 1], &of_one);
     return told();
 }

@@ -1,5 +1,5 @@
-/* All calls that push, pop or shut, by families, for calls.c and stopped.c: of seats with numbers, of seats with words, and of both
- * kinds of queues that any thread calls. */
+/* All calls that push, pop or shut, by families, for calls.c and stopped.c: of seats with numbers, with three words and with one, and
+ * of the queues that any thread calls. */
 #include "msq_words.h"
 
 #include <stdio.h>
@@ -107,6 +107,36 @@ CALL(words_push, msq_words_push(word_giver, &words, turns))
 CALL(words_pop, msq_words_pop(word_taker, turns, &item))
 CALL(words_shut, msq_words_shut(word_giver, turns))
 
+/* One word, by seats. */
+static msq_word_seat single_seats[SEATS], *single_giver = &single_seats[0], *single_taker = &single_seats[1];
+static const uint64_t word = UINT64_MAX - 1;
+static msq_value single;
+
+static uint32_t open_singles(uint32_t kind, uint32_t nodes, uint64_t limit, uint16_t number) {
+    return msq_word_create(kind, nodes, limit, roles, number, single_seats, number);
+}
+static void drop_singles(void) {
+    for (size_t k = 0; k < SEATS; k++) {
+        msq_word_drop(&single_seats[k]);
+    }
+}
+CALL(see_singles, msq_word_emptiness(single_taker))
+static void push_and_pop_singles(void) {
+    static msq_value own;
+    (void)msq_word_push(&single_seats[2], word, 8);
+    (void)msq_word_pop(&single_seats[3], 8, &own);
+}
+CALL(word_push, msq_word_push(single_giver, word, turns))
+CALL(word_pop, msq_word_pop(single_taker, turns, &single))
+CALL(word_shut, msq_word_shut(single_giver, turns))
+
+/* Which of its seats gives, and which takes. */
+static inline void sit(size_t gives, size_t takes) {
+    giver = &seats[gives], taker = &seats[takes];
+    word_giver = &word_seats[gives], word_taker = &word_seats[takes];
+    single_giver = &single_seats[gives], single_taker = &single_seats[takes];
+}
+
 /* Pointers, and words, by queues that any thread calls. */
 static msq_queue queue;
 
@@ -163,6 +193,34 @@ CALL(words_queue_pop, msq_words_queue_pop(&queue, &item.words))
 CALL(words_queue_pop_wait_for, msq_words_queue_pop_wait_for(&queue, &item.words, 1))
 CALL(words_queue_shut, msq_words_queue_shut(&queue))
 
+static uint32_t open_single_queue(uint32_t kind, uint32_t nodes, uint64_t limit, uint16_t number) {
+    static const uint8_t both[SEATS] = {MSQ_BOTH, MSQ_BOTH, MSQ_BOTH, MSQ_BOTH};
+    uint32_t code = msq_word_open(&queue, kind, nodes, number);
+    if (code == MSQ_OK && limit != MSQ_MOST_COUNT) {
+        code = msq_word_create(kind, nodes, limit, both, number, single_seats, number);
+        for (size_t k = 0; code == MSQ_OK && k < number; k++) {
+            msq_word_drop(msq_as_word(&queue.places[k].seat));
+            queue.places[k].seat = single_seats[k].seat;
+            single_seats[k].seat.full = false;
+        }
+    }
+    return code;
+}
+static void drop_single_queue(void) {
+    (void)msq_word_destroy(&queue, NULL, NULL);
+}
+CALL(see_single_queue, msq_word_queue_emptiness(&queue))
+static void push_and_pop_single_queue(void) {
+    uint64_t own;
+    (void)msq_word_queue_push(&queue, word);
+    (void)msq_word_queue_pop(&queue, &own);
+}
+CALL(word_queue_push, msq_word_queue_push(&queue, word))
+CALL(word_queue_push_wait_for, msq_word_queue_push_wait_for(&queue, word, 1))
+CALL(word_queue_pop, msq_word_queue_pop(&queue, &single.body))
+CALL(word_queue_pop_wait_for, msq_word_queue_pop_wait_for(&queue, &single.body, 1))
+CALL(word_queue_shut, msq_word_queue_shut(&queue))
+
 static const struct family families[] = {
     {"numbers", true, true, open_numbers, drop_numbers, see_numbers, push_and_pop_numbers,
      {{"msq_try_push", try_push, TURNS}, {"msq_push_all", push_all, TURNS}, {"msq_push_wake", push_wake, TURNS | IS_TOLD},
@@ -175,6 +233,10 @@ static const struct family families[] = {
      {{"msq_words_push", words_push, TURNS}},
      {{"msq_words_pop", words_pop, TURNS}},
      {{"msq_words_shut", words_shut, TURNS}}},
+    {"one word", false, true, open_singles, drop_singles, see_singles, push_and_pop_singles,
+     {{"msq_word_push", word_push, TURNS}},
+     {{"msq_word_pop", word_pop, TURNS}},
+     {{"msq_word_shut", word_shut, TURNS}}},
     {"pointers for any thread", true, false, open_queue, drop_queue, see_queue, push_and_pop_queue,
      {{"msq_queue_push", queue_push, IS_TOLD}, {"msq_queue_push_wait", queue_push_wait, WAITS | IS_TOLD},
       {"msq_queue_push_wait_for", queue_push_wait_for, IS_TOLD}},
@@ -185,9 +247,13 @@ static const struct family families[] = {
      {{"msq_words_queue_push", words_queue_push, IS_TOLD}, {"msq_words_queue_push_wait_for", words_queue_push_wait_for, IS_TOLD}},
      {{"msq_words_queue_pop", words_queue_pop, 0}, {"msq_words_queue_pop_wait_for", words_queue_pop_wait_for, 0}},
      {{"msq_words_queue_shut", words_queue_shut, 0}}},
+    {"one word for any thread", false, false, open_single_queue, drop_single_queue, see_single_queue, push_and_pop_single_queue,
+     {{"msq_word_queue_push", word_queue_push, IS_TOLD}, {"msq_word_queue_push_wait_for", word_queue_push_wait_for, IS_TOLD}},
+     {{"msq_word_queue_pop", word_queue_pop, 0}, {"msq_word_queue_pop_wait_for", word_queue_pop_wait_for, 0}},
+     {{"msq_word_queue_shut", word_queue_shut, 0}}},
 };
 
-enum { FAMILIES = sizeof families / sizeof *families };
+enum { BY_SEATS = 3, FAMILIES = sizeof families / sizeof *families };
 
 static const struct family *all; /* the one whose calls are made */
 

@@ -60,6 +60,7 @@ enum { VALUES = 3 };
 static const uint8_t roles[] = {MSQ_BOTH, MSQ_BOTH};
 static msq_seat seats[2];
 static msq_words_seat word_seats[2];
+static msq_word_seat single_seats[2];
 static msq_value values[8 + 2 * MSQ_RESERVE];
 static msq_item items[8];
 static msq_rest rest;
@@ -84,6 +85,15 @@ static uint32_t close_words(uint32_t kind) {
     return msq_words_close(word_seats, 2, items, 8, &rest);
 }
 
+static uint32_t create_singles(uint32_t kind) {
+    return msq_word_create(kind, 8, MSQ_MOST_COUNT, roles, 2, single_seats, 2);
+}
+
+static uint32_t close_singles(uint32_t kind) {
+    (void)kind;
+    return msq_word_close(single_seats, 2, values, 8, &rest);
+}
+
 /* With the limit 1 its pops end before it is empty. */
 static uint32_t create_queue(uint32_t kind) {
     return msq_queue_create(&queue, kind, 8, 1, roles, 2);
@@ -100,6 +110,10 @@ static uint32_t open_queue(uint32_t kind) {
 
 static uint32_t open_words(uint32_t kind) {
     return msq_words_open(&queue, kind, 8, 2);
+}
+
+static uint32_t open_singles(uint32_t kind) {
+    return msq_word_open(&queue, kind, 8, 2);
 }
 
 static void count_one(void *object, void *context) {
@@ -122,6 +136,16 @@ static uint32_t destroy_words(uint32_t kind) {
     return msq_words_destroy(&queue, count_words, NULL);
 }
 
+static void count_word(uint64_t word, void *context) {
+    (void)word, (void)context;
+    freed++;
+}
+
+static uint32_t destroy_singles(uint32_t kind) {
+    (void)kind;
+    return msq_word_destroy(&queue, count_word, NULL);
+}
+
 static void seats_with_numbers(uint32_t kind) {
     is_done_at_last("create", create, kind);
     for (uint64_t body = 0; body < VALUES; body++) {
@@ -141,6 +165,17 @@ static void seats_with_words(uint32_t kind) {
     expect("what is left", rest.left, VALUES);
     is_done_at_last("open", open_words, kind);
     expect("its end", msq_words_destroy(&queue, NULL, NULL), MSQ_OK);
+}
+
+static void seats_with_one_word(uint32_t kind) {
+    is_done_at_last("create", create_singles, kind);
+    for (uint64_t word = 0; word < VALUES; word++) {
+        expect("a push", msq_word_push(&single_seats[0], ~word, 8), MSQ_OK);
+    }
+    is_done_at_last("close", close_singles, kind);
+    expect("what is left", rest.left, VALUES);
+    is_done_at_last("open", open_singles, kind);
+    expect("its end", msq_word_destroy(&queue, NULL, NULL), MSQ_OK);
 }
 
 static void queues_of_pointers(uint32_t kind) {
@@ -179,6 +214,21 @@ static void worn_queues_of_words(uint32_t kind) {
     expect("each is freed once", (uint64_t)freed, 2);
 }
 
+static void worn_queues_of_one_word(uint32_t kind) {
+    expect("open", open_singles(kind), MSQ_OK);
+    expect("create", msq_word_create(kind, 8, 1, roles, 2, single_seats, 2), MSQ_OK);
+    for (size_t k = 0; k < 2; k++) {
+        msq_word_drop(msq_as_word(&queue.places[k].seat));
+        queue.places[k].seat = single_seats[k].seat;
+        single_seats[k].seat.full = false;
+    }
+    expect("a push", msq_word_queue_push(&queue, 1), MSQ_OK);
+    expect("a push", msq_word_queue_push(&queue, 2), MSQ_OK);
+    freed = 0;
+    is_done_at_last("its end", destroy_singles, kind);
+    expect("each is freed once", (uint64_t)freed, 2);
+}
+
 int main(void) {
     for (uint32_t kind = MSQ_NON_BLOCKING; kind <= MSQ_RING; kind++) {
         seats_with_numbers(kind);
@@ -187,6 +237,8 @@ int main(void) {
             seats_with_words(kind);
             worn_queues(kind);
             worn_queues_of_words(kind);
+            seats_with_one_word(kind);
+            worn_queues_of_one_word(kind);
         }
     }
     printf("%u allocations were refused, and %u answers were not as they should be\n", refused, wrong);

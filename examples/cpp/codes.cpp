@@ -22,11 +22,15 @@ using std::chrono::milliseconds;
 
 static const msq::kind kinds[] = {msq::kind::non_blocking, msq::kind::two_lock, msq::kind::ring};
 
-// A number that owns memory: one that may be moved by its bytes, and one that may not.
+// A number that owns memory: one of a word, one of three, which may both be moved by their bytes, and one that may not.
 struct small {
     std::unique_ptr<int> at;
     explicit small(int number) : at(new int(number)) {}
     int operator*() const { return *at; }
+};
+struct middle : small {
+    using small::small;
+    uint64_t apart[2] = {};
 };
 struct large : small {
     using small::small;
@@ -35,6 +39,7 @@ struct large : small {
 
 namespace msq {
 template <> struct is_trivially_relocatable<small> : std::true_type {};
+template <> struct is_trivially_relocatable<middle> : std::true_type {};
 } // namespace msq
 
 template <class box> static void a_queue_answers(msq::kind kind) {
@@ -128,7 +133,10 @@ enum class suit : uint16_t { hearts = 1, spades = 0xffff };
 static void small_values_pass() {
     using msq::detail::lies_in_place;
     expect("what lies in place", lies_in_place<uint64_t>::value && lies_in_place<std::unique_ptr<int>>::value &&
-                                     lies_in_place<std::shared_ptr<int>>::value && lies_in_place<small>::value);
+                                     lies_in_place<std::shared_ptr<int>>::value && lies_in_place<small>::value &&
+                                     lies_in_place<middle>::value);
+    expect("as one word", std::is_same<msq::detail::width_of<small>, msq::detail::one_word>::value);
+    expect("as three", std::is_same<msq::detail::width_of<middle>, msq::detail::three_words>::value);
     expect("what doesn't", !lies_in_place<std::string>::value && !lies_in_place<large>::value);
     expect("zeros", comes<uint64_t>(0) && comes(0) && comes(false));
     expect("ones", comes<uint64_t>(UINT64_MAX) && comes(UINT32_MAX) && comes(-1) && comes(true));
@@ -253,9 +261,11 @@ static void values_are_consumed() {
 int main() {
     for (auto kind : kinds) {
         a_queue_answers<small>(kind);
+        a_queue_answers<middle>(kind);
         a_queue_answers<large>(kind);
     }
     no_queue_answers<small>();
+    no_queue_answers<middle>();
     no_queue_answers<large>();
     small_values_pass();
     copies_are_pushed();
@@ -267,6 +277,7 @@ int main() {
 #if __cplusplus >= 201703L
     for (auto kind : kinds) {
         optional_values_come<small>(kind);
+        optional_values_come<middle>(kind);
         optional_values_come<large>(kind);
         optional_values_come<std::optional<int>>(kind);
     }

@@ -1,5 +1,4 @@
 pub mod Bytes
-pub mod WordBytes
 pub mod Ends
 pub mod WordEnds
 pub mod Made

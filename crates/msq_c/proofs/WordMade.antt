@@ -1,48 +1,30 @@
 -- Seats of a queue of words, with their shares, that were put into handles.
-use Rattle.std.proofs.Common.{◌≡◌, ℕ, ◌≤◌, ◌<◌, ◌^◌, List, map, length, refl, ap, ◌∙◌, sym, subst, Result, Ok, Err, IfOk}
+use Rattle.std.proofs.Common.{◌≡◌, ℕ, ◌+◌, ◌≤◌, ◌<◌, ◌^◌, Bool, List, [], ◌∷◌, ◌++◌, map, length, refl, ap, ◌∙◌, sym, subst, Result, Ok, Err, IfOk}
 use Rattle.std.specs.List.{All}
 use mathlib.Core.List.{map-map}
-use Rattle.std.proofs.lemmas.List.{length-map}
+use Rattle.std.proofs.lemmas.List.{length-map, length_push, map_push}
 use Rattle.line_table.specs.declared.lines.Kind.{Kind}
 use Rattle.history.specs.Limits.{actor_bits}
+use Rattle.carriers.specs.declared.queues.Carrier.{Ghosts}
 use Rattle.node_arena.specs.declared.roles.Role.{Role}
 use Rattle.node_arena.specs.declared.seats.Seat.{Seat}
 use Rattle.node_arena.specs.Plans.{Layout, IsPlanned}
 use Rattle.node_arena.specs.Making.{IsMade}
 use Rattle.value_queue.specs.Queues.{AreNewOf}
 use Rattle.value_queue.specs.Telling.{known_by}
+use Rattle.any_values.specs.declared.any.AnyValues.{AnyValues}
 use Rattle.any_values.specs.Any.{arena_of, permits_of}
 use Rattle.owned_values.specs.Owned.{queue_of, seat_of}
 use Rattle.owned_values.proofs.Shares.{All-unmap}
 use Rattle.msq_c.proofs.Sizes.{is_split, enough, some_count, few_counts}
-use Rattle.msq_c.specs.declared.words.MsqWords.{MsqWords}
-use Rattle.msq_c.specs.declared.word_seats.OwnWords.{OwnWords}
-use Rattle.msq_c.specs.declared.word_handles.MsqWordsSeat.{MsqWordsSeat}
-use Rattle.msq_c.specs.Words.{WordQueue}
-use Rattle.msq_c.specs.WordOwn.{Owned, owned_in}
-use Rattle.msq_c.specs.WordSeats.{own_at, known_at}
+use Rattle.msq_c.specs.WordOwn.{Owned, Own, owned_in}
+use Rattle.msq_c.specs.WordSeats.{known_at}
 use Rattle.msq_c.specs.Made.{Asks, kind_number, role_number}
 use Rattle.msq_c.specs.WordMade.{AreUnused, ArePut, AreMade, AreAsked, plan_for, seat_at}
 
-pub all_made : (owned : List Owned) (seats : List OwnWords) (slots : List MsqWordsSeat)
-    → map owned_in seats ≡ owned → (z : Layout) → AreUnused z owned → ArePut seats slots → AreMade z slots
-all_made owned seats slots e z u p =
-    let same : owned ≡ map (λ (h : MsqWordsSeat). owned_in (own_at h)) slots =
-    sym e ∙ ap (map owned_in) (sym p.those) ∙ map-map owned_in own_at slots in
-    let known : map (λ (s : Owned). known_by (seat_of s)) owned ≡ map known_at slots =
-    ap (map (λ (s : Owned). known_by (seat_of s))) same ∙ map-map (λ (s : Owned). known_by (seat_of s)) (λ (h : MsqWordsSeat). owned_in (own_at h)) slots in
-    let sat : map seat_of owned ≡ map seat_at slots = ap (map seat_of) same ∙ map-map seat_of (λ (h : MsqWordsSeat). owned_in (own_at h)) slots in
-    record {
-      queue = u.queue;
-      made = subst (IsMade z (arena_of u.queue)) sat u.made;
-      full = p.full;
-      one = All-unmap (λ s. queue_of s ≡ u.queue) (λ (h : MsqWordsSeat). owned_in (own_at h)) slots (subst (All (λ s. queue_of s ≡ u.queue)) same u.one);
-      unused = subst (λ ks. AreNewOf (permits_of u.queue) ks) known u.unused;
-    }
-
 -- the seats of a new queue of a plan, each with a share
-pub unused_of : (z : Layout) (q : WordQueue) (seats : List (Seat MsqWords)) (owned : List Owned) → All (λ s. queue_of s ≡ q) owned → map seat_of owned ≡ seats
-    → IsMade z (arena_of q) seats → AreNewOf (permits_of q) (map known_by seats) → AreUnused z owned
+pub unused_of : {T : Type 0} {g : Ghosts (AnyValues T) T (Seat T)} (z : Layout) (q : AnyValues T) (seats : List (Seat T)) (owned : List (Owned T g))
+    → All (λ s. queue_of s ≡ q) owned → map seat_of owned ≡ seats → IsMade z (arena_of q) seats → AreNewOf (permits_of q) (map known_by seats) → AreUnused z owned
 unused_of z q seats owned one e made new = record {
   queue = q;
   made = subst (IsMade z (arena_of q)) (sym e) made;
@@ -50,11 +32,38 @@ unused_of z q seats owned one e made new = record {
   unused = subst (λ ks. AreNewOf (permits_of q) ks) (ap (map known_by) (sym e) ∙ map-map known_by seat_of owned) new;
 }
 
--- handles that blocks with the seats of a new queue were put into
-pub made_if : {V E B : Type 0} (out : Result V E) (items : V → List MsqWordsSeat) (value : B → OwnWords) (boxes : List B) (owned : List Owned)
-    → map (λ b. owned_in (value b)) boxes ≡ owned → (z : Layout) → AreUnused z owned → IfOk out (λ v. ArePut (map value boxes) (items v)) → IfOk out (λ v. AreMade z (items v))
-made_if (Ok v) items value boxes owned e z u p = all_made owned (map value boxes) (items v) (map-map owned_in value boxes ∙ e) z u p
-made_if (Err refusal) items value boxes owned e z u p = tt
+module _ {H T : Type 0} {g : Ghosts (AnyValues T) T (Seat T)} (holds : H → Bool) (own : H → Own T g) where
+  -- handles that these seats were put into
+  all_made : (owned : List (Owned T g)) (seats : List (Own T g)) (slots : List H)
+      → map owned_in seats ≡ owned → (z : Layout) → AreUnused z owned → ArePut holds own seats slots → AreMade holds own z slots
+  all_made owned seats slots e z u p =
+      let same : owned ≡ map (λ (h : H). owned_in (own h)) slots =
+      sym e ∙ ap (map owned_in) (sym p.those) ∙ map-map owned_in own slots in
+      let known : map (λ (s : Owned T g). known_by (seat_of s)) owned ≡ map (known_at own) slots =
+      ap (map (λ (s : Owned T g). known_by (seat_of s))) same ∙ map-map (λ (s : Owned T g). known_by (seat_of s)) (λ (h : H). owned_in (own h)) slots in
+      let sat : map seat_of owned ≡ map (seat_at own) slots = ap (map seat_of) same ∙ map-map seat_of (λ (h : H). owned_in (own h)) slots in
+      record {
+        queue = u.queue;
+        made = subst (IsMade z (arena_of u.queue)) sat u.made;
+        full = p.full;
+        one = All-unmap (λ s. queue_of s ≡ u.queue) (λ (h : H). owned_in (own h)) slots (subst (All (λ s. queue_of s ≡ u.queue)) same u.one);
+        unused = subst (λ ks. AreNewOf (permits_of u.queue) ks) known u.unused;
+      }
+
+  -- a block more was put into a handle
+  module _ {B : Type 0} (was now : List H) (h : H) (more : now ≡ was ++ h ∷ []) (boxes : List B) (b : B) where
+    pub put_one : (value : B → Own T g) → own h ≡ value b → map own was ≡ map value boxes → map own now ≡ map value (boxes ++ b ∷ [])
+    put_one value e those = ap (map own) more ∙ map_push own was h ∙ ap (λ xs. xs ++ own h ∷ []) those ∙ ap (λ x. map value boxes ++ x ∷ []) e ∙ sym (map_push value boxes b)
+
+    pub one_longer : length was ≡ length boxes → length now ≡ length (boxes ++ b ∷ [])
+    one_longer same = ap length more ∙ length_push was h ∙ ap (λ n. n + 1) same ∙ sym (length_push boxes b)
+
+  -- handles that blocks with the seats of a new queue were put into
+  pub made_if : {V E B : Type 0} (out : Result V E) (items : V → List H) (value : B → Own T g) (boxes : List B) (owned : List (Owned T g))
+      → map (λ b. owned_in (value b)) boxes ≡ owned → (z : Layout) → AreUnused z owned
+      → IfOk out (λ v. ArePut holds own (map value boxes) (items v)) → IfOk out (λ v. AreMade holds own z (items v))
+  made_if (Ok v) items value boxes owned e z u p = all_made owned (map value boxes) (items v) (map-map owned_in value boxes ∙ e) z u p
+  made_if (Err refusal) items value boxes owned e z u p = tt
 
 -- what was asked for, by the numbers of kind and roles
 module _ (kind nodes limit : ℕ) (numbers : List ℕ) (k : Kind) (roles : List Role) (kinds : kind_number k ≡ kind) (those : map role_number roles ≡ numbers) where
@@ -73,14 +82,15 @@ module _ (kind nodes limit : ℕ) (numbers : List ℕ) (k : Kind) (roles : List 
     few_actors = subst (λ n. n < 2 ^ actor_bits) many a.sizes.few_seats;
   }
 
-  -- and handles with its seats are as they were asked for
-  pub asked_if : {V E : Type 0} (out : Result V E) (items : V → List MsqWordsSeat)
-      → IfOk out (λ v. AreMade (plan_for k nodes limit roles) (items v)) → IfOk out (λ v. AreAsked kind nodes limit numbers (items v))
-  asked_if (Ok v) items m = record { layout = plan_for k nodes limit roles; of_kind = kinds; of_roles = those; planned = refl; made = m }
-  asked_if (Err refusal) items m = tt
+  module _ {H T : Type 0} {g : Ghosts (AnyValues T) T (Seat T)} (holds : H → Bool) (own : H → Own T g) where
+    -- and handles with its seats are as they were asked for
+    pub asked_if : {V E : Type 0} (out : Result V E) (items : V → List H)
+        → IfOk out (λ v. AreMade holds own (plan_for k nodes limit roles) (items v)) → IfOk out (λ v. AreAsked holds own kind nodes limit numbers (items v))
+    asked_if (Ok v) items m = record { layout = plan_for k nodes limit roles; of_kind = kinds; of_roles = those; planned = refl; made = m }
+    asked_if (Err refusal) items m = tt
 
-  -- as many as there are roles
-  pub len_if : {V E : Type 0} (out : Result V E) (items : V → List MsqWordsSeat)
-      → IfOk out (λ v. AreMade (plan_for k nodes limit roles) (items v)) → IfOk out (λ v. length (items v) ≡ length numbers)
-  len_if (Ok v) items m = sym (length-map (items v) seat_at) ∙ m.made.count ∙ sym many
-  len_if (Err refusal) items m = tt
+    -- as many as there are roles
+    pub len_if : {V E : Type 0} (out : Result V E) (items : V → List H)
+        → IfOk out (λ v. AreMade holds own (plan_for k nodes limit roles) (items v)) → IfOk out (λ v. length (items v) ≡ length numbers)
+    len_if (Ok v) items m = sym (length-map (items v) (seat_at own)) ∙ m.made.count ∙ sym many
+    len_if (Err refusal) items m = tt

@@ -18,3 +18,6 @@ pub mod WordEnds
 pub mod WordLooks
 pub mod WordMade
 pub mod WordRests
+pub mod WordRows
+pub mod Three
+pub mod One

@@ -1,77 +1,79 @@
 -- The end of a queue of words, by handles.
-use Rattle.std.specs.Prelude.{◌≡◌, ℕ, ◌+◌, List, [], length, map, true, false}
+use Rattle.std.specs.Prelude.{◌≡◌, ℕ, ◌+◌, Bool, List, [], length, map, true, false}
 use Rattle.std.specs.List.{All, AllPass}
 use Rattle.history.specs.declared.refusals.Refusal.TheVariants.{Memory}
+use Rattle.carriers.specs.declared.queues.Carrier.{Ghosts}
 use Rattle.carriers.specs.Closing.{ClosesOf}
 use Rattle.carriers.specs.declared.rests.RestOf.{RestOf}
 use Rattle.node_arena.specs.declared.ended.Ended.{Ended}
 use Rattle.node_arena.specs.declared.seats.Seat.{Seat}
 use Rattle.value_queue.specs.declared.closing.Room.{Room}
 use Rattle.value_queue.specs.Closing.{HasRoom, LeavesValues}
+use Rattle.any_values.specs.declared.any.AnyValues.{AnyValues}
 use Rattle.any_values.specs.Any.{arena_of, permits_of}
 use Rattle.owned_values.specs.declared.closing.EndRoom.{EndRoom}
 use Rattle.owned_values.specs.Unended.{HasEndRoom}
-use Rattle.msq_c.specs.declared.words.MsqWords.{MsqWords}
-use Rattle.msq_c.specs.declared.word_handles.MsqWordsSeat.{MsqWordsSeat}
 use Rattle.msq_c.specs.declared.troubles.Trouble.{Trouble}
 use Rattle.msq_c.specs.declared.troubles.Trouble.TheVariants.{Refused, BadSize, NoHandle, InUse, Raced}
-use Rattle.msq_c.specs.Words.{WordQueue}
-use Rattle.msq_c.specs.WordOwn.{Owned, owned_in}
-use Rattle.msq_c.specs.WordSeats.{is_full, own_at, known_at, queue_at}
+use Rattle.msq_c.specs.WordOwn.{Owned, Own, owned_in}
+use Rattle.msq_c.specs.WordSeats.{known_at, queue_at}
 
--- each handle is full
-abbrev pub AreFull : List MsqWordsSeat → Type 0
-AreFull slots = AllPass is_full slots
+module _ {H : Type 0} (holds : H → Bool) where
+  -- each handle is full
+  abbrev pub AreFull : List H → Type 0
+  AreFull slots = AllPass holds slots
 
--- each handle is empty
-abbrev pub AreEmpty : List MsqWordsSeat → Type 0
-AreEmpty slots = All (λ h. is_full h ≡ false) slots
-
--- the full ones of these handles are of one queue
-pub record AreOfOne (slots : List MsqWordsSeat) : Type 0 where
-  pub queue : WordQueue
-  pub one : All (λ h. is_full h ≡ true → queue_at h ≡ queue) slots
-
--- full handles keep their seats
-pub record KeepSeats (slots slots' : List MsqWordsSeat) : Type 0 where
-  pub full : AreFull slots'
-  pub seats : map own_at slots' ≡ map own_at slots
-
--- the seat of a handle, with its share
-abbrev pub owned_at : MsqWordsSeat → Owned
-owned_at h = owned_in (own_at h)
-
--- the queue of these handles was closed by all of them, with its end
-pub record ClosesHandles (slots : List MsqWordsSeat) (rest : RestOf MsqWords) (end : Ended MsqWords) : Type 0 where
-  pub queue : WordQueue
-  pub one : All (λ h. queue_at h ≡ queue) slots
-  pub closes : ClosesOf (permits_of queue) (map known_at slots) rest
-  pub ends : LeavesValues (arena_of queue) end rest
+  -- each handle is empty
+  abbrev pub AreEmpty : List H → Type 0
+  AreEmpty slots = All (λ h. holds h ≡ false) slots
 
 -- room for the end of a queue
-abbrev pub WordRoom : Type 0
-WordRoom = EndRoom WordQueue (Room MsqWords) (Ended MsqWords) MsqWords (Seat MsqWords)
+abbrev pub WordRoom : Type 0 → Type 0
+WordRoom T = EndRoom (AnyValues T) (Room T) (Ended T) T (Seat T)
 
 -- there is room for the end of a queue by a seat and so many others
-abbrev pub HasAnyRoom : WordQueue → (others : ℕ) → WordRoom → Type 0
+abbrev pub HasAnyRoom : {T : Type 0} → AnyValues T → (others : ℕ) → WordRoom T → Type 0
 HasAnyRoom queue others room = HasEndRoom (λ q. HasRoom (arena_of q)) queue others room
 
--- there is room for the end of the queue of full handles, whichever it is
-abbrev pub HasRoomOf : List MsqWordsSeat → WordRoom → Type 0
-HasRoomOf slots room = (q : WordQueue) (others : ℕ) → length slots ≡ others + 1 → All (λ h. is_full h ≡ true → queue_at h ≡ q) slots → HasAnyRoom q others room
+module _ {H T : Type 0} {g : Ghosts (AnyValues T) T (Seat T)} (own : H → Own T g) where
+  -- the seat of a handle, with its share
+  abbrev pub owned_at : H → Owned T g
+  owned_at h = owned_in (own h)
+
+  -- the queue of these handles was closed by all of them, with its end
+  pub record ClosesHandles (slots : List H) (rest : RestOf T) (end : Ended T) : Type 0 where
+    pub queue : AnyValues T
+    pub one : All (λ h. queue_at own h ≡ queue) slots
+    pub closes : ClosesOf (permits_of queue) (map (known_at own) slots) rest
+    pub ends : LeavesValues (arena_of queue) end rest
 
 -- why there is no such room: there are no handles, or memory was refused
-abbrev pub RefusesRoom : List MsqWordsSeat → Trouble → Type 0
+abbrev pub RefusesRoom : {H : Type 0} → List H → Trouble → Type 0
 RefusesRoom slots BadSize = slots ≡ []
 RefusesRoom slots (Refused refusal) = refusal ≡ Memory
 RefusesRoom slots _ = ⊥
 
--- why a queue isn't closed: a handle is empty, and nothing changed; there are no handles; others have a share of it, or memory
--- was refused, and then all handles keep their seats; or others got a share meanwhile, and then all are empty
-abbrev pub RefusesClose : List MsqWordsSeat → List MsqWordsSeat → Trouble → Type 0
-RefusesClose slots slots' NoHandle = (AreFull slots → ⊥) × (slots' ≡ slots)
-RefusesClose slots slots' BadSize = slots ≡ []
-RefusesClose slots slots' InUse = KeepSeats slots slots'
-RefusesClose slots slots' Raced = AreEmpty slots'
-RefusesClose slots slots' (Refused refusal) = (refusal ≡ Memory) × KeepSeats slots slots'
-RefusesClose slots slots' _ = ⊥
+module _ {H T : Type 0} {g : Ghosts (AnyValues T) T (Seat T)} (holds : H → Bool) (own : H → Own T g) where
+  -- the full ones of these handles are of one queue
+  pub record AreOfOne (slots : List H) : Type 0 where
+    pub queue : AnyValues T
+    pub one : All (λ h. holds h ≡ true → queue_at own h ≡ queue) slots
+
+  -- full handles keep their seats
+  pub record KeepSeats (slots slots' : List H) : Type 0 where
+    pub full : AreFull holds slots'
+    pub seats : map own slots' ≡ map own slots
+
+  -- there is room for the end of the queue of full handles, whichever it is
+  abbrev pub HasRoomOf : List H → WordRoom T → Type 0
+  HasRoomOf slots room = (q : AnyValues T) (others : ℕ) → length slots ≡ others + 1 → All (λ h. holds h ≡ true → queue_at own h ≡ q) slots → HasAnyRoom q others room
+
+  -- why a queue isn't closed: a handle is empty, and nothing changed; there are no handles; others have a share of it, or memory
+  -- was refused, and then all handles keep their seats; or others got a share meanwhile, and then all are empty
+  abbrev pub RefusesClose : List H → List H → Trouble → Type 0
+  RefusesClose slots slots' NoHandle = (AreFull holds slots → ⊥) × (slots' ≡ slots)
+  RefusesClose slots slots' BadSize = slots ≡ []
+  RefusesClose slots slots' InUse = KeepSeats slots slots'
+  RefusesClose slots slots' Raced = AreEmpty holds slots'
+  RefusesClose slots slots' (Refused refusal) = (refusal ≡ Memory) × KeepSeats slots slots'
+  RefusesClose slots slots' _ = ⊥

@@ -1,25 +1,20 @@
--- Values of three words as C passes and gets them.
-use Rattle.std.specs.Prelude.{◌≡◌, Option, Some, Result, Ok, List}
+-- Values of three words and of one, as C passes and gets them.
+use Rattle.std.specs.Prelude.{◌≡◌, ℕ, Option, Some, Result, Ok}
 use Rattle.carriers.specs.declared.items.ItemOf.{ItemOf}
-use Rattle.any_values.specs.declared.any.AnyValues.{AnyValues}
+use Rattle.msq_c.specs.declared.values.MsqValue.{MsqValue}
 use Rattle.msq_c.specs.declared.words.MsqWords.{MsqWords}
 use Rattle.msq_c.specs.declared.words.MsqItem.{MsqItem}
 use Rattle.msq_c.specs.declared.troubles.Trouble.{Trouble}
-use Rattle.msq_c.specs.Values.{AreLaid}
 
--- a queue of such values
-abbrev pub WordQueue : Type 0
-WordQueue = AnyValues MsqWords
-
--- what C gets of a value: its three words, just as they were pushed, and who pushed them
+-- what C gets of a value of three words: these, just as they were pushed, and who pushed them
 abbrev pub item_of : ItemOf MsqWords → MsqItem
 item_of front = record { words = front.value; from = front.from }
 
--- the value that a pop took was written, and else nothing
-abbrev pub IsItemWritten : Result (Option (ItemOf MsqWords)) Trouble → MsqItem → MsqItem → Type 0
-IsItemWritten (Ok (Some front)) v v' = v' ≡ item_of front
-IsItemWritten out v v' = v' ≡ v
+-- what C gets of a value of one word: its 64 bits, just as they were pushed, and who pushed them
+abbrev pub bits_of : ItemOf ℕ → MsqValue
+bits_of front = record { body = front.value; from = front.from }
 
--- these values were written from the front, as many as there is room for
-abbrev pub AreItemsWritten : (left : List (ItemOf MsqWords)) → List MsqItem → List MsqItem → Type 0
-AreItemsWritten left vs vs' = AreLaid item_of left vs vs'
+-- the value that a pop took was written as an item, and else nothing
+abbrev pub IsItemWritten : {T I : Type 0} (item : ItemOf T → I) → Result (Option (ItemOf T)) Trouble → I → I → Type 0
+IsItemWritten item (Ok (Some front)) v v' = v' ≡ item front
+IsItemWritten item out v v' = v' ≡ v

@@ -7,14 +7,14 @@ ghost use Rattle.value_queue.specs.Closing.{LeavesValues};
 ghost use Rattle.any_values.specs.Any.{arena_of, permits_of};
 ghost use Rattle.owned_values.specs.Owned.{queue_of, seat_of};
 ghost use Rattle.msq_c.specs.Ends.{IsMemory};
-ghost use Rattle.msq_c.specs.WordSeats.{is_full, own_at, queue_at};
+ghost use Rattle.msq_c.specs.WordSeats.{queue_at};
 ghost use Rattle.msq_c.specs.WordEnds.{AreFull, AreEmpty, AreOfOne, KeepSeats, owned_at};
 ghost use Rattle.msq_c.specs.WordEnds.{HasAnyRoom, HasRoomOf, RefusesRoom};
 ghost use Rattle.msq_c.specs.WordEnds.{ClosesHandles, RefusesClose};
 
+use crate::slots::{Slot, lift};
 use crate::troubles::Trouble;
-use crate::word_handles::MsqWordsSeat;
-use crate::words::MsqWords;
+use crate::word_seats::OwnWords;
 use any_values::AnyValues;
 use carriers::RestOf;
 use history::Refusal;
@@ -23,73 +23,79 @@ use owned_values::{EndRoom, ValueSeat};
 use std::alloc::Global;
 
 // Whether each handle is full.
-fn all_are_full(slots: &[MsqWordsSeat]) -> bool
-    ensures { MatchBool result (AreFull slots.now) (¬ AreFull slots.now) }
+fn all_are_full<T: Send + Drop, H: Slot<OwnWords<AnyValues<T>>>>(slots: &[H]) -> bool
+    ensures { MatchBool result (AreFull H.holds slots.now) (¬ AreFull H.holds slots.now) }
 {
     slots.iter().all(|slot| slot.is_full())
 }
 
 // How many shares there are of the queue of a full handle.
-fn shares_at(alloc: Global, slot: &mut MsqWordsSeat) -> usize
-    requires { is_full slot.old ≡ true }
-    ensures full { is_full slot.new ≡ true }
-    ensures seat { own_at slot.new ≡ own_at slot.old }
+fn shares_at<T: Send + Drop, H: Slot<OwnWords<AnyValues<T>>>>(alloc: Global, slot: &mut H) -> usize
+    requires { H.holds slot.old ≡ true }
+    ensures full { H.holds slot.new ≡ true }
+    ensures seat { H.own slot.new ≡ H.own slot.old }
 {
-    let own = slot.lift(alloc);
+    let own = lift(alloc, slot);
     let shares = own.shares();
-    *slot = MsqWordsSeat::of(own);
+    *slot = H::of(own);
     shares
 }
 
 // How many shares there are of the queue of full handles, by the first one.
-fn shares_of(alloc: Global, slots: &mut [MsqWordsSeat]) -> usize
-    requires { AreFull slots.old }
-    ensures { KeepSeats slots.old slots.new }
+fn shares_of<T: Send + Drop, H: Slot<OwnWords<AnyValues<T>>>>(
+    alloc: Global,
+    slots: &mut [H],
+) -> usize
+    requires { AreFull H.holds slots.old }
+    ensures { KeepSeats H.holds H.own slots.old slots.new }
 {
     if slots.is_empty() {
         return 0;
     }
-    shares_at(alloc, &mut slots[0])
+    shares_at::<T, H>(alloc, &mut slots[0])
 }
 
 // Room for the end of the queue of a full handle, by its seat and so many others.
-fn room_at(
+fn room_at<T: Send + Drop, H: Slot<OwnWords<AnyValues<T>>>>(
     alloc: Global,
-    slot: &mut MsqWordsSeat,
+    slot: &mut H,
     others: usize,
-) -> Result<EndRoom<AnyValues<MsqWords>>, Trouble>
-    requires { is_full slot.old ≡ true }
-    ensures full { is_full slot.new ≡ true }
-    ensures seat { own_at slot.new ≡ own_at slot.old }
-    ensures room { IfOk result (HasAnyRoom (queue_at slot.old) others) }
+) -> Result<EndRoom<AnyValues<T>>, Trouble>
+    requires { H.holds slot.old ≡ true }
+    ensures full { H.holds slot.new ≡ true }
+    ensures seat { H.own slot.new ≡ H.own slot.old }
+    ensures room { IfOk result (HasAnyRoom (queue_at H.own slot.old) others) }
     ensures only_memory { IfErr result IsMemory }
 {
-    let own = slot.lift(alloc);
+    let own = lift(alloc, slot);
     let room = own.room(alloc, others);
-    *slot = MsqWordsSeat::of(own);
+    *slot = H::of(own);
     room
 }
 
 // Room for the end of the queue of full handles by all of them.
-fn room_of(
+fn room_of<T: Send + Drop, H: Slot<OwnWords<AnyValues<T>>>>(
     alloc: Global,
-    slots: &mut [MsqWordsSeat],
-) -> Result<EndRoom<AnyValues<MsqWords>>, Trouble>
-    requires { AreFull slots.old }
-    ensures seats { KeepSeats slots.old slots.new }
-    ensures room { IfOk result (HasRoomOf slots.old) }
+    slots: &mut [H],
+) -> Result<EndRoom<AnyValues<T>>, Trouble>
+    requires { AreFull H.holds slots.old }
+    ensures seats { KeepSeats H.holds H.own slots.old slots.new }
+    ensures room { IfOk result (HasRoomOf H.holds H.own slots.old) }
     ensures refused { IfErr result (RefusesRoom slots.old) }
 {
     if slots.is_empty() {
         return Err(Trouble::BadSize);
     }
     let others = slots.len() - 1;
-    room_at(alloc, &mut slots[0], others)
+    room_at::<T, H>(alloc, &mut slots[0], others)
 }
 
 // As many empty handles.
-fn empties(alloc: Global, like: &[MsqWordsSeat]) -> Result<Vec<MsqWordsSeat>, Trouble>
-    ensures empty { IfOk result (λ handles. AreEmpty handles.items) }
+fn empties<T: Send + Drop, H: Slot<OwnWords<AnyValues<T>>>>(
+    alloc: Global,
+    like: &[H],
+) -> Result<Vec<H>, Trouble>
+    ensures empty { IfOk result (λ handles. AreEmpty H.holds handles.items) }
     ensures len { IfOk result (λ handles. length handles.items ≡ length like.now) }
     ensures only_memory { IfErr result IsMemory }
 {
@@ -103,19 +109,19 @@ fn empties(alloc: Global, like: &[MsqWordsSeat]) -> Result<Vec<MsqWordsSeat>, Tr
 }
 
 // The seats of full handles, which are left empty; where memory is refused, as they were.
-fn take_all(
+fn take_all<T: Send + Drop, H: Slot<OwnWords<AnyValues<T>>>>(
     alloc: Global,
-    slots: &mut [MsqWordsSeat],
-) -> Result<Vec<ValueSeat<AnyValues<MsqWords>>>, Trouble>
-    requires { AreFull slots.old }
-    ensures taken { IfOk result (λ owned. owned.items ≡ map owned_at slots.old) }
-    ensures empty { OnOk result (AreEmpty slots.new) }
+    slots: &mut [H],
+) -> Result<Vec<ValueSeat<AnyValues<T>>>, Trouble>
+    requires { AreFull H.holds slots.old }
+    ensures taken { IfOk result (λ owned. owned.items ≡ map (owned_at H.own) slots.old) }
+    ensures empty { OnOk result (AreEmpty H.holds slots.new) }
     ensures refused { IfErr result (λ refusal. IsMemory refusal × (slots.new ≡ slots.old)) }
 {
     let Ok(mut owned) = Vec::with_capacity(alloc, slots.len()) else {
         return Err(Trouble::Refused(Refusal::Memory));
     };
-    let mut handles = empties(alloc, slots)?;
+    let mut handles = empties::<T, H>(alloc, slots)?;
     slots.swap_with_slice(&mut handles);
     for handle in handles {
         owned.push_reserved(Box::into_inner(handle.into_seat(alloc)).into_owned());
@@ -124,11 +130,11 @@ fn take_all(
 }
 
 // Ends the queue of these seats, the last one and others.
-fn ended(
-    room: EndRoom<AnyValues<MsqWords>>,
-    last: ValueSeat<AnyValues<MsqWords>>,
-    others: Vec<ValueSeat<AnyValues<MsqWords>>>,
-) -> Result<(RestOf<MsqWords>, Ended<MsqWords>), Trouble>
+fn ended<T: Send + Drop>(
+    room: EndRoom<AnyValues<T>>,
+    last: ValueSeat<AnyValues<T>>,
+    others: Vec<ValueSeat<AnyValues<T>>>,
+) -> Result<(RestOf<T>, Ended<T>), Trouble>
     requires room { HasAnyRoom (queue_of last) (length others.items) room }
     requires others { All (λ s. queue_of s ≡ queue_of last) others.items }
     ensures closes { IfOk result (λ r. ClosesOf (permits_of (queue_of last))
@@ -143,23 +149,23 @@ fn ended(
 }
 
 /// Ends the queue of these handles, which are all that have a share of it.
-pub(crate) fn close(
+pub(crate) fn close<T: Send + Drop, H: Slot<OwnWords<AnyValues<T>>>>(
     alloc: Global,
-    slots: &mut [MsqWordsSeat],
-) -> Result<(RestOf<MsqWords>, Ended<MsqWords>), Trouble>
-    requires { AreOfOne slots.old }
-    ensures closes { IfOk result (λ r. ClosesHandles slots.old r.0 r.1) }
-    ensures empty { OnOk result (AreEmpty slots.new) }
-    ensures refused { IfErr result (RefusesClose slots.old slots.new) }
+    slots: &mut [H],
+) -> Result<(RestOf<T>, Ended<T>), Trouble>
+    requires { AreOfOne H.holds H.own slots.old }
+    ensures closes { IfOk result (λ r. ClosesHandles H.own slots.old r.0 r.1) }
+    ensures empty { OnOk result (AreEmpty H.holds slots.new) }
+    ensures refused { IfErr result (RefusesClose H.holds H.own slots.old slots.new) }
 {
-    if !all_are_full(slots) {
+    if !all_are_full::<T, H>(slots) {
         return Err(Trouble::NoHandle);
     }
-    if shares_of(alloc, slots) != slots.len() {
+    if shares_of::<T, H>(alloc, slots) != slots.len() {
         return Err(Trouble::InUse);
     }
-    let room = room_of(alloc, slots)?;
-    let mut owned = take_all(alloc, slots)?;
+    let room = room_of::<T, H>(alloc, slots)?;
+    let mut owned = take_all::<T, H>(alloc, slots)?;
     let Some(last) = owned.pop() else {
         return Err(Trouble::BadSize);
     };

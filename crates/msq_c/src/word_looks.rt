@@ -3,9 +3,9 @@ ghost use Rattle.msq_c.specs.WordLooks.{TellsEmptiness, TellsLen, AnswersLook};
 
 use crate::bounds::MsqLen;
 use crate::looks::widened;
+use crate::slots::{Slot, lift};
 use crate::troubles::Trouble;
-use crate::word_handles::MsqWordsSeat;
-use crate::words::MsqWords;
+use crate::word_seats::OwnWords;
 use any_values::AnyValues;
 use node_arena::Seat;
 use owned_values::Look;
@@ -15,12 +15,12 @@ use std::alloc::Global;
 /// A look at whether the queue is empty.
 pub(crate) struct ForWords;
 
-impl Look<AnyValues<MsqWords>> for ForWords {
+impl<T: Send + Drop> Look<AnyValues<T>> for ForWords {
     type Told = Emptiness;
 
     ghost tells = { TellsEmptiness };
 
-    fn look(queue: &AnyValues<MsqWords>, seat: &mut Seat<MsqWords>) -> Emptiness {
+    fn look(queue: &AnyValues<T>, seat: &mut Seat<T>) -> Emptiness {
         widened(queue.emptiness(seat))
     }
 }
@@ -28,12 +28,12 @@ impl Look<AnyValues<MsqWords>> for ForWords {
 /// A look at how many values the queue holds.
 pub(crate) struct ForCount;
 
-impl Look<AnyValues<MsqWords>> for ForCount {
+impl<T: Send + Drop> Look<AnyValues<T>> for ForCount {
     type Told = Option<MsqLen>;
 
     ghost tells = { TellsLen };
 
-    fn look(queue: &AnyValues<MsqWords>, seat: &mut Seat<MsqWords>) -> Option<MsqLen> {
+    fn look(queue: &AnyValues<T>, seat: &mut Seat<T>) -> Option<MsqLen> {
         let len = queue.len(seat)?;
         Some(MsqLen {
             least: len.least,
@@ -42,18 +42,38 @@ impl Look<AnyValues<MsqWords>> for ForCount {
     }
 }
 
-/// A look by a handle.
-pub(crate) fn look<L: Look<AnyValues<MsqWords>>>(
+// A look by a handle.
+fn look<T: Send + Drop, L: Look<AnyValues<T>>, H: Slot<OwnWords<AnyValues<T>>>>(
     alloc: Global,
-    slot: &mut MsqWordsSeat,
+    slot: &mut H,
 ) -> Result<L::Told, Trouble>
-    ensures { AnswersLook L.tells slot.old slot.new result }
+    ensures { AnswersLook H.holds H.own L.tells slot.old slot.new result }
 {
     if !slot.is_full() {
         return Err(Trouble::NoHandle);
     }
-    let mut own = slot.lift(alloc);
+    let mut own = lift(alloc, slot);
     let told = own.look::<L>();
-    *slot = MsqWordsSeat::of(own);
+    *slot = H::of(own);
     Ok(told)
+}
+
+/// A look by a handle at whether the queue is empty.
+pub(crate) fn emptiness<T: Send + Drop, H: Slot<OwnWords<AnyValues<T>>>>(
+    alloc: Global,
+    slot: &mut H,
+) -> Result<Emptiness, Trouble>
+    ensures { AnswersLook H.holds H.own TellsEmptiness slot.old slot.new result }
+{
+    look::<T, ForWords, H>(alloc, slot)
+}
+
+/// A look by a handle at how many values the queue holds.
+pub(crate) fn count<T: Send + Drop, H: Slot<OwnWords<AnyValues<T>>>>(
+    alloc: Global,
+    slot: &mut H,
+) -> Result<Option<MsqLen>, Trouble>
+    ensures { AnswersLook H.holds H.own TellsLen slot.old slot.new result }
+{
+    look::<T, ForCount, H>(alloc, slot)
 }

@@ -4,27 +4,26 @@ ghost use Rattle.carriers.specs.Answers.{PushedOf, PopAnswersOf, DidShutOf, Meet
 
 use crate::own_seats::APART;
 use crate::troubles::Trouble;
-use crate::words::MsqWords;
 use any_values::AnyValues;
-use carriers::ItemOf;
+use carriers::{Carrier, ItemOf};
 use owned_values::{EndRoom, Look, ValueSeat};
 use std::alloc::Global;
 
 /// A seat of a queue of words, with its share of the queue, which lies first: include/msq_words.h compares these.
 #[repr(C)]
 #[derive(Drop)]
-pub struct OwnWords {
-    owned: ValueSeat<AnyValues<MsqWords>>,
+pub struct OwnWords<C: Carrier + Drop> {
+    owned: ValueSeat<C>,
     apart: [u64; APART],
 }
 
-impl OwnWords {
+impl<T: Send + Drop> OwnWords<AnyValues<T>> {
     ghost use Rattle.msq_c.specs.WordOwn.{queue_in, known_in, owned_in};
     ghost use Rattle.msq_c.specs.WordOwn.{RefusesPush, RefusesPop, RefusesShut};
     ghost use Rattle.msq_c.specs.Ends.{IsMemory};
     ghost use Rattle.msq_c.specs.WordEnds.{HasAnyRoom};
 
-    pub(crate) fn new(owned: ValueSeat<AnyValues<MsqWords>>) -> OwnWords
+    pub(crate) fn new(owned: ValueSeat<AnyValues<T>>) -> OwnWords<AnyValues<T>>
         ensures { owned_in result ≡ owned }
     {
         OwnWords {
@@ -33,16 +32,16 @@ impl OwnWords {
         }
     }
 
-    pub(crate) fn into_owned(self) -> ValueSeat<AnyValues<MsqWords>>
+    pub(crate) fn into_owned(self) -> ValueSeat<AnyValues<T>>
         ensures { result ≡ owned_in self }
     {
         let OwnWords { owned, apart: _ } = self;
         owned
     }
 
-    pub(crate) fn try_push(&mut self, words: MsqWords, turns: u32) -> Result<(), Trouble>
+    pub(crate) fn try_push(&mut self, value: T, turns: u32) -> Result<(), Trouble>
         ensures queue { queue_in self.new ≡ queue_in self.old }
-        ensures pushed { OnOk result (PushedOf (known_in self.old) words (known_in self.new)) }
+        ensures pushed { OnOk result (PushedOf (known_in self.old) value (known_in self.new)) }
         ensures refused { IfErr result (RefusesPush self.old self.new turns) }
     {
         if turns == 0 {
@@ -51,13 +50,13 @@ impl OwnWords {
         if !self.owned.may_push() {
             return Err(Trouble::NoRole);
         }
-        match self.owned.try_push(words, turns) {
+        match self.owned.try_push(value, turns) {
             Ok(()) => Ok(()),
             Err(unpushed) => Err(Trouble::Refused(unpushed.refusal)),
         }
     }
 
-    pub(crate) fn try_pop(&mut self, turns: u32) -> Result<Option<ItemOf<MsqWords>>, Trouble>
+    pub(crate) fn try_pop(&mut self, turns: u32) -> Result<Option<ItemOf<T>>, Trouble>
         ensures queue { queue_in self.new ≡ queue_in self.old }
         ensures answer { IfOk result
             (λ front. PopAnswersOf (known_in self.old) front (known_in self.new)) }
@@ -92,7 +91,7 @@ impl OwnWords {
         }
     }
 
-    pub(crate) fn meet(&mut self, other: &mut OwnWords)
+    pub(crate) fn meet(&mut self, other: &mut OwnWords<AnyValues<T>>)
         requires { queue_in other.old ≡ queue_in self.old }
         ensures queue { queue_in self.new ≡ queue_in self.old }
         ensures other_queue { queue_in other.new ≡ queue_in other.old }
@@ -102,7 +101,7 @@ impl OwnWords {
         self.owned.meet(&mut other.owned)
     }
 
-    pub(crate) fn look<L: Look<AnyValues<MsqWords>>>(&mut self) -> L::Told
+    pub(crate) fn look<L: Look<AnyValues<T>>>(&mut self) -> L::Told
         ensures queue { queue_in self.new ≡ queue_in self.old }
         ensures told { L.tells (queue_in self.old) (known_in self.old) result (known_in self.new) }
     {
@@ -113,7 +112,7 @@ impl OwnWords {
         &self,
         alloc: Global,
         others: usize,
-    ) -> Result<EndRoom<AnyValues<MsqWords>>, Trouble>
+    ) -> Result<EndRoom<AnyValues<T>>, Trouble>
         ensures room { IfOk result (HasAnyRoom (queue_in self.now) others) }
         ensures only_memory { IfErr result IsMemory }
     {

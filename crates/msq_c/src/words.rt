@@ -1,6 +1,9 @@
-//! Values of three words, as C passes and gets them.
+//! Values of three words and of one, as C passes and gets them.
 ghost use Rattle.std.specs.Prelude.{◌≡◌};
+ghost use Rattle.carriers.specs.declared.items.ItemOf.{ItemOf};
+ghost use Rattle.msq_c.specs.Words.{item_of, bits_of};
 
+use crate::values::MsqValue;
 use carriers::ItemOf;
 
 /// Three words, a value of a queue of words: a pointer, a key, or what a small struct has in its bytes.
@@ -20,16 +23,50 @@ pub struct MsqItem {
     pub from: u16,
 }
 
-impl MsqItem {
-    ghost use Rattle.msq_c.specs.Words.{item_of};
+/// What C gets of a value, and of who pushed it.
+pub trait Item<T> {
+    // What that is.
+    ghost told: { ItemOf T → Self };
 
     /// What C gets of a value.
-    pub(crate) fn of(front: ItemOf<MsqWords>) -> MsqItem
+    fn of(front: ItemOf<T>) -> Self
+        ensures { result ≡ told front };
+}
+
+// The words that were pushed, and who pushed them.
+fn words_of(front: ItemOf<MsqWords>) -> MsqItem
+    ensures { result ≡ item_of front }
+{
+    MsqItem {
+        words: front.value,
+        from: front.from,
+    }
+}
+
+// The 64 bits that were pushed, and who pushed them.
+fn word_of(front: ItemOf<u64>) -> MsqValue
+    ensures { result ≡ bits_of front }
+{
+    let ItemOf { value: body, from } = front;
+    MsqValue { body, from }
+}
+
+impl Item<MsqWords> for MsqItem {
+    ghost told = { item_of };
+
+    fn of(front: ItemOf<MsqWords>) -> MsqItem
         ensures { result ≡ item_of front }
     {
-        MsqItem {
-            words: front.value,
-            from: front.from,
-        }
+        words_of(front)
+    }
+}
+
+impl Item<u64> for MsqValue {
+    ghost told = { bits_of };
+
+    fn of(front: ItemOf<u64>) -> MsqValue
+        ensures { result ≡ bits_of front }
+    {
+        word_of(front)
     }
 }

@@ -3,7 +3,7 @@ use Rattle.msq_c.specs.WordEnds.{AreEmpty}
 use Rattle.msq_c.proofs.word_ending.empties.Given as goal
 
 abbrev pub invariant-loop-slot : goal.invariant-loop-slot
-invariant-loop-slot l = record {
-  empty : AreEmpty l.handles.items;
+invariant-loop-slot g l = record {
+  empty : AreEmpty g.H.Slot.holds l.handles.items;
   count : length l.handles.items ≡ l.slot-index;
 }

@@ -3,8 +3,8 @@ use Rattle.msq_c.specs.WordEnds.{AreFull, owned_at}
 use Rattle.msq_c.proofs.word_ending.take_all.Given as goal
 
 abbrev pub invariant-loop-handle : goal.invariant-loop-handle
-invariant-loop-handle l = record {
-  those : l.owned.items ≡ map owned_at l.yielded;
-  full : AreFull l.handle-iterator.rest.items;
+invariant-loop-handle g l = record {
+  those : l.owned.items ≡ map (owned_at g.H.Slot.own) l.yielded;
+  full : AreFull g.H.Slot.holds l.handle-iterator.rest.items;
   room : vec_len l.owned + length l.handle-iterator.rest.items ≤ vec_capacity l.owned;
 }

@@ -3,4 +3,4 @@ use Rattle.msq_c.specs.WordOwn.{owned_in}
 use Rattle.msq_c.proofs.word_making.boxed.Given as goal
 
 abbrev pub invariant-loop-seat : goal.invariant-loop-seat
-invariant-loop-seat l = map (λ b. owned_in b.value) l.boxes.items ≡ l.yielded
+invariant-loop-seat g l = map (λ b. owned_in b.value) l.boxes.items ≡ l.yielded

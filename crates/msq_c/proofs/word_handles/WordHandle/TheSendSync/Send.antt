@@ -11,11 +11,17 @@ use denote.Struct.Struct.{exits_of}
 use denote.Struct.Owning.{shape, fields, to}
 use Rattle.std.specs.contracts.impls.GlobalAllocator.TheImpl.{ghosts}
 use Rattle.std.proofs.Crossing.{crosses}
-use Rattle.msq_c.specs.declared.word_seats.OwnWords.{OwnWords}
+use Rattle.node_arena.specs.contracts.seats.Seat as seat
+use Rattle.any_values.specs.contracts.any.AnyValues as any
+use Rattle.any_values.specs.contracts.any_calls.AnyValuesCarrier.TheImpl as carrier
 use Rattle.msq_c.specs.Boxed.{box_if}
-use Rattle.msq_c.specs.contracts.word_seats.OwnWords as own
+use Rattle.msq_c.specs.WordRows.{OwnThree, three_row}
+use Rattle.msq_c.specs.contracts.words.MsqWords as words
 use Rattle.msq_c.specs.contracts.word_handles.WordHandle.{the_row, the_type}
-use Rattle.msq_c.proofs.word_seats.OwnWords.TheSendSync.{the_send as own_send}
+use Rattle.any_values.proofs.any.AnyValues.TheSendSync.{the_send as queue_send, the_sync as queue_sync}
+use Rattle.node_arena.proofs.seats.Seat.TheSendSync.{the_send as seat_send}
+use Rattle.msq_c.proofs.words.MsqWords.TheSendSync.{the_send as words_send}
+use Rattle.msq_c.proofs.word_seats.OwnWords.TheSendSync as own
 
 quiet : {D X : Type 0} (to : D → X) (e : Exit X) → Quiet e → Quiet (hidden (under to e))
 quiet to unchanged q = λ x w. tt
@@ -25,10 +31,12 @@ lies : (R : RattleType) → IsSend R → (p : Ptr) (x : R.Denot) → Keyless (li
 lies R s (block_ptr b o) x = part_keyless R s full_share x b o
 lies R s null_ptr x = tt
 
-owned : (y : Bool) (p : Ptr) (x : OwnWords) → IsSend own.the_row → Keyless (box_if own.the_row y p x)
-owned true p x s = let f : Frees ghosts ghosts.dealloc_token = search (crosses, sendable) in (lies own.the_row s p x, f.frees (record { memory = record { seal = tt } }) _ p)
+owned : (y : Bool) (p : Ptr) (x : OwnThree) → IsSend three_row → Keyless (box_if three_row y p x)
+owned true p x s = let f : Frees ghosts ghosts.dealloc_token = search (crosses, sendable) in (lies three_row s p x, f.frees (record { memory = record { seal = tt } }) _ p)
 owned false p x s = tt
 
 pub send : IsSend the_row
-send = let O = the_type in let ps : IsSend RawPtr = search sendable in owning_send O (ps, tt) (λ d. owned d.full d.at d.value own_send)
+send = let O = the_type in let ps : IsSend RawPtr = search sendable in owning_send O (ps, tt) (λ d. owned d.full d.at d.value
+    (own.the_send (any.the_row words.the_row) words.the_row (seat.the_row words.the_row) (carrier.ghosts words.the_row)
+    (queue_send words.the_row words_send) (seat_send words.the_row words_send) (queue_sync words.the_row words_send)))
     (λ k. quiet (to O) (exits_of k (fields O)) ((struct_send (shape O) (ps, tt)).leaving k))

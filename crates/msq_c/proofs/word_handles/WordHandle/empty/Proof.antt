@@ -20,8 +20,7 @@ use denote.Triple.Entry.{alive}
 use denote.Triple.Walked.{Stays, stay_dropped, walk_of, Goes-dropped}
 use Rattle.std.proofs.raw_atomic.Walks.{proved, leaves}
 use Rattle.std.specs.Prelude.{Bool, false}
-use Rattle.msq_c.proofs.Bytes.{word}
-use Rattle.msq_c.proofs.WordBytes.{Data, made}
+use Rattle.msq_c.proofs.Bytes.{Data, word, made}
 use Rattle.msq_c.specs.contracts.word_handles.WordHandle as handle
 use Rattle.msq_c.specs.contracts.word_handles.WordHandle.empty.{ended, clauses}
 use Rattle.msq_c.specs.contracts.word_handles.WordHandle.empty.Key.{name as #self}

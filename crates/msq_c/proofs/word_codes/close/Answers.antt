@@ -1,8 +1,8 @@
 use Rattle.std.proofs.Common.{refl, Ok, Err}
-use Rattle.msq_c.proofs.word_exports.msq_words_close.Goals as goal
+use Rattle.msq_c.proofs.word_codes.close.Goals as goal
 
 pub returns-in-Ok : goal.returns-in-Ok
-returns-in-Ok c = record {
+returns-in-Ok g c = record {
   answer = Ok tt;
   code = refl;
   holds = record {
@@ -16,7 +16,7 @@ returns-in-Ok c = record {
 }
 
 pub returns-in-Err : goal.returns-in-Err
-returns-in-Err c = record {
+returns-in-Err g c = record {
   answer = Err c.in-Err.refusal;
   code = c.code.ensures;
   holds = record { refused = c.in-Err.ensures.refused; values = refl; rest = refl };

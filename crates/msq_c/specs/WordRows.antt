@@ -1,0 +1,31 @@
+-- The seats of queues of three words, and of one, that the handles of C own.
+use Rattle.std.specs.Prelude.{ℕ}
+use denote.Builtin.{u64}
+use denote.RattleType.{RattleType}
+use Rattle.node_arena.specs.contracts.seats.Seat as seat
+use Rattle.any_values.specs.contracts.any.AnyValues as any
+use Rattle.any_values.specs.contracts.any_calls.AnyValuesCarrier.TheImpl as carrier
+use Rattle.msq_c.specs.contracts.words.MsqWords as words
+use Rattle.msq_c.specs.contracts.word_seats.OwnWords as own
+use Rattle.msq_c.specs.declared.words.MsqWords.{MsqWords}
+use Rattle.msq_c.specs.WordOwn.{Own}
+
+-- the type of the seats of a queue of such values, in memory
+abbrev pub row_of : RattleType → RattleType
+row_of R = own.the_row (any.the_row R) R (seat.the_row R) (carrier.ghosts R)
+
+-- a seat of a queue of three words
+abbrev pub OwnThree : Type 0
+OwnThree = Own MsqWords (carrier.ghosts words.the_row)
+
+-- its type in memory
+abbrev pub three_row : RattleType
+three_row = row_of words.the_row
+
+-- a seat of a queue of one word
+abbrev pub OwnOne : Type 0
+OwnOne = Own ℕ (carrier.ghosts u64)
+
+-- its type in memory
+abbrev pub one_row : RattleType
+one_row = row_of u64
