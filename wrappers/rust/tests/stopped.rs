@@ -77,6 +77,7 @@ fn locks_are_held() {
         if told == busy {
             assert_eq!(sender.send_timeout(Body::from(7), SOON), busy);
             assert_eq!(sender.try_push_all(&[Body::from(7)], TURNS), (0, busy));
+            assert_eq!(sender.try_shut(TURNS), busy);
         } else if told.is_ok() {
             let _ = receiver.try_pop(TURNS);
         }
@@ -89,6 +90,42 @@ fn locks_are_held() {
             assert_eq!(receiver.try_pop_up_to(1, TURNS), (vec![], busy));
         }
         told == Err(Refusal::Busy)
+    });
+}
+
+/// The same of a queue of boxes, of which there are two, so that no call takes memory.
+fn locks_of_boxes_are_held() {
+    let (mut senders, mut receivers) = msq::boxed(Kind::TwoLock, 16, 2, 2).unwrap();
+    let (mut giver, mut taker) = (senders.remove(1), receivers.remove(1));
+    let (sender, receiver) = (&mut senders[0], &mut receivers[0]);
+    let (mut held, mut spare) = (Some(Box::new(7)), Some(Box::new(8)));
+    let mut act = move || {
+        held = match held.take() {
+            Some(value) => giver.try_push(value, TURNS).err().map(|(_, value)| value),
+            None => taker.try_pop(TURNS).ok().flatten(),
+        }
+    };
+    stop_within(&mut act, || {
+        let Some(value) = spare.take() else {
+            spare = receiver.try_pop(TURNS).ok().flatten();
+            return false;
+        };
+        let Err((told, value)) = sender.try_push(value, TURNS) else {
+            return false;
+        };
+        assert_eq!(told, Refusal::Busy);
+        let (told, value) = sender.send_timeout(value, SOON).unwrap_err();
+        assert_eq!(told, Refusal::Busy);
+        assert_eq!(sender.try_shut(TURNS), Err(Refusal::Busy));
+        spare = Some(value);
+        true
+    });
+    stop_within(act, || {
+        let is_busy = receiver.try_pop(TURNS) == Err(Refusal::Busy);
+        if is_busy {
+            assert_eq!(receiver.recv_timeout(SOON), Err(Refusal::Busy));
+        }
+        is_busy
     });
 }
 
@@ -134,6 +171,7 @@ fn calls_are_busy_beside_a_stopped_thread() {
     // SAFETY: the handler calls nothing that may not be called there.
     unsafe { signal(SIGUSR1, stop_here) };
     locks_are_held();
+    locks_of_boxes_are_held();
     locks_of_values_are_held();
     a_place_is_claimed();
 }
