@@ -6,7 +6,7 @@ pub mod branch;
 pub mod onward;
 mod outcomes;
 mod setting_out;
-mod stepping;
+mod steps;
 mod words;
 
 pub use outcomes::{
@@ -18,5 +18,5 @@ pub use outcomes::{
     worn as worn_with_node,
 };
 pub use setting_out::{exchange, load, store};
-pub use stepping::{cleared, exchanged, loaded, stored};
+pub use steps::{cleared, exchanged, loaded, stored};
 pub use words::Word;

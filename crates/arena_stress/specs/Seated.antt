@@ -3,7 +3,7 @@ use Rattle.std.specs.Prelude.{◌≡◌, ℕ, List, Option, Some, None, IfSome, 
 use Rattle.node_arena.specs.Arenas.{Arena}
 use Rattle.node_arena.specs.declared.seats.Seat.{Seat}
 use Rattle.node_arena.specs.Seats.{IsReady, pocket_of}
-use Rattle.arena_stress.specs.declared.seating.Four.{Four}
+use Rattle.arena_stress.specs.declared.new_arenas.Four.{Four}
 
 -- a seat may begin a call, and its pocket is empty
 abbrev pub IsFresh : {T : Type 0} → Arena → Seat T → Type 0

@@ -4,8 +4,8 @@
 mod bells;
 mod deadlines;
 mod queue;
-mod receiving;
-mod sending;
+mod recv_calls;
+mod send_calls;
 mod shuts;
 
 pub use deadlines::{InTime, Late, Unsent};

@@ -8,5 +8,5 @@ mod numbers;
 mod offices;
 mod rings;
 mod texts;
-mod waiting;
+mod waits;
 mod whole;

@@ -1,3 +1,3 @@
 mod Dealt
-mod Meets
+mod MetSeats
 pub mod Shares

@@ -2,15 +2,15 @@
 #![tactic(auto)]
 
 mod closers;
-mod dealing;
-mod meeting;
+mod new_sides;
+mod meets;
 mod receiver;
-mod receiving;
+mod recv_calls;
 mod sender;
-mod sending;
+mod send_calls;
 mod sides;
 
-pub use dealing::{receivers, senders};
+pub use new_sides::{receivers, senders};
 pub use receiver::Receiver;
 pub use sender::Sender;
 pub use sides::Side;

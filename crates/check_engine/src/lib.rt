@@ -1,7 +1,7 @@
 //! The engine of `msq check`: from the text of a history to the verdict on it.
 #![tactic(auto)]
 
-mod judging;
+mod engine;
 mod texts;
 
-pub use judging::{check_text, history_in};
+pub use engine::{check_text, history_in};

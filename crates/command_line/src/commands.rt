@@ -7,7 +7,7 @@ use crate::helps;
 use crate::messages::told;
 use crate::options::{Placing, crew_in, explains_in, flag_in, kind_in, placing_in, view_in};
 use crate::places::{held_in, place_command};
-use crate::showing::show_command;
+use crate::show_options::show_command;
 use clap::builder::ValueParser;
 use clap::error::ErrorKind;
 use clap::{Arg, ArgAction, ArgMatches};

@@ -6,7 +6,7 @@ mod helps;
 mod messages;
 mod options;
 mod places;
-mod showing;
+mod show_options;
 
 pub use commands::{Colours, Command, Crew, Task, View, read_words};
 pub use options::Placing;

@@ -1,5 +1,5 @@
 //! Runs of workers, with the answers worked out by hand.
-mod comparing;
+mod comparisons;
 mod ends;
 mod gates;
 mod plans;

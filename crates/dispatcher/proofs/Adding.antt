@@ -8,7 +8,7 @@ use Rattle.history.specs.declared.refusals.Refusal.{Refusal}
 use Rattle.history.specs.declared.refusals.Refusal.TheVariants.{Stranger, Double}
 use Rattle.job_results.specs.declared.jobs.Job.{Job}
 use Rattle.job_results.specs.declared.results.JobResult.{JobResult}
-use Rattle.job_results.specs.declared.gathering.Gather.{Gather}
+use Rattle.job_results.specs.declared.gathers.Gather.{Gather}
 use Rattle.job_results.specs.Jobs.{job_rows}
 use Rattle.job_results.specs.Results.{number_in, row_of}
 use Rattle.job_results.specs.Gathering.{IsListed, MissesOne}

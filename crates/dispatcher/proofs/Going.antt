@@ -19,9 +19,9 @@ use Rattle.job_results.specs.Jobs.{same_job}
 use Rattle.job_results.specs.Results.{number_in, job_in}
 use Rattle.job_results.specs.Gathering.{IsListed}
 use Rattle.job_results.proofs.Same.{true_both}
-use Rattle.dispatcher.specs.declared.running.Back.{Back}
-use Rattle.dispatcher.specs.declared.running.End.{End}
-use Rattle.dispatcher.specs.declared.running.End.TheVariants.{Finished, Stopped, Refused}
+use Rattle.dispatcher.specs.declared.workers.Back.{Back}
+use Rattle.dispatcher.specs.declared.workers.End.{End}
+use Rattle.dispatcher.specs.declared.workers.End.TheVariants.{Finished, Stopped, Refused}
 use Rattle.dispatcher.specs.declared.crews.JobsRun.{JobsRun}
 use Rattle.dispatcher.specs.Turns.{IsResultOf, EndsSo, IsBack}
 use Rattle.dispatcher.specs.Crews.{HasRun}

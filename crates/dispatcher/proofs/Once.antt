@@ -24,9 +24,9 @@ use Rattle.history.proofs.Sums.{AreApart, made-all}
 use Rattle.history.proofs.Values.{pushed-Leads, pushed-own}
 use Rattle.history.proofs.Ending.{ends_there}
 use Rattle.job_results.specs.declared.jobs.Job.{Job}
-use Rattle.dispatcher.specs.declared.running.Back.{Back}
-use Rattle.dispatcher.specs.declared.running.End.{End}
-use Rattle.dispatcher.specs.declared.running.End.TheVariants.{Finished, Stopped, Refused}
+use Rattle.dispatcher.specs.declared.workers.Back.{Back}
+use Rattle.dispatcher.specs.declared.workers.End.{End}
+use Rattle.dispatcher.specs.declared.workers.End.TheVariants.{Finished, Stopped, Refused}
 use Rattle.dispatcher.specs.declared.crews.JobsRun.{JobsRun}
 use Rattle.dispatcher.specs.Workers.{after_pushes}
 use Rattle.dispatcher.specs.Working.{IsNoJob}

@@ -6,7 +6,7 @@ use Rattle.history.specs.declared.refusals.Refusal.TheVariants.{BadSize}
 use Rattle.history.specs.Seats.{Known}
 use Rattle.blocking_queue.specs.Queues.{queue_of}
 use Rattle.job_results.specs.declared.jobs.Job.{Job}
-use Rattle.dispatcher.specs.declared.running.Back.{Back}
+use Rattle.dispatcher.specs.declared.workers.Back.{Back}
 use Rattle.dispatcher.specs.declared.crews.JobsRun.{JobsRun}
 use Rattle.dispatcher.specs.declared.crews.Unrun.{Unrun}
 use Rattle.dispatcher.specs.declared.crews.Started.{Started}

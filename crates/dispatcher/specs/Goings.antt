@@ -8,7 +8,7 @@ use Rattle.job_results.specs.declared.jobs.Job.{Job}
 use Rattle.job_results.specs.declared.results.JobResult.{JobResult}
 use Rattle.job_results.specs.Gathering.{IsListed}
 use Rattle.job_results.specs.Results.{number_in}
-use Rattle.dispatcher.specs.declared.running.Back.{Back}
+use Rattle.dispatcher.specs.declared.workers.Back.{Back}
 
 -- the job at this place has a result
 abbrev pub IsFilled : List (Option JobResult) → (place : ℕ) → Type 0

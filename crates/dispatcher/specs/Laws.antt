@@ -6,8 +6,8 @@ use Rattle.history.specs.Rests.{left_of}
 use Rattle.history.specs.Seats.{Permit, Known}
 use Rattle.history.specs.Values.{OnlyPushes}
 use Rattle.history.specs.Closing.{AreAll}
-use Rattle.dispatcher.specs.declared.running.Back.{Back}
-use Rattle.dispatcher.specs.declared.running.End.TheVariants.{Finished}
+use Rattle.dispatcher.specs.declared.workers.Back.{Back}
+use Rattle.dispatcher.specs.declared.workers.End.TheVariants.{Finished}
 use Rattle.dispatcher.specs.Goings.{numbers_in, body_of}
 
 -- how often a number stands in a list

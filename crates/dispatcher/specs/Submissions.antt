@@ -3,7 +3,7 @@ use Rattle.std.specs.Prelude.{◌≡◌, ◌≤◌, ◌⊎◌, ℕ, Option, Some
 use Rattle.history.specs.declared.refusals.Refusal.{Refusal}
 use Rattle.history.specs.Seats.{Known}
 use Rattle.history.specs.Answers.{DidShut, FoundShut, SeesMore, EndsShut}
-use Rattle.dispatcher.specs.declared.submitting.Given.{Given}
+use Rattle.dispatcher.specs.declared.submitter.Given.{Given}
 use Rattle.dispatcher.specs.Workers.{HasPushed, EndsPushOne}
 
 -- a seat pushed so many of the numbers from 1 on, in order, each once, and had no other effect; all of them where no push was

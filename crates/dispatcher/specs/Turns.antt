@@ -10,9 +10,9 @@ use Rattle.history.specs.Seats.{Known}
 use Rattle.job_results.specs.declared.jobs.Job.{Job}
 use Rattle.job_results.specs.declared.results.JobResult.{JobResult}
 use Rattle.job_results.specs.Results.{number_in, job_in}
-use Rattle.dispatcher.specs.declared.running.End.{End}
-use Rattle.dispatcher.specs.declared.running.End.TheVariants.{Finished, Stopped, Refused}
-use Rattle.dispatcher.specs.declared.running.Back.{Back}
+use Rattle.dispatcher.specs.declared.workers.End.{End}
+use Rattle.dispatcher.specs.declared.workers.End.TheVariants.{Finished, Stopped, Refused}
+use Rattle.dispatcher.specs.declared.workers.Back.{Back}
 use Rattle.dispatcher.specs.Working.{IsNoJob, PutsResult}
 
 -- a seat took this value, and did nothing else

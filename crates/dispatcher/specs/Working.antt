@@ -8,8 +8,8 @@ use Rattle.history.specs.Answers.{Popped, SeesMore, FoundEmpty, FoundShutEmpty}
 use Rattle.job_results.specs.declared.jobs.Job.{Job}
 use Rattle.job_results.specs.declared.results.JobResult.{JobResult}
 use Rattle.job_results.specs.Results.{number_in, job_in}
-use Rattle.dispatcher.specs.declared.working.Worked.{Worked}
-use Rattle.dispatcher.specs.declared.working.Worked.TheVariants.{Did, Empty, Stop}
+use Rattle.dispatcher.specs.declared.worker_turns.Worked.{Worked}
+use Rattle.dispatcher.specs.declared.worker_turns.Worked.TheVariants.{Did, Empty, Stop}
 
 -- one value was taken, with this body
 pub record Takes (k : Known) (body : ℕ) (k' : Known) : Type 0 where

@@ -2,18 +2,18 @@
 #![tactic(auto)]
 
 mod crews;
-mod dispatching;
+mod dispatches;
 mod gate;
-mod gathering;
+mod results;
 pub mod laws;
-mod running;
-mod submitting;
-mod working;
+mod workers;
+mod submitter;
+mod worker_turns;
 
 pub use crews::{JobsRun, Unrun};
-pub use dispatching::{MOST_JOBS, dispatch, dispatch_keeping_seats, run_jobs};
+pub use dispatches::{MOST_JOBS, dispatch, dispatch_keeping_seats, run_jobs};
 pub use gate::Gate;
-pub use gathering::Dispatched;
-pub use running::{Back, End};
-pub use submitting::Given;
-pub use working::{Worked, work_one};
+pub use results::Dispatched;
+pub use workers::{Back, End};
+pub use submitter::Given;
+pub use worker_turns::{Worked, work_one};

@@ -6,10 +6,10 @@ use Rattle.history.specs.declared.rests.Rest.{Rest}
 use Rattle.history.specs.Seats.{Known}
 use Rattle.either_queue.specs.declared.either.EitherQueue.{EitherQueue}
 use Rattle.either_queue.specs.declared.either.EitherQueue.TheVariants as queue
-use Rattle.either_queue.specs.declared.closing.EitherRoom.{EitherRoom}
-use Rattle.either_queue.specs.declared.closing.EitherRoom.TheVariants as room
-use Rattle.either_queue.specs.declared.closing.EitherEnd.{EitherEnd}
-use Rattle.either_queue.specs.declared.closing.EitherEnd.TheVariants as end
+use Rattle.either_queue.specs.declared.ends.EitherRoom.{EitherRoom}
+use Rattle.either_queue.specs.declared.ends.EitherRoom.TheVariants as room
+use Rattle.either_queue.specs.declared.ends.EitherEnd.{EitherEnd}
+use Rattle.either_queue.specs.declared.ends.EitherEnd.TheVariants as end
 
 -- there is room for the values left, and for so many seats
 pub record IsRoomFor {S : Type 0} (has_room : Vec Taken → Type 0) (count : ℕ) (for_values : Vec Taken) (for_seats : Vec S) : Type 0 where

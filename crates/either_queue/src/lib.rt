@@ -1,9 +1,9 @@
 //! A queue of one of two kinds, which is chosen as it is made.
 #![tactic(auto)]
 
-mod closing;
+mod ends;
 mod either;
-mod making;
+mod one_of_two;
 
-pub use closing::{EitherEnd, EitherRoom};
+pub use ends::{EitherEnd, EitherRoom};
 pub use either::{EitherQueue, EitherSeat};

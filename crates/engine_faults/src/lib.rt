@@ -3,7 +3,7 @@
 
 mod endings;
 mod faults;
-mod spelling;
+mod fault_lines;
 
 pub use endings::{Ending, end_of};
 pub use faults::Fault;

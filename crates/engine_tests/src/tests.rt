@@ -1,9 +1,9 @@
 //! Engines, each over texts whose answers were worked out by hand, and over devices that fail.
-mod comparing;
+mod comparisons;
 mod endings;
 mod engine;
 mod faults;
-mod judging;
+mod verdicts;
 mod pages;
 mod pictures;
 mod points;

@@ -1,8 +1,8 @@
 //! Runs tasks of any type in threads of their own, on a new queue of values.
 #![tactic(auto)]
 
-mod making;
+mod new_queues;
 mod runs;
 
-pub use making::pool_queue;
+pub use new_queues::pool_queue;
 pub use runs::{Unstarted, run_all};

@@ -3,7 +3,7 @@ ghost use Rattle.std.specs.Prelude.{◌≡◌, ◌≤◌, [], length, vec_capaci
 ghost use Rattle.std.specs.List.{AllZip};
 ghost use Rattle.executor.specs.Answers.{IsSettled, AreSettled};
 
-use crate::making::{MOST_WORKERS, nodes_for, pool_queue};
+use crate::new_queues::{MOST_WORKERS, nodes_for, pool_queue};
 use history::Refusal;
 use node_arena::MOST_COUNT;
 use nonblocking::NonBlockingAlgorithm;

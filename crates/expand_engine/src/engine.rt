@@ -5,7 +5,7 @@ ghost use Rattle.text_io.specs.Blocks.{GivesUp};
 ghost use Rattle.text_io.specs.Readings.{ReachesEnd};
 ghost use Rattle.expand_engine.specs.Expansions.{BeginsExpansion, ExpansionRefused, IsExpansionOf, StopsExpansion, TellsFaultyLine, WritesExpansion};
 
-use crate::expanding::schedule_of;
+use crate::expansions::schedule_of;
 use engine_faults::Fault;
 use history::Refusal;
 use recipe_text::Recipes;

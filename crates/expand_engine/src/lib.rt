@@ -1,10 +1,10 @@
 //! The engine of recipes: from the text of a recipe to the text of the schedule that it stands for.
 #![tactic(auto)]
 
-mod acting;
+mod acts;
 mod engine;
-mod expanding;
+mod expansions;
 pub mod laws;
-mod walking;
+mod walks;
 
 pub use engine::expand_text;

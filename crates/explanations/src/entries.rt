@@ -1,5 +1,5 @@
 //! The table of docs/FAULTS.md, which tools/pages writes from there.
-use crate::explaining::Entry;
+use crate::lookups::Entry;
 
 /// What is told of each refusal, by rising number.
 pub static ENTRIES: [Entry; 16] = [

@@ -2,7 +2,7 @@
 #![tactic(auto)]
 
 mod entries;
-mod explaining;
+mod lookups;
 
 pub use entries::ENTRIES;
-pub use explaining::{Entry, entry_named, explain};
+pub use lookups::{Entry, entry_named, explain};

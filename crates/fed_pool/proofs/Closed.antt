@@ -9,7 +9,7 @@ use Rattle.carriers.specs.Closing.{ClosesOf, AsksSoMany}
 use Rattle.carriers.specs.Rests.{left_in}
 use Rattle.tasks.specs.declared.answers.Done.{Done}
 use Rattle.tasks.specs.declared.runs.Numbered.{Numbered}
-use Rattle.fed_pool.specs.declared.serving.Served.{Served}
+use Rattle.fed_pool.specs.declared.worker.Served.{Served}
 use Rattle.fed_pool.specs.declared.crews.Crew.{Crew}
 use Rattle.fed_pool.specs.Answered.{AnsweredOnce, value_in}
 use Rattle.fed_pool.specs.Pools.{taker_in, giver_in, result_in, unsent_of}

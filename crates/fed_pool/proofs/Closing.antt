@@ -12,8 +12,8 @@ use Rattle.deliveries.specs.Together.{pushed_by, popped_by}
 use Rattle.deliveries.proofs.Together.{handed_over_once}
 use Rattle.tasks.specs.declared.answers.Done.{Done}
 use Rattle.tasks.specs.declared.runs.Numbered.{Numbered}
-use Rattle.fed_pool.specs.declared.serving.Post.{Post}
-use Rattle.fed_pool.specs.declared.serving.Served.{Served}
+use Rattle.fed_pool.specs.declared.worker.Post.{Post}
+use Rattle.fed_pool.specs.declared.worker.Served.{Served}
 use Rattle.fed_pool.specs.declared.crews.Crew.{Crew}
 use Rattle.fed_pool.specs.Answered.{AnsweredOnce, value_in}
 use Rattle.fed_pool.specs.Serving.{IsServed}

@@ -4,7 +4,7 @@ use Rattle.history.specs.Seats.{Permit, MayPush, MayPop}
 use Rattle.carriers.specs.Knowledge.{KnownOf}
 use Rattle.tasks.specs.declared.answers.Done.{Done}
 use Rattle.tasks.specs.declared.runs.Numbered.{Numbered}
-use Rattle.fed_pool.specs.declared.leading.Leader.{Leader}
+use Rattle.fed_pool.specs.declared.leader.Leader.{Leader}
 use Rattle.fed_pool.proofs.Handing.{leads_none}
 use Rattle.fed_pool.specs.Leading.{LeadsSo, IsLeading, GoesOn}
 

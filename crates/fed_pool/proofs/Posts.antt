@@ -6,7 +6,7 @@ use Rattle.history.specs.Seats.{Permit, MayPush, MayPop}
 use Rattle.carriers.specs.Knowledge.{KnownOf}
 use Rattle.tasks.specs.declared.answers.Done.{Done}
 use Rattle.tasks.specs.declared.runs.Numbered.{Numbered}
-use Rattle.fed_pool.specs.declared.serving.Post.{Post}
+use Rattle.fed_pool.specs.declared.worker.Post.{Post}
 use Rattle.fed_pool.specs.Serving.{IsPost}
 use Rattle.fed_pool.specs.Pools.{takes, gives}
 

@@ -16,8 +16,8 @@ use Rattle.tasks.specs.declared.answers.Done.{Done}
 use Rattle.tasks.specs.declared.runs.Numbered.{Numbered}
 use Rattle.tasks.specs.Tasks.{IsDoneOf}
 use Rattle.tasks.specs.Turns.{AreDone}
-use Rattle.fed_pool.specs.declared.serving.Post.{Post}
-use Rattle.fed_pool.specs.declared.serving.Served.{Served}
+use Rattle.fed_pool.specs.declared.worker.Post.{Post}
+use Rattle.fed_pool.specs.declared.worker.Served.{Served}
 use Rattle.fed_pool.specs.Answered.{value_in}
 use Rattle.fed_pool.specs.Serving.{IsServed, unsent_in}
 use Rattle.fed_pool.specs.Pools.{taker_in, giver_in, result_in, unsent_of, takes, gives}

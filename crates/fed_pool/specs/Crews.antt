@@ -5,7 +5,7 @@ use Rattle.history.specs.Seats.{Permit}
 use Rattle.carriers.specs.Knowledge.{KnownOf}
 use Rattle.tasks.specs.declared.answers.Done.{Done}
 use Rattle.tasks.specs.declared.runs.Numbered.{Numbered}
-use Rattle.fed_pool.specs.declared.serving.Post.{Post}
+use Rattle.fed_pool.specs.declared.worker.Post.{Post}
 use Rattle.fed_pool.specs.declared.crews.Team.{Team}
 use Rattle.fed_pool.specs.declared.crews.Crew.{Crew}
 use Rattle.fed_pool.specs.Serving.{IsServed}

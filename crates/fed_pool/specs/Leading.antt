@@ -12,8 +12,8 @@ use Rattle.tasks.specs.declared.runs.Numbered.{Numbered}
 use Rattle.tasks.specs.Tasks.{IsDoneOf}
 use Rattle.tasks.specs.Turns.{AreDone}
 use Rattle.tasks.specs.Offers.{EndsShutBy}
-use Rattle.fed_pool.specs.declared.leading.Leader.{Leader}
-use Rattle.fed_pool.specs.declared.leading.Led.{Led}
+use Rattle.fed_pool.specs.declared.leader.Leader.{Leader}
+use Rattle.fed_pool.specs.declared.leader.Led.{Led}
 use Rattle.fed_pool.specs.Answered.{numbered, value_in}
 
 -- what two seats did that did nothing before: tasks were given, each was pushed under its number, or run here; some were popped

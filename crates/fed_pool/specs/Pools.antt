@@ -6,8 +6,8 @@ use Rattle.carriers.specs.Knowledge.{KnownOf}
 use Rattle.carriers.specs.Rests.{left_in}
 use Rattle.tasks.specs.declared.answers.Done.{Done}
 use Rattle.tasks.specs.declared.turns.End.{End}
-use Rattle.fed_pool.specs.declared.serving.Post.{Post}
-use Rattle.fed_pool.specs.declared.serving.Served.{Served}
+use Rattle.fed_pool.specs.declared.worker.Post.{Post}
+use Rattle.fed_pool.specs.declared.worker.Served.{Served}
 use Rattle.fed_pool.specs.declared.pools.Line.{Line}
 use Rattle.fed_pool.specs.declared.pools.Fed.{Fed}
 use Rattle.fed_pool.specs.declared.pools.Parts.{Parts}

@@ -9,9 +9,9 @@ use Rattle.tasks.specs.declared.answers.Done.{Done}
 use Rattle.tasks.specs.declared.runs.Numbered.{Numbered}
 use Rattle.tasks.specs.declared.turns.End.{End}
 use Rattle.tasks.specs.Turns.{AreDone}
-use Rattle.fed_pool.specs.declared.serving.Post.{Post}
-use Rattle.fed_pool.specs.declared.serving.Served.{Served}
-use Rattle.fed_pool.specs.declared.serving.Unsendable.{Unsendable}
+use Rattle.fed_pool.specs.declared.worker.Post.{Post}
+use Rattle.fed_pool.specs.declared.worker.Served.{Served}
+use Rattle.fed_pool.specs.declared.worker.Unsendable.{Unsendable}
 
 -- a result was sent; or it comes back, and nothing was pushed
 abbrev pub Sends : {A : Type 0} → (k k' : KnownOf (Done A)) → Done A → Result (Unit {0}) (Unsendable A) → Type 0

@@ -8,8 +8,8 @@ ghost use Rattle.fed_pool.specs.Leading.{IsLeading, HasEnded};
 ghost use Rattle.fed_pool.specs.Crews.{IsTeam, HasRoomFor, HasCrew};
 
 use crate::feeds::Feed;
-use crate::leading::{Leader, Led, lead};
-use crate::serving::{Post, Served, serve};
+use crate::leader::{Leader, Led, lead};
+use crate::worker::{Post, Served, serve};
 use blocking_carrier::BlockingCarrier;
 use carriers::Carrier;
 use std::sync::Wait;

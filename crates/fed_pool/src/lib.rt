@@ -3,11 +3,11 @@
 
 mod crews;
 mod feeds;
-mod leading;
-mod making;
+mod leader;
+mod new_pools;
 mod pools;
-mod serving;
+mod worker;
 
 pub use feeds::Feed;
-pub use making::{Unstarted, line, run_feed};
+pub use new_pools::{Unstarted, line, run_feed};
 pub use pools::{Fed, Line, Unfed, run_fed};

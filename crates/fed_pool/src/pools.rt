@@ -9,8 +9,8 @@ ghost use Rattle.fed_pool.specs.Pools.{IsLineOf, IsLine, HasFed, HasRoom, IsNew,
 
 use crate::crews::{Crew, Team, run_crew};
 use crate::feeds::Feed;
-use crate::leading::{Leader, Led};
-use crate::serving::{Post, Served};
+use crate::leader::{Leader, Led};
+use crate::worker::{Post, Served};
 use blocking_carrier::BlockingCarrier;
 use carriers::{CloseCarrier, RestOf};
 use history::Refusal;

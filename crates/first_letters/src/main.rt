@@ -1,11 +1,11 @@
 //! Two waiters send orders, and a cook reads them until the last waiter has gone; then an office is closed with an order left.
 #![tactic(auto)]
 
-mod closing;
-mod serving;
+mod leftovers;
+mod orders;
 
-use crate::closing::left_behind;
-use crate::serving::{Order, serve};
+use crate::leftovers::left_behind;
+use crate::orders::{Order, serve};
 use std::io;
 
 fn main(rt: HostRuntime) -> io::Result<()> {

@@ -1,9 +1,9 @@
 //! The free list on shared words: a node is taken from it, or given back.
 #![tactic(auto)]
 
-mod giving;
+mod gives;
 mod outcomes;
-mod taking;
+mod takes;
 
-pub use giving::give_back;
-pub use taking::take;
+pub use gives::give_back;
+pub use takes::take;

@@ -4,7 +4,7 @@ use Rattle.std.specs.BTreeMap.{BTreeMap, values}
 use Rattle.std.specs.Borrow.{Bor}
 use Rattle.history.specs.declared.operations.Stamped.{Stamped}
 use Rattle.history.specs.declared.operations.Cause.{Cause}
-use Rattle.history.specs.declared.replaying.Replayed.{Replayed}
+use Rattle.history.specs.declared.replays.Replayed.{Replayed}
 use Rattle.history.specs.Queue.{Queue}
 use Rattle.history.specs.History.{point_or_zero, by_point, fault_of}
 

@@ -1,18 +1,18 @@
 //! Operations of a queue, their histories and the judge of these, and what every queue promises.
 #![tactic(auto)]
 
-mod checking;
-mod closing;
+mod checks;
+mod ends;
 pub mod laws;
 mod operations;
 mod queues;
 mod refusals;
-mod replaying;
+mod replays;
 mod rests;
 mod text_causes;
 
-pub use checking::check;
-pub use closing::{Close, Unclosed};
+pub use checks::check;
+pub use ends::{Close, Unclosed};
 pub use operations::{
     Body, Cause, Entry, MOST_ACTOR, MOST_BODY, Op, Reply, Stamped, Taken, Verdict,
 };

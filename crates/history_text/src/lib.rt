@@ -2,11 +2,11 @@
 #![tactic(auto)]
 
 pub mod laws;
-mod parsing;
-mod printing;
-mod reading;
+mod readers;
+mod printers;
+mod lines;
 mod replies;
 
-pub use parsing::parse_history;
-pub use printing::{print_history, push_call, push_reply};
-pub use reading::step_of;
+pub use readers::parse_history;
+pub use printers::{print_history, push_call, push_reply};
+pub use lines::step_of;

@@ -3,7 +3,7 @@
 
 mod crews;
 mod texts;
-mod working;
+mod engine;
 
 pub use crews::{CrewSeats, JobQueue};
-pub use working::work_text;
+pub use engine::work_text;

@@ -10,7 +10,7 @@ use Rattle.text_lines.specs.Printable.{IsPrintable}
 use Rattle.text_lines.specs.Readings.{ReadsBack}
 use Rattle.text_lines.proofs.Numerals.{HasNo-numeral}
 use Rattle.text_lines.proofs.Splits.{HasNo-tested, words_of_more, words_of_some, spaced-words_of, words_of-spaced}
-use Rattle.job_results.specs.declared.reading.ReadJob.{ReadJob}
+use Rattle.job_results.specs.declared.lines.ReadJob.{ReadJob}
 use Rattle.job_results.specs.JobTexts.{SaidJob, Add, Mul, Div, Len, two_numbers, job_line, IsJobInRange, IsNumber}
 use Rattle.job_results.specs.JobReading.{job_words, AreTwo, AreBoth, AreOfJob, AreOfCount, SaysJob, SaysCount, KeepsJob, ReadsJob}
 

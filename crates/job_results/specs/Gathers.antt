@@ -3,7 +3,7 @@ use Rattle.std.specs.Prelude.{List, Option}
 use Rattle.history.specs.declared.refusals.Refusal.{Refusal}
 use Rattle.job_results.specs.declared.jobs.Job.{Job}
 use Rattle.job_results.specs.declared.results.JobResult.{JobResult}
-use Rattle.job_results.specs.declared.gathering.Gather.{Gather}
+use Rattle.job_results.specs.declared.gathers.Gather.{Gather}
 use Rattle.job_results.specs.Gathering.{AddsResult, RefusesResult}
 
 -- the jobs whose results are gathered

@@ -9,8 +9,8 @@ use Rattle.text_lines.specs.Readings.{IsWrong}
 use Rattle.text_lines.specs.Printable.{IsShort}
 use Rattle.text_lines.specs.Listings.{SaysItem, SaysHeader}
 use Rattle.job_results.specs.declared.jobs.Job.{Job}
-use Rattle.job_results.specs.declared.reading.ReadJob.{ReadJob}
-use Rattle.job_results.specs.declared.reading.ReadJob.TheVariants.{Add as AddRead, Mul as MulRead, Div as DivRead, Len as LenRead}
+use Rattle.job_results.specs.declared.lines.ReadJob.{ReadJob}
+use Rattle.job_results.specs.declared.lines.ReadJob.TheVariants.{Add as AddRead, Mul as MulRead, Div as DivRead, Len as LenRead}
 use Rattle.job_results.specs.JobTexts.{SaidJob, Add, Mul, Div, Len, said_job, jobs_listing, IsJob, IsJobInRange, AreNumbers}
 
 -- what was read of a job's line

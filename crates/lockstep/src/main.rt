@@ -5,20 +5,20 @@
 ghost use Rattle.counted_ref.specs.Ref.{IsSplit};
 
 mod answers;
-mod comparing;
-mod drawing;
-mod halting;
-mod pairing;
+mod agreement;
+mod chance;
+mod halts;
+mod pairs;
 mod queues;
-mod stepping;
-mod stopping;
+mod world_calls;
+mod stopped_actors;
 mod stops;
 
 use crate::answers::Answers;
-use crate::halting::halted;
-use crate::pairing::rounds;
+use crate::halts::halted;
+use crate::pairs::rounds;
 use crate::queues::Watched;
-use crate::stopping::{runs, runs_with_shuts};
+use crate::stopped_actors::{runs, runs_with_shuts};
 use line_table::Kind;
 use nonblocking::MsQueueOf;
 use std::alloc::Global;

@@ -1,5 +1,5 @@
 pub mod Rows
-pub mod Tasks
+pub mod SenderTasks
 pub mod Pieces
 pub mod Within
 pub mod Told

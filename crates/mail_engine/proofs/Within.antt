@@ -16,7 +16,7 @@ use Rattle.mailbox.specs.declared.receiver.Receiver.{Receiver}
 use Rattle.mailbox.specs.declared.receiver.Letter.{Letter}
 use Rattle.mailbox.specs.Posting.{Delivered}
 use Rattle.mail_engine.specs.Rows.{givers_and_taker}
-use Rattle.mail_engine.proofs.Tasks.{all_before-map}
+use Rattle.mail_engine.proofs.SenderTasks.{all_before-map}
 
 -- what holds of all of a list holds of its front
 front : {X : Type 0} (P : X → Type 0) (x : X) (xs : List X) → All P (x ∷ xs) → P x

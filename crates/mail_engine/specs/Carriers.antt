@@ -13,8 +13,8 @@ use Rattle.node_arena.specs.Arenas.{Arena}
 use Rattle.node_arena.specs.declared.seats.Seat.{Seat}
 use Rattle.node_arena.specs.Seats.{IsReady, known_of, permits_of, plan_of}
 use Rattle.arena_queue.specs.Queues.{arena_of}
-use Rattle.mail_engine.specs.declared.posting.Carrier.{Carrier}
-use Rattle.mail_engine.specs.declared.posting.Carrier.TheVariants.{TwoLock, NonBlocking, Ring as OverRing}
+use Rattle.mail_engine.specs.declared.engine.Carrier.{Carrier}
+use Rattle.mail_engine.specs.declared.engine.Carrier.TheVariants.{TwoLock, NonBlocking, Ring as OverRing}
 use Rattle.mail_engine.specs.Rows.{mail_plan, IsMailRing}
 use Rattle.queue_kinds.specs.declared.kinds.QueueKind.{QueueKind}
 use Rattle.queue_kinds.specs.declared.kinds.QueueKind.TheVariants.{Linked, Ring}

@@ -2,7 +2,7 @@
 use Rattle.std.specs.Prelude.{◌≡◌, ◌≢◌, ℕ, ◌+◌, ◌<◌, List, [], ◌∷◌, ◌++◌, length, map, nat_eq, get_or, string_bytes}
 use Rattle.std.specs.List.{filter}
 use Rattle.mail_text.specs.declared.letters.Outgoing.{Outgoing}
-use Rattle.mailbox.specs.declared.posting.Task.{Task}
+use Rattle.mailbox.specs.declared.threads.Task.{Task}
 use Rattle.mailbox.specs.Posting.{texts_in}
 
 -- the texts of one sender's letters, in their order

@@ -1,11 +1,11 @@
 //! The engine of `msq post`: from the text of mail to the letters taken.
 #![tactic(auto)]
 
-mod opening;
-mod posting;
-mod sharing;
-mod telling;
+mod new_queues;
+mod engine;
+mod tasks;
+mod letter_texts;
 mod texts;
 
-pub use opening::{mail_queue, mail_ring};
-pub use posting::{Carrier, post_text};
+pub use new_queues::{mail_queue, mail_ring};
+pub use engine::{Carrier, post_text};

@@ -11,8 +11,8 @@ use Rattle.text_lines.specs.Listings.{listing_text, IsListing, IsSoundListing}
 use Rattle.text_lines.proofs.Numerals.{HasNo-numeral, numeral_injective}
 use Rattle.text_lines.proofs.Splits.{HasNo-tested, words_of_more, words_of_some, spaced-words_of, words_of-spaced}
 use Rattle.text_lines.proofs.Listings.{one_listing, listing-not_neither}
-use Rattle.mail_text.specs.declared.reading.ReadLetter.{ReadLetter}
-use Rattle.mail_text.specs.declared.reading.Counts.{Counts}
+use Rattle.mail_text.specs.declared.lines.ReadLetter.{ReadLetter}
+use Rattle.mail_text.specs.declared.lines.Counts.{Counts}
 use Rattle.mail_text.specs.MailTexts.{MailHeader, SaidLetter, mail_line, letter_line, header_of, mail_text, mail_listing, IsHeaderInRange, IsLetter, IsLetterInRange, IsMailInRange, HasFirstFault}
 use Rattle.mail_text.specs.MailReading.{AreOfHeader, AreOfLetter, SaysMail, SaysLetter, KeepsHeader, KeepsLetter, ReadsHeader, ReadsLetter}
 

@@ -2,9 +2,9 @@
 #![tactic(auto)]
 
 mod letters;
-mod parsing;
-mod reading;
+mod readers;
+mod lines;
 pub mod text_laws;
 
 pub use letters::{Mail, Outgoing};
-pub use parsing::parse_mail;
+pub use readers::parse_mail;

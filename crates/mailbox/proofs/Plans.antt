@@ -11,7 +11,7 @@ use Rattle.blocking_queue.specs.Queues.{queue_of}
 use Rattle.mailbox.specs.declared.office.Office.{Office}
 use Rattle.mailbox.specs.declared.receiver.Letter.{Letter}
 use Rattle.mailbox.specs.declared.receiver.Receiver.{Receiver}
-use Rattle.mailbox.specs.declared.posting.Task.{Task}
+use Rattle.mailbox.specs.declared.threads.Task.{Task}
 use Rattle.mailbox.specs.Plans.{plan_numbers, IsDue, AreDue}
 use Rattle.mailbox.specs.Offices.{IsReceiver, queue_in}
 use Rattle.mailbox.specs.Posting.{AreThoseDue, BringTexts, IsTask, HasQueueOf, Plans, texts_in, letters_of}

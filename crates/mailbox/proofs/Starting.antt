@@ -4,8 +4,8 @@ use Rattle.std.specs.List.{All, AllZip}
 use Rattle.history.specs.declared.refusals.Refusal.{Refusal}
 use Rattle.history.specs.Seats.{Permit, Known}
 use Rattle.mailbox.specs.declared.office.Office.{Office}
-use Rattle.mailbox.specs.declared.posting.Started.{Started}
-use Rattle.mailbox.specs.declared.posting.Task.{Task}
+use Rattle.mailbox.specs.declared.threads.Started.{Started}
+use Rattle.mailbox.specs.declared.threads.Task.{Task}
 use Rattle.mailbox.specs.Offices.{marks}
 use Rattle.mailbox.specs.Posting.{IsTask, IsTaskAt, Plans}
 use Rattle.mailbox.specs.Threads.{IsStartedFor}

@@ -12,9 +12,9 @@ use Rattle.mailbox.specs.declared.office.Office.{Office}
 use Rattle.mailbox.specs.declared.receiver.Letter.{Letter}
 use Rattle.mailbox.specs.declared.receiver.Receiver.{Receiver}
 use Rattle.mailbox.specs.declared.sender.Sender.{Sender}
-use Rattle.mailbox.specs.declared.posting.Task.{Task}
-use Rattle.mailbox.specs.declared.posting.Started.{Started}
-use Rattle.mailbox.specs.declared.posting.Started.TheVariants.{Running, Unstarted}
+use Rattle.mailbox.specs.declared.threads.Task.{Task}
+use Rattle.mailbox.specs.declared.threads.Started.{Started}
+use Rattle.mailbox.specs.declared.threads.Started.TheVariants.{Running, Unstarted}
 use Rattle.mailbox.specs.Posting.{letters_of}
 use Rattle.mailbox.specs.Refusals.{EndsPost}
 use Rattle.mailbox.specs.Offices.{IsSender}

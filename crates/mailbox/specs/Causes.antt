@@ -13,7 +13,7 @@ use Rattle.mailbox.specs.declared.sender.Sender.{Sender}
 use Rattle.mailbox.specs.declared.receiver.Receiver.{Receiver}
 use Rattle.mailbox.specs.declared.receiver.Letter.{Letter}
 use Rattle.mailbox.specs.declared.parcels.Due.{Due}
-use Rattle.mailbox.specs.declared.posting.Task.{Task}
+use Rattle.mailbox.specs.declared.threads.Task.{Task}
 
 -- a sender that had sent so many letters was refused its next one so: nothing was sent, and a refusal that is the queue's has its
 -- cause; without memory the sender is as it was, and a letter that has no body is stored

@@ -10,7 +10,7 @@ use Rattle.mailbox.specs.Causes.{EndsSo}
 use Rattle.mailbox.specs.declared.office.Office.{Office}
 use Rattle.mailbox.specs.declared.sender.Sender.{Sender}
 use Rattle.mailbox.specs.declared.receiver.Receiver.{Receiver}
-use Rattle.mailbox.specs.declared.posting.Task.{Task}
+use Rattle.mailbox.specs.declared.threads.Task.{Task}
 
 -- a shut by a sender of the office was answered so: it shut the queue, or found it shut, or was refused so, with the cause, as Tail
 -- was worn out

@@ -11,7 +11,7 @@ use Rattle.mailbox.specs.declared.sender.Sender.{Sender}
 use Rattle.mailbox.specs.declared.receiver.Receiver.{Receiver}
 use Rattle.mailbox.specs.declared.receiver.Letter.{Letter}
 use Rattle.mailbox.specs.declared.parcels.Due.{Due}
-use Rattle.mailbox.specs.declared.posting.Task.{Task}
+use Rattle.mailbox.specs.declared.threads.Task.{Task}
 
 -- the texts of a task
 abbrev pub texts_in : {Q S : Type 0} → Task Q S → List (List ℕ)

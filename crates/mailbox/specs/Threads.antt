@@ -7,10 +7,10 @@ use Rattle.mailbox.specs.Offices.{IsSender}
 use Rattle.mailbox.specs.Causes.{HasEnded, EndsSo, FirstIsTold}
 use Rattle.mailbox.specs.declared.office.Office.{Office}
 use Rattle.mailbox.specs.declared.sender.Sender.{Sender}
-use Rattle.mailbox.specs.declared.posting.Task.{Task}
-use Rattle.mailbox.specs.declared.posting.Back.{Back}
-use Rattle.mailbox.specs.declared.posting.Started.{Started}
-use Rattle.mailbox.specs.declared.posting.Started.TheVariants.{Running, Unstarted}
+use Rattle.mailbox.specs.declared.threads.Task.{Task}
+use Rattle.mailbox.specs.declared.threads.Back.{Back}
+use Rattle.mailbox.specs.declared.threads.Started.{Started}
+use Rattle.mailbox.specs.declared.threads.Started.TheVariants.{Running, Unstarted}
 
 -- a task's sender came back, having ended so
 pub record IsBack {Q S : Type 0} (is_seat : Q → S → Type 0) (permits : Q → List Permit) (known : S → Known) (cause : Q → S → S → ℕ → Refusal → Type 0)

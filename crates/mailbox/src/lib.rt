@@ -1,17 +1,17 @@
 //! Letters between threads, over any queue.
 #![tactic(auto)]
 
-mod ending;
+mod ends;
 pub mod laws;
 mod office;
 mod parcels;
-mod planning;
-mod posting;
+mod due_texts;
+mod threads;
 mod receiver;
 mod sender;
-mod taking;
+mod taken_letters;
 
 pub use office::Office;
-pub use posting::{Task, post};
+pub use threads::{Task, post};
 pub use receiver::{Letter, Receiver};
 pub use sender::Sender;

@@ -1,6 +1,6 @@
 //! Runs of letters, with the answers worked out by hand.
 mod both_runs;
-mod comparing;
+mod comparisons;
 mod drawn;
 mod letters;
 mod listed_runs;
@@ -9,6 +9,6 @@ mod losses;
 mod nonblocking_runs;
 mod plans;
 mod shut_offices;
-mod sleeping;
+mod sleepers;
 mod texts;
 mod two_lock_runs;

@@ -8,7 +8,7 @@ use Rattle.colours.specs.declared.coloured.Coloured.{Coloured}
 use Rattle.colours.specs.Plain.{plain}
 use Rattle.colours.specs.Colouring.{IsUnused, plain_of, state_of}
 use Rattle.command_line.specs.declared.commands.View.{View as Asked}
-use Rattle.show_engine.specs.declared.framing.Meaning.{Meaning}
+use Rattle.show_engine.specs.declared.frames.Meaning.{Meaning}
 use Rattle.text_io.specs.Devices.{SinkState}
 use Rattle.msq.specs.declared.options.Frames.{Frames}
 use Rattle.msq.specs.Options.{Draws}

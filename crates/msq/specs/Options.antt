@@ -8,8 +8,8 @@ use Rattle.text_io.specs.Devices.{SinkState}
 use Rattle.page_engine.specs.Pages.{WritesPage}
 use Rattle.page_engine.specs.Histories.{WritesHistoryPage}
 use Rattle.msq.specs.declared.options.Frames.{Frames}
-use Rattle.show_engine.specs.declared.framing.Meaning.{Meaning}
-use Rattle.show_engine.specs.declared.framing.View.{View}
+use Rattle.show_engine.specs.declared.frames.Meaning.{Meaning}
+use Rattle.show_engine.specs.declared.frames.View.{View}
 use Rattle.show_engine.specs.Found.{DrawsFound}
 use Rattle.show_engine.specs.Showing.{WritesPicture}
 use Rattle.show_engine.specs.Telling.{WritesTimeline}

@@ -1,5 +1,5 @@
 pub mod Bytes
-pub mod Ends
+pub mod QueueEnds
 pub mod WordEnds
 pub mod Made
 pub mod WordMade

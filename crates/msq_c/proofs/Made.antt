@@ -10,7 +10,7 @@ use Rattle.node_arena.specs.declared.seats.Seat.{Seat}
 use Rattle.node_arena.specs.Seats as arena
 use Rattle.node_arena.specs.Making.{IsMade}
 use Rattle.owned_seats.specs.Owned.{queue_of, seat_of}
-use Rattle.owned_seats.proofs.Shares.{All-unmap}
+use Rattle.owned_seats.proofs.SeatShares.{All-unmap}
 use Rattle.any_queue.specs.declared.picked.PickedQueue.{PickedQueue}
 use Rattle.any_queue.specs.Picked.{picked_arena_of, picked_permits_of}
 use Rattle.ring_queue.specs.declared.queue.RingQueue.{RingQueue}

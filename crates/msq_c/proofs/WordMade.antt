@@ -15,7 +15,7 @@ use Rattle.value_queue.specs.Telling.{known_by}
 use Rattle.any_values.specs.declared.any.AnyValues.{AnyValues}
 use Rattle.any_values.specs.Any.{arena_of, permits_of}
 use Rattle.owned_values.specs.Owned.{queue_of, seat_of}
-use Rattle.owned_values.proofs.Shares.{All-unmap}
+use Rattle.owned_values.proofs.SeatShares.{All-unmap}
 use Rattle.msq_c.proofs.Sizes.{is_split, enough, some_count, few_counts}
 use Rattle.msq_c.specs.WordOwn.{Owned, Own, owned_in}
 use Rattle.msq_c.specs.WordSeats.{known_at}

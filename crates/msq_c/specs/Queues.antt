@@ -15,7 +15,7 @@ use Rattle.ring_queue.specs.Seats as ring
 use Rattle.either_queue.specs.declared.either.EitherQueue.{EitherQueue}
 use Rattle.either_queue.specs.declared.either.EitherQueue.TheVariants.{First, Second}
 use Rattle.either_queue.specs.declared.either.EitherSeat.{EitherSeat}
-use Rattle.either_queue.specs.declared.closing.EitherEnd.{EitherEnd}
+use Rattle.either_queue.specs.declared.ends.EitherEnd.{EitherEnd}
 use Rattle.either_queue.specs.Either.{either_permits, either_known}
 use Rattle.either_queue.specs.Ends.{EitherEnds}
 

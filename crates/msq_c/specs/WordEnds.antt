@@ -7,11 +7,11 @@ use Rattle.carriers.specs.Closing.{ClosesOf}
 use Rattle.carriers.specs.declared.rests.RestOf.{RestOf}
 use Rattle.node_arena.specs.declared.ended.Ended.{Ended}
 use Rattle.node_arena.specs.declared.seats.Seat.{Seat}
-use Rattle.value_queue.specs.declared.closing.Room.{Room}
+use Rattle.value_queue.specs.declared.ends.Room.{Room}
 use Rattle.value_queue.specs.Closing.{HasRoom, LeavesValues}
 use Rattle.any_values.specs.declared.any.AnyValues.{AnyValues}
 use Rattle.any_values.specs.Any.{arena_of, permits_of}
-use Rattle.owned_values.specs.declared.closing.EndRoom.{EndRoom}
+use Rattle.owned_values.specs.declared.ends.EndRoom.{EndRoom}
 use Rattle.owned_values.specs.Unended.{HasEndRoom}
 use Rattle.msq_c.specs.declared.troubles.Trouble.{Trouble}
 use Rattle.msq_c.specs.declared.troubles.Trouble.TheVariants.{Refused, BadSize, NoHandle, InUse, Raced}

@@ -15,11 +15,11 @@ ghost use Rattle.msq_c.specs.Rests.{AnswersClose};
 
 mod bounds;
 mod calls;
-mod ending;
+mod ends;
 mod handles;
-mod keeping;
+mod kept_nodes;
 mod looks;
-mod making;
+mod new_queues;
 mod many;
 mod many_calls;
 mod many_exports;
@@ -34,11 +34,11 @@ mod troubles;
 mod values;
 mod word_calls;
 mod word_codes;
-mod word_ending;
+mod word_ends;
 mod word_exports;
 mod word_handles;
 mod word_looks;
-mod word_making;
+mod word_queues;
 mod word_rests;
 mod word_seats;
 mod words;
@@ -172,7 +172,7 @@ pub extern "C" fn msq_create(
     ensures { Tells done_code result
         (AnswersCreate kind nodes limit roles.now slots.old slots.new) }
 {
-    code(making::create(alloc, kind, nodes, limit, roles, slots))
+    code(new_queues::create(alloc, kind, nodes, limit, roles, slots))
 }
 
 /// Ends the queue of these handles, which are all that have a share of it, and empties them. The values left are written
@@ -193,7 +193,7 @@ pub extern "C" fn msq_close(
     ensures { Tells done_code result
         (AnswersClose slots.old slots.new values.old values.new rest.old rest.new) }
 {
-    match ending::close(alloc, slots) {
+    match ends::close(alloc, slots) {
         Ok((found, _end)) => {
             *rest = MsqRest::written(found, values);
             0

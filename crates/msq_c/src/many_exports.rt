@@ -4,7 +4,7 @@ ghost use Rattle.msq_c.specs.Keeps.{AnswersKeep};
 ghost use Rattle.msq_c.specs.Many.{AnswersPushAll, AnswersPopUpTo};
 
 use crate::handles::MsqSeat;
-use crate::keeping::keep_nodes;
+use crate::kept_nodes::keep_nodes;
 use crate::many_calls::{pop_up_to, push_all};
 use crate::troubles::{EMPTY, code};
 use crate::values::MsqValue;

@@ -16,7 +16,7 @@ use crate::rests::MsqRest;
 use crate::single_handles::MsqWordSeat;
 use crate::troubles::code;
 use crate::values::MsqValue;
-use crate::{word_calls, word_codes, word_looks, word_making};
+use crate::{word_calls, word_codes, word_looks, word_queues};
 use std::alloc::Global;
 
 /// Makes a queue of one word of a kind, 0 the non-blocking one and 1 the two-lock one, and fills as many handles as there are
@@ -35,7 +35,7 @@ pub extern "C" fn msq_word_create(
     ensures { Tells done_code result
         (AnswersCreate is_full own_at kind nodes limit roles.now slots.old slots.new) }
 {
-    code(word_making::create(alloc, kind, nodes, limit, roles, slots))
+    code(word_queues::create(alloc, kind, nodes, limit, roles, slots))
 }
 
 /// Pushes a word at the back, in so many turns at most, 1 or more.

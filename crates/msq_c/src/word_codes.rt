@@ -14,7 +14,7 @@ use crate::slots::{Slot, lift};
 use crate::troubles::{EMPTY, UNCOUNTED};
 use crate::word_seats::OwnWords;
 use crate::words::Item;
-use crate::{word_calls, word_ending, word_looks, word_rests};
+use crate::{word_calls, word_ends, word_looks, word_rests};
 use any_values::AnyValues;
 use std::alloc::Global;
 
@@ -69,7 +69,7 @@ pub(crate) fn close<T: Send + Drop, H: Slot<OwnWords<AnyValues<T>>>, I: Item<T> 
     ensures { Tells done_code result (AnswersClose H.holds H.own I.told
         slots.old slots.new items.old items.new rest.old rest.new) }
 {
-    match word_ending::close(alloc, slots) {
+    match word_ends::close(alloc, slots) {
         Ok((found, _end)) => {
             *rest = word_rests::written(found, items);
             0

@@ -33,7 +33,7 @@ pub mod LooksOn
 pub mod Found
 pub mod TailCounts
 pub mod Lefts
-pub mod Ends
+pub mod ArenaEnds
 pub mod Longer
 pub mod Emptied
 pub mod Lying

@@ -9,7 +9,7 @@ use Rattle.node_arena.specs.Places.{place, shared_words}
 use Rattle.node_arena.specs.Remains.{ref_at, front_of, HasNode, HaveValues, AreLeft, IsQueue}
 use Rattle.node_arena.proofs.Placed.{place_there, length-shared_words, get_or-shared_words}
 use Rattle.node_arena.proofs.Lefts.{same_values}
-use Rattle.node_arena.proofs.Ends.{Rests}
+use Rattle.node_arena.proofs.ArenaEnds.{Rests}
 
 -- some words are the first ones of more
 pub record LieFirstIn (words more : List ℕ) : Type 0 where

@@ -34,7 +34,7 @@ use Rattle.node_arena.specs.Seats.{view, known_of}
 use Rattle.node_arena.proofs.Tracing.{traced_reached}
 use Rattle.node_arena.proofs.Riding.{plays_on}
 use Rattle.node_arena.proofs.Lying.{Lie, LieApart, values-number_of, all_lie-number_of}
-use Rattle.node_arena.proofs.Ends.{Ends, Rests, ends_in, queue_at_end, leads_at_end, closes_at_end}
+use Rattle.node_arena.proofs.ArenaEnds.{Ends, Rests, ends_in, queue_at_end, leads_at_end, closes_at_end}
 use Rattle.node_arena.proofs.Longer.{shared_first, queue_up, rests_down}
 
 -- what is left at the end of a table whose words and slots were these, by a token that gathered seats: the numbers left are

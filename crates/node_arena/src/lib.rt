@@ -2,25 +2,25 @@
 #![tactic(auto)]
 
 mod arena;
-mod closing;
-mod dealing;
+mod ends;
+mod new_seats;
 mod emptiness;
 mod ended;
 pub mod laws;
 mod leftovers;
 mod lengths;
 mod looks;
-mod making;
-mod meeting;
-mod packing;
-mod peeking;
+mod new_arenas;
+mod seat_meets;
+mod references;
+mod peeks;
 mod places;
 mod plans;
 mod remains;
 mod roles;
 mod seats;
 mod slots;
-mod stepping;
+mod steps;
 mod valued;
 mod views;
 mod words;

@@ -5,9 +5,9 @@ pub mod PushTries
 pub mod PopSteps
 pub mod PopStands
 pub mod PopTurns
-pub mod Pops
+pub mod PopCalls
 pub mod FailedTurns
 pub mod ShutSteps
 pub mod ShutStands
 pub mod ShutTurns
-pub mod Shuts
+pub mod ShutCalls

@@ -2,7 +2,7 @@
 ghost use Rattle.line_table.specs.declared.lines.Kind.TheVariants as kinds;
 ghost use Rattle.nonblocking.specs.Worn.{push_worn, pop_worn, shut_worn};
 
-use crate::{popping, pushing, shutting};
+use crate::{pops, pushes, shuts};
 use arena_queue::{Algorithm, ArenaQueueOf};
 use history::{Body, Refusal, Taken};
 use line_table::Kind;
@@ -48,7 +48,7 @@ impl<const B: u32> Algorithm<B> for NonBlockingAlgorithm {
         spent: u32,
         turns: u32,
     ) -> Result<(), Refusal> {
-        pushing::push_node(arena, seat, held, body, spent, turns)
+        pushes::push_node(arena, seat, held, body, spent, turns)
     }
 
     fn draw<T>(
@@ -57,10 +57,10 @@ impl<const B: u32> Algorithm<B> for NonBlockingAlgorithm {
         spent: u32,
         turns: u32,
     ) -> Result<Option<Taken>, Refusal> {
-        popping::pop_with_empty_pocket(arena, seat, spent, turns)
+        pops::pop_with_empty_pocket(arena, seat, spent, turns)
     }
 
     fn shut<T>(arena: &ArenaOf<B, T>, seat: &mut Seat<T>, turns: u32) -> Result<(), Refusal> {
-        shutting::shut_queue(arena, seat, turns)
+        shuts::shut_queue(arena, seat, turns)
     }
 }

@@ -4,12 +4,12 @@
 mod algorithm;
 mod pop_lines;
 mod pop_outcomes;
-mod popping;
+mod pops;
 mod push_lines;
 mod push_outcomes;
-mod pushing;
+mod pushes;
 mod shut_lines;
 mod shut_outcomes;
-mod shutting;
+mod shuts;
 
 pub use algorithm::{MsQueue, MsQueueOf, NonBlockingAlgorithm};

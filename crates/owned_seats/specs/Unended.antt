@@ -5,9 +5,9 @@ use Rattle.std.specs.Global.{Vec}
 use Rattle.history.specs.declared.operations.Taken.{Taken}
 use Rattle.history.specs.declared.queues.Fifo.{Ghosts}
 use Rattle.owned_seats.specs.declared.seats.OwnedSeat.{OwnedSeat}
-use Rattle.owned_seats.specs.declared.closing.EndRoom.{EndRoom}
-use Rattle.owned_seats.specs.declared.closing.Unended.{Unended}
-use Rattle.owned_seats.specs.declared.closing.Unended.TheVariants.{InUse, Memory, Raced}
+use Rattle.owned_seats.specs.declared.ends.EndRoom.{EndRoom}
+use Rattle.owned_seats.specs.declared.ends.Unended.{Unended}
+use Rattle.owned_seats.specs.declared.ends.Unended.TheVariants.{InUse, Memory, Raced}
 use Rattle.owned_seats.specs.Owned.{queue_of, seat_of}
 
 -- the queue comes back with its seats: as they were; or with one share, and the seats without, which are still its

@@ -2,13 +2,13 @@
 #![tactic(auto)]
 
 mod acts;
-mod closing;
-mod dealing;
+mod ends;
+mod shares;
 mod looks;
 mod seats;
 
 pub use acts::Act;
-pub use closing::{EndRoom, Unended};
-pub use dealing::deal;
+pub use ends::{EndRoom, Unended};
+pub use shares::deal;
 pub use looks::Look;
 pub use seats::OwnedSeat;

@@ -3,9 +3,9 @@ use Rattle.std.specs.Prelude.{◌≡◌, ℕ, ◌+◌, ◌≤◌, List, [], ◌�
 use Rattle.std.specs.List.{All}
 use Rattle.carriers.specs.declared.queues.Carrier.{Ghosts}
 use Rattle.owned_values.specs.declared.seats.ValueSeat.{ValueSeat}
-use Rattle.owned_values.specs.declared.closing.EndRoom.{EndRoom}
-use Rattle.owned_values.specs.declared.closing.Unended.{Unended}
-use Rattle.owned_values.specs.declared.closing.Unended.TheVariants.{InUse, Memory, Raced}
+use Rattle.owned_values.specs.declared.ends.EndRoom.{EndRoom}
+use Rattle.owned_values.specs.declared.ends.Unended.{Unended}
+use Rattle.owned_values.specs.declared.ends.Unended.TheVariants.{InUse, Memory, Raced}
 use Rattle.owned_values.specs.Owned.{queue_of, seat_of}
 
 module _ {C A S : Type 0} {carrier : Ghosts C A S} where

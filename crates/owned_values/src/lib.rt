@@ -1,12 +1,12 @@
 //! Seats of a queue of values that each own a share of it.
 #![tactic(auto)]
 
-mod closing;
-mod dealing;
+mod ends;
+mod shares;
 mod looks;
 mod seats;
 
-pub use closing::{EndRoom, Unended};
-pub use dealing::deal;
+pub use ends::{EndRoom, Unended};
+pub use shares::deal;
 pub use looks::Look;
 pub use seats::ValueSeat;

@@ -2,7 +2,7 @@
 #![tactic(auto)]
 
 mod carrier;
-mod closing;
+mod ends;
 mod looks;
 mod queue;
 

@@ -1,8 +1,8 @@
 //! Recorded histories, each against what was worked out by hand, or found by a search.
 mod answers;
 mod chance;
-mod comparing;
+mod comparisons;
 mod fates;
 mod long_runs;
 mod rows;
-mod searching;
+mod orders;

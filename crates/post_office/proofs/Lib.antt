@@ -1,6 +1,6 @@
 mod Closed
 mod Dealing
-mod Ends
+mod OfficeEnds
 pub mod Sent
 mod RingRoles
 mod Shares

@@ -6,8 +6,8 @@ use Rattle.blocking_carrier.specs.Queues.{queue_of}
 use Rattle.channels.specs.declared.sender.Sender.{Sender}
 use Rattle.channels.specs.declared.receiver.Receiver.{Receiver}
 use Rattle.post_office.specs.declared.offices.PostOffice.{PostOffice}
-use Rattle.post_office.specs.declared.closing.Unended.{Unended}
-use Rattle.post_office.specs.declared.closing.Unended.TheVariants.{InUse, Memory, Raced, Unclosed}
+use Rattle.post_office.specs.declared.ends.Unended.{Unended}
+use Rattle.post_office.specs.declared.ends.Unended.TheVariants.{InUse, Memory, Raced, Unclosed}
 use Rattle.post_office.specs.Offices.{office_queue, seats_of}
 
 module _ {C A S : Type 0} {carrier : Ghosts C A S} where

@@ -1,10 +1,10 @@
 //! Letters of any type between threads: an office hands out senders and receivers, and at its end gives what is left.
 #![tactic(auto)]
 
-mod closing;
+mod ends;
 mod offices;
-mod opening;
+mod new_offices;
 mod rings;
 
-pub use closing::Unended;
+pub use ends::Unended;
 pub use offices::{Desks, PostOffice};

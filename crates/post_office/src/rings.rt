@@ -12,7 +12,7 @@ ghost use Rattle.post_office.specs.Offices.{office_queue, AreOf};
 ghost use Rattle.post_office.specs.Roles.{office_roles, ring_roles_for, newcomers};
 
 use crate::offices::PostOffice;
-use crate::opening::{desks_for, roles_for};
+use crate::new_offices::{desks_for, roles_for};
 use channels::{Receiver, Sender};
 use history::Refusal;
 use ring_queue::{Role, Seat};

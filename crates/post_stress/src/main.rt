@@ -2,10 +2,10 @@
 #![tactic(auto)]
 
 mod letters;
-mod posting;
+mod threads;
 
 use crate::letters::Letter;
-use crate::posting::{Asked, posted};
+use crate::threads::{Asked, posted};
 use std::alloc::Global;
 use std::sync::Wait;
 use std::thread::Threads;

@@ -1,2 +1,2 @@
-pub mod Clones
+pub mod HandleClones
 pub mod Shares

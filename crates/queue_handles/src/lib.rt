@@ -1,15 +1,15 @@
 //! Handles of a queue whose last sender, or last receiver, shuts it as it is dropped.
 #![tactic(auto)]
 
-mod cloning;
+mod clones;
 mod closers;
-mod dealing;
+mod new_sides;
 mod handles;
-mod receiving;
-mod sending;
+mod recv_calls;
+mod send_calls;
 mod sides;
 
-pub use dealing::deal_side;
+pub use new_sides::deal_side;
 pub use handles::Handle;
 pub use sides::Side;
 

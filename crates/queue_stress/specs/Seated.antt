@@ -1,7 +1,7 @@
 -- Seats that may make every call of their queue.
 use Rattle.std.specs.Prelude.{List}
 use Rattle.history.specs.Seats.{Permit, Known, MayPush, MayPop}
-use Rattle.queue_stress.specs.declared.seating.Four.{Four}
+use Rattle.queue_stress.specs.declared.four_seats.Four.{Four}
 
 module _ {Q S : Type 0} (is_seat : Q → S → Type 0) (permits : Q → List Permit) (known : S → Known) where
   -- a seat is the queue's, in no call, and may push and pop

@@ -1,15 +1,15 @@
 //! Four threads that push and pop on one queue: each value is taken once and in order, and each node is found again.
 #![tactic(auto)]
 
-mod closing;
-mod measuring;
+mod verdicts;
+mod timed_work;
 mod queues;
-mod running;
-mod seating;
-mod shutting;
+mod threads;
+mod four_seats;
+mod shut_runs;
 mod tallies;
 
-use crate::measuring::{Work, Works};
+use crate::timed_work::{Work, Works};
 use crate::queues::{Sizes, Which, shut_rounds, stressed, worked};
 use node_arena::MOST_COUNT;
 use std::alloc::Global;

@@ -1,10 +1,10 @@
 //! Runs of queues, with the answers of runs worked out by hand.
 mod both_runs;
 mod calls;
-mod comparing;
+mod comparisons;
 mod drains;
-mod keeping;
-mod looking;
+mod kept_nodes;
+mod looks;
 mod nonblocking_runs;
 mod rings;
 mod runs;
@@ -14,4 +14,4 @@ mod slots;
 mod splits;
 mod threads;
 mod two_lock_runs;
-mod waiting;
+mod waits;

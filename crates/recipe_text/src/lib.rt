@@ -5,11 +5,11 @@ mod acts;
 mod comments;
 mod dues;
 pub mod laws;
-mod parsing;
-mod reading;
+mod readers;
+mod lines;
 mod recipes;
-mod unrolling;
+mod unrolled_acts;
 
-pub use parsing::Recipes;
+pub use readers::Recipes;
 pub use recipes::{Act, Due, Recipe, Said, Sizes};
-pub use unrolling::acts_of;
+pub use unrolled_acts::acts_of;

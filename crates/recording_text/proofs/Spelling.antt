@@ -14,7 +14,7 @@ use Rattle.text_lines.proofs.Splits.{spaced-words_of}
 use Rattle.history_text.specs.HistoryLines.{step_word}
 use Rattle.history_text.proofs.NoSpaces.{IsInk, ink-tested, ink-numeral, more, one, ink-step, ink-labelled, words_of-ink, HasNo-spaced}
 use Rattle.history_text.proofs.OneReading.{apart, one-step}
-use Rattle.recording_text.specs.declared.reading.ReadOperation.{ReadOperation}
+use Rattle.recording_text.specs.declared.lines.ReadOperation.{ReadOperation}
 use Rattle.recording_text.specs.Recordings.{Call, Push, Pop, Shut, Told, Done, Value, Empty, Refused, Closed, Recorded}
 use Rattle.recording_text.specs.RecordingLines.{is_text_byte, IsTextByte, IsText, IsTextCall, IsTextTold, IsSayable, IsOperationInRange}
 use Rattle.recording_text.specs.RecordingLines.{RecordingLine, Version, Count, Operation, RecordingDue, VersionDue, CountDue, Operations, MaySay}

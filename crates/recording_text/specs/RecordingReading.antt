@@ -10,11 +10,11 @@ use Rattle.text_lines.specs.Readings.{IsWrong}
 use Rattle.history.specs.declared.refusals.Refusal.{Refusal}
 use Rattle.history.specs.declared.refusals.Refusal.TheVariants.{Text, Memory}
 use Rattle.history.specs.declared.operations.Stamped.{Stamped}
-use Rattle.recording_text.specs.declared.reading.ReadCall.{ReadCall}
-use Rattle.recording_text.specs.declared.reading.ReadCall.TheVariants.{Push as ReadPush, Pop as ReadPop, Shut as ReadShut}
+use Rattle.recording_text.specs.declared.lines.ReadCall.{ReadCall}
+use Rattle.recording_text.specs.declared.lines.ReadCall.TheVariants.{Push as ReadPush, Pop as ReadPop, Shut as ReadShut}
 use Rattle.recording_text.specs.declared.replies.ReadReply.{ReadReply}
 use Rattle.recording_text.specs.declared.replies.ReadReply.TheVariants.{Done as ReadDone, Value as ReadValue, Empty as ReadEmpty, Refused as ReadRefused, Closed as ReadClosed}
-use Rattle.recording_text.specs.declared.reading.ReadOperation.{ReadOperation}
+use Rattle.recording_text.specs.declared.lines.ReadOperation.{ReadOperation}
 use Rattle.recording_text.specs.Recordings.{Call, Push, Pop, Shut, Told, Done, Value, Empty, Refused, Closed, Recorded, texts_in, texts_of}
 use Rattle.recording_text.specs.RecordingLines.{version_line, call_words, told_words, operation_words, IsText, IsTextCall, IsTextTold, IsSayable}
 use Rattle.recording_text.specs.RecordingLines.{IsShortText, IsCallInRange, IsToldInRange, IsOperationInRange, IsRecordingInRange, recording_text}

@@ -4,13 +4,13 @@
 mod held;
 pub mod laws;
 mod lists;
-mod numbering;
-mod parsing;
-mod reading;
+mod numbers;
+mod readers;
+mod lines;
 mod replies;
 
 pub use held::parse_holding;
 pub use lists::texts_in;
-pub use parsing::parse_recording;
-pub use reading::{ReadCall, ReadOperation, operation_of};
+pub use readers::parse_recording;
+pub use lines::{ReadCall, ReadOperation, operation_of};
 pub use replies::ReadReply;

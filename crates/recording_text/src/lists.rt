@@ -3,7 +3,7 @@ ghost use Rattle.std.specs.Prelude.{◌≡◌, All, IfOk, MatchBool, MatchOption
 ghost use Rattle.recording_text.specs.RecordingReading.{bytes_of};
 ghost use Rattle.recording_text.specs.Holding.{AreHeld, IsHeldText, listed};
 
-use crate::reading::{LONGEST_TEXT, are_text_bytes};
+use crate::lines::{LONGEST_TEXT, are_text_bytes};
 use std::alloc::{AllocError, Global};
 
 /// How many texts a list has at most.

@@ -1,7 +1,7 @@
 //! Reading what a call was told from the last words of a line.
 ghost use Rattle.recording_text.specs.RecordingReading.{ReadsTold, ReadsPlainTold, KeepsValue};
 
-use crate::reading::text_of;
+use crate::lines::text_of;
 use text_lines::{TextCause, Words};
 
 /// What a call was told, as its line says it: a text still lies in the line.

@@ -5,10 +5,10 @@ mod deeds;
 mod line;
 mod places;
 mod queues;
-mod running;
+mod threads;
 
 use crate::queues::Renewable;
-use crate::running::{EACH, run};
+use crate::threads::{EACH, run};
 use history::{Refusal, Taken};
 use nonblocking::MsQueue;
 use std::io;

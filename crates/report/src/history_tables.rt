@@ -6,10 +6,10 @@ ghost use Rattle.text_io.specs.Blocks.{TakesPrefix, GivesUp, Puts, Writes};
 ghost use Rattle.history.specs.Checking.{shown};
 ghost use Rattle.report.specs.HistoryTable.{row_text, count_text, table_text, history_table_text};
 
-use crate::counting::counts_of;
+use crate::counts::counts_of;
 use crate::history_rows::{count_line, row_line};
 use crate::kinds::Kind;
-use crate::sorting::by_place;
+use crate::place_order::by_place;
 use history::{Refusal, Stamped};
 use indexmap::IndexMap;
 use std::alloc::Global;

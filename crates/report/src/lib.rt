@@ -2,14 +2,14 @@
 #![tactic(auto)]
 
 mod columns;
-mod counting;
+mod counts;
 mod history_rows;
 mod history_tables;
 mod job_kinds;
 mod kinds;
 mod result_rows;
 mod result_tables;
-mod sorting;
+mod place_order;
 #[cfg(test)]
 mod tests;
 

@@ -10,7 +10,7 @@ use Rattle.history.specs.Closing.{AreAll}
 use Rattle.ring_queue.specs.declared.seats.Seat.{Seat}
 use Rattle.ring_queue.specs.Plans.{Layout, permit_of, permits_of}
 use Rattle.ring_queue.specs.Seats.{IsReady, known_of, view}
-use Rattle.ring_queue.proofs.Ends.{at_place}
+use Rattle.ring_queue.proofs.RingEnds.{at_place}
 
 -- a number is among these, or each of them is another
 search : (ns : List ℕ) (x : ℕ) → ((i : ℕ) × (slice_get ns i ≡ Some x)) ⊎ AllByRecursion (λ y. nat_eq x y ≡ false) ns

@@ -20,7 +20,7 @@ use Rattle.ring_queue.specs.Moments.{head_in, tail_in}
 use Rattle.ring_queue.specs.Remains.{values_from, HasWords, was_shut_in}
 use Rattle.ring_queue.specs.Closing.{ClosesValues, EachBegins}
 use Rattle.ring_queue.proofs.Alls.{are_all}
-use Rattle.ring_queue.proofs.Ends.{closes_all, has_words, head_is_low, few_left}
+use Rattle.ring_queue.proofs.RingEnds.{closes_all, has_words, head_is_low, few_left}
 use Rattle.ring_queue.proofs.Tokens.{carries_none, ends_alone}
 use Rattle.ring_queue.proofs.ValueEnds.{values_end_as, words_there, low_there, room_there, closes_values}
 

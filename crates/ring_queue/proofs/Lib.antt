@@ -14,7 +14,7 @@ pub mod Calls
 pub mod Deals
 pub mod Meets
 pub mod Gathers
-pub mod Ends
+pub mod RingEnds
 pub mod Alls
 pub mod Lefts
 pub mod Turns

@@ -17,8 +17,8 @@ use Rattle.node_arena.specs.Deeds.{Deed, item, pushed, popped}
 use Rattle.node_arena.specs.Beside.{slots_in}
 use Rattle.node_arena.proofs.Lifts.{none_held}
 use Rattle.node_arena.proofs.Loads.{length-matches}
-use Rattle.ring_queue.specs.declared.popping.Turn.{Turn}
-use Rattle.ring_queue.specs.declared.popping.Turn.TheVariants.{Took, Empty, Closed, Failed}
+use Rattle.ring_queue.specs.declared.pops.Turn.{Turn}
+use Rattle.ring_queue.specs.declared.pops.Turn.TheVariants.{Took, Empty, Closed, Failed}
 use Rattle.ring_queue.specs.declared.seats.Seat.{Seat}
 use Rattle.ring_queue.specs.Plans.{Layout}
 use Rattle.ring_queue.specs.Steps.{pushes, pops}

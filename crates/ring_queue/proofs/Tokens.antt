@@ -29,7 +29,7 @@ use Rattle.ring_queue.proofs.Tables.{HoldsWith}
 use Rattle.ring_queue.proofs.Deals.{deals, new_is_sound}
 use Rattle.ring_queue.proofs.Meets.{pairs, parts, spares}
 use Rattle.ring_queue.proofs.Gathers.{gathers, enters_with}
-use Rattle.ring_queue.proofs.Ends.{Ends, ends_at}
+use Rattle.ring_queue.proofs.RingEnds.{Ends, ends_at}
 use Rattle.ring_queue.proofs.KnownValues.{knows_none}
 use Rattle.ring_queue.proofs.Lifts.{lift_splits, lift_joins, lift_enters, lift_final, lift_meets}
 

@@ -10,8 +10,8 @@ use Rattle.history.specs.Entries.{is_push, LeadsToShut}
 use Rattle.history.specs.Seats.{Known}
 use Rattle.history.specs.Answers.{Pushed, FoundShut, SeesMore, PushRefused}
 use Rattle.history.proofs.Learning.{sees_then, answers_then, push_refused_then, pop_refused_then}
-use Rattle.ring_queue.specs.declared.popping.Turn.{Turn}
-use Rattle.ring_queue.specs.declared.popping.Turn.TheVariants.{Took, Empty, Closed, Failed}
+use Rattle.ring_queue.specs.declared.pops.Turn.{Turn}
+use Rattle.ring_queue.specs.declared.pops.Turn.TheVariants.{Took, Empty, Closed, Failed}
 use Rattle.ring_queue.specs.declared.seats.Seat.{Seat}
 use Rattle.ring_queue.specs.declared.looks.EndLook.TheVariants.{Ahead}
 use Rattle.ring_queue.specs.Plans.{Layout}

@@ -32,7 +32,7 @@ use Rattle.ring_queue.specs.Seats.{known_of, view}
 use Rattle.ring_queue.specs.Moments.{head_in, tail_in}
 use Rattle.ring_queue.specs.Remains.{word_of, values_from, HasWords, was_shut_in}
 use Rattle.ring_queue.specs.Closing.{ClosesValues, EachBegins}
-use Rattle.ring_queue.proofs.Ends.{Ends, got_map, closes_all, has_words, head_is_low, few_left}
+use Rattle.ring_queue.proofs.RingEnds.{Ends, got_map, closes_all, has_words, head_is_low, few_left}
 
 -- what is left at the end of a table whose words and slots were these, by a token that gathered seats: the numbers left are those of
 -- slots in which the values lie to which the deeds lead, and what each seat had seen begins these

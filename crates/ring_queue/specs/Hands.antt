@@ -7,8 +7,8 @@ use Rattle.atomic_table.specs.Table.{State}
 use Rattle.history.specs.declared.operations.Taken.{Taken}
 use Rattle.node_arena.specs.Deeds.{Deed, Item, item, pushed, popped}
 use Rattle.node_arena.specs.Beside.{flag_at}
-use Rattle.ring_queue.specs.declared.popping.Turn.{Turn}
-use Rattle.ring_queue.specs.declared.popping.Turn.TheVariants.{Took, Empty, Closed, Failed}
+use Rattle.ring_queue.specs.declared.pops.Turn.{Turn}
+use Rattle.ring_queue.specs.declared.pops.Turn.TheVariants.{Took, Empty, Closed, Failed}
 use Rattle.ring_queue.specs.declared.seats.Seat.{Seat}
 use Rattle.ring_queue.specs.Plans.{Layout, words_of}
 use Rattle.ring_queue.specs.Beside.{Beside, HoldsBy, StoodFirst}

@@ -2,8 +2,8 @@
 use Rattle.std.specs.Prelude.{List, ◌⊎◌, ℕ, ◌+◌, ◌≤◌}
 use Rattle.history.specs.declared.operations.Entry.{Entry}
 use Rattle.history.specs.Answers.{Popped, FoundEmpty, FoundShutEmpty, SeesMore}
-use Rattle.ring_queue.specs.declared.popping.Turn.{Turn}
-use Rattle.ring_queue.specs.declared.popping.Turn.TheVariants.{Took, Empty, Closed, Failed}
+use Rattle.ring_queue.specs.declared.pops.Turn.{Turn}
+use Rattle.ring_queue.specs.declared.pops.Turn.TheVariants.{Took, Empty, Closed, Failed}
 use Rattle.ring_queue.specs.declared.seats.Seat.{Seat}
 use Rattle.ring_queue.specs.Plans.{Layout}
 use Rattle.ring_queue.specs.Steps.{WasAhead}

@@ -3,18 +3,18 @@
 
 mod acts;
 mod batches;
-mod closing;
-mod dealing;
+mod ends;
+mod new_seats;
 mod fifo;
 pub mod laws;
 mod lengths;
 mod looks;
-mod making;
-mod meeting;
+mod new_rings;
+mod seat_meets;
 mod places;
 mod plans;
-mod popping;
-mod pushing;
+mod pops;
+mod pushes;
 mod queue;
 mod remains;
 mod roles;
@@ -24,7 +24,7 @@ mod views;
 
 pub use batches::MOST_AT_ONCE;
 pub use lengths::{Emptiness, Len};
-pub use making::MOST_SEATS;
+pub use new_rings::MOST_SEATS;
 pub use queue::RingQueue;
 pub use roles::Role;
 pub use seats::Seat;

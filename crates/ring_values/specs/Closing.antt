@@ -6,7 +6,7 @@ use Rattle.carriers.specs.Knowledge.{KnownOf}
 use Rattle.carriers.specs.Closing.{ClosesWith}
 use Rattle.ring_queue.specs.Closing.{HasRoomFor}
 use Rattle.value_queue.specs.Runs.{as_item}
-use Rattle.ring_values.specs.declared.closing.Room.{Room}
+use Rattle.ring_values.specs.declared.ends.Room.{Room}
 use Rattle.ring_values.specs.declared.queue.RingValues.{RingValues}
 use Rattle.ring_values.specs.declared.remains.LeftValues.{LeftValues}
 use Rattle.ring_values.specs.Queues.{ring_of}

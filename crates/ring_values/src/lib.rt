@@ -2,13 +2,13 @@
 #![tactic(auto)]
 
 mod carrier;
-mod closing;
+mod ends;
 mod looks;
-mod popping;
-mod pushing;
+mod pops;
+mod pushes;
 mod queue;
 mod remains;
 
-pub use closing::Room;
+pub use ends::Room;
 pub use queue::RingValues;
 pub use remains::LeftValues;

@@ -7,7 +7,7 @@ use Rattle.schedule_text.specs.EventStreams.{EventStream, GaveEvent, GaveAll, Is
 use Rattle.text_io.specs.Devices.{SourceState}
 use Rattle.schedule_text.specs.Texts.{version_due}
 use Rattle.schedule_text.specs.declared.event_stream.Stage.TheVariants.{Going}
-use Rattle.schedule_text.specs.declared.parsing.Header.{Header}
+use Rattle.schedule_text.specs.declared.readers.Header.{Header}
 use Rattle.schedule_text.specs.declared.schedules.Event.{Event}
 use Rattle.schedule_text.proofs.EventStreams.{HasRead-event, HasRead-refused, HasRead-all}
 

@@ -11,7 +11,7 @@ use Rattle.schedule_text.specs.Schedules.{Schedule, header_lines}
 use Rattle.schedule_text.specs.Streaming.{IsFirstFaultFrom}
 use Rattle.schedule_text.specs.Streams.{stream}
 use Rattle.schedule_text.specs.Texts.{version_due, schedule_text}
-use Rattle.schedule_text.specs.declared.parsing.Header.{Header}
+use Rattle.schedule_text.specs.declared.readers.Header.{Header}
 use Rattle.schedule_text.specs.declared.schedules.Event.{Event}
 use Rattle.schedule_text.specs.declared.schedules.Version.{Version}
 use Rattle.schedule_text.specs.declared.schedules.Version.TheVariants.{One, Two}

@@ -3,7 +3,7 @@ ghost use Rattle.std.specs.Prelude.{◌≡◌, ◌≢◌, IfErr, IfOk, IfSome, O
 ghost use Rattle.run_engine.specs.Runs.{BeginsRun, WritesRun, EndsReading, IsRunFault, IsRunOf, RunRefused, TellsFaultyLine};
 ghost use Rattle.text_io.specs.Blocks.{GivesUp};
 
-use crate::streaming::history_of_text;
+use crate::runs::history_of_text;
 use engine_faults::Fault;
 use history::{Refusal, Stamped};
 use history_text::print_history;

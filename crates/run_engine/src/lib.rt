@@ -3,8 +3,8 @@
 
 mod bits;
 mod engine;
-mod running;
-mod streaming;
+mod events;
+mod runs;
 
 pub use engine::run_text;
-pub use running::make;
+pub use events::make;

@@ -9,7 +9,7 @@ use Rattle.history.specs.declared.refusals.Refusal.{Refusal}
 use Rattle.history.specs.declared.refusals.Refusal.TheVariants.{Memory, Text, Read}
 use Rattle.text_lines.specs.Grammars.{AreDue, state_after, lines_of}
 use Rattle.text_lines.specs.Lines.{line, spaced}
-use Rattle.schedule_text.specs.declared.parsing.Header.{Header}
+use Rattle.schedule_text.specs.declared.readers.Header.{Header}
 use Rattle.schedule_text.specs.declared.schedules.Event.{Event}
 use Rattle.schedule_text.specs.EventStreams.{EventStream, IsRefused, IsStarted, GaveEvent, GaveAll, IsNext, IsRefusedNext, IsRefusedReading, lines_given, HasRead, HasReadAll, schedule_with}
 use Rattle.schedule_text.specs.Reading.{said_in}

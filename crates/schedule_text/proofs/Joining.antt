@@ -20,7 +20,7 @@ use Rattle.schedule_text.specs.Schedules.{IsBitsOf, header_lines}
 use Rattle.schedule_text.specs.Texts.{Said, version, queue, happens, Due, version_due, queue_due, number_due, events_left, is_due, due_after}
 use Rattle.schedule_text.specs.Texts.{due_after_queue, bits_said, sizes_said, schedule_lines, schedule_text, IsEventOf}
 use Rattle.schedule_text.specs.Reading.{AddsEvent, IsFront, IsRefusedAfter, IsRefusedText, said_in}
-use Rattle.schedule_text.specs.declared.parsing.Header.{Header}
+use Rattle.schedule_text.specs.declared.readers.Header.{Header}
 
 -- the state after two lists of lines
 pub state_after-append : {S R : Type 0} (g : Grammar S R) (s : S) (rs qs : List R) → state_after g s (rs ++ qs) ≡ state_after g (state_after g s rs) qs

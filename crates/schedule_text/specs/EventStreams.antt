@@ -4,7 +4,7 @@ use Rattle.history.specs.declared.refusals.Refusal.{Refusal}
 use Rattle.history.specs.declared.refusals.Refusal.TheVariants.{Memory, Text, Read}
 use Rattle.schedule_text.specs.declared.event_stream.Stage.{Stage}
 use Rattle.schedule_text.specs.declared.event_stream.Stage.TheVariants.{Going, Ended, Refused}
-use Rattle.schedule_text.specs.declared.parsing.Header.{Header}
+use Rattle.schedule_text.specs.declared.readers.Header.{Header}
 use Rattle.schedule_text.specs.declared.schedules.Event.{Event}
 use Rattle.schedule_text.specs.Reading.{IsHeaderInRange, said_in}
 use Rattle.schedule_text.specs.Schedules.{Schedule, header_lines}

@@ -6,8 +6,8 @@ use Rattle.text_lines.specs.Grammars.{IsFirstFault}
 use Rattle.text_lines.specs.Lines.{line, spaced}
 use Rattle.text_lines.specs.Numerals.{IsWithin}
 use Rattle.schedule_text.specs.declared.fields.Field.TheVariants.{Nodes, Limit}
-use Rattle.schedule_text.specs.declared.parsing.Header.{Header}
-use Rattle.schedule_text.specs.declared.parsing.Sizes.{Sizes}
+use Rattle.schedule_text.specs.declared.readers.Header.{Header}
+use Rattle.schedule_text.specs.declared.readers.Sizes.{Sizes}
 use Rattle.schedule_text.specs.declared.schedules.Event.{Event}
 use Rattle.schedule_text.specs.declared.schedules.Version.{Version}
 use Rattle.schedule_text.specs.Schedules.{IsBitsOf}

@@ -7,9 +7,9 @@ ghost use Rattle.schedule_text.specs.Streams.{stream};
 ghost use Rattle.schedule_text.specs.Texts.{Due, version_due};
 
 use crate::ahead::Ahead;
-use crate::parsing::Header;
+use crate::readers::Header;
 use crate::schedules::Event;
-use crate::streaming::{due_from, header_from};
+use crate::source_lines::{due_from, header_from};
 use history::Refusal;
 use std::marker::Model;
 use text_io::Source;

@@ -7,7 +7,7 @@ ghost use Rattle.schedule_text.specs.Texts.{version_due};
 ghost use Rattle.schedule_text.specs.declared.event_stream.Stage.{Stage};
 
 use crate::event_stream::{EventStream, Stage};
-use crate::parsing::Header;
+use crate::readers::Header;
 use crate::schedules::Event;
 use history::Refusal;
 use text_io::Source;

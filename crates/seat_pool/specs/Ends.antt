@@ -4,10 +4,10 @@ use Rattle.history.specs.Closing.{Closes}
 use Rattle.history.specs.Seats.{Permit, Known}
 use Rattle.history.specs.declared.rests.Rest.{Rest}
 use Rattle.seat_pool.specs.declared.pools.SeatPool.{SeatPool}
-use Rattle.seat_pool.specs.declared.closing.Lack.{Lack}
-use Rattle.seat_pool.specs.declared.closing.Lack.TheVariants as lack
-use Rattle.seat_pool.specs.declared.closing.Unclosed.{Unclosed}
-use Rattle.seat_pool.specs.declared.closing.Unclosed.TheVariants as unclosed
+use Rattle.seat_pool.specs.declared.ends.Lack.{Lack}
+use Rattle.seat_pool.specs.declared.ends.Lack.TheVariants as lack
+use Rattle.seat_pool.specs.declared.ends.Unclosed.{Unclosed}
+use Rattle.seat_pool.specs.declared.ends.Unclosed.TheVariants as unclosed
 
 -- a queue was closed by seats with just these numbers, in this order
 pub record ClosesPool (permits : List Permit) (numbers : List ℕ) (rest : Rest) : Type 0 where

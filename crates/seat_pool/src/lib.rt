@@ -1,14 +1,14 @@
 //! Seats that come and go: threads lease the seats of a queue, one after another.
 #![tactic(auto)]
 
-mod closing;
+mod ends;
 mod leases;
 mod parts;
 mod places;
 mod pools;
 mod queue;
 
-pub use closing::Unclosed;
+pub use ends::Unclosed;
 pub use leases::Lease;
 pub use parts::Part;
 pub use pools::SeatPool;

@@ -9,13 +9,13 @@ use Rattle.run_engine.proofs.Leading.{world_after-moves_of}
 use Rattle.schedule_text.specs.declared.schedules.Event.{Event}
 use Rattle.schedule_text.specs.Schedules.{Schedule}
 use Rattle.step_machine.specs.Machine.{World}
-use Rattle.trace_engine.specs.declared.counting.Counted.{Counted as Run}
+use Rattle.trace_engine.specs.declared.counts.Counted.{Counted as Run}
 use Rattle.trace_engine.specs.Pieces.{actors_text, rest_text}
 use Rattle.trace_engine.specs.Stopping.{IsCountOf as IsRunOf, StopsAt}
 use Rattle.trace_engine.proofs.Answered.{IsDue}
-use Rattle.show_engine.specs.declared.counting.Counted.{Counted}
-use Rattle.show_engine.specs.declared.framing.Frame.{Frame}
-use Rattle.show_engine.specs.declared.framing.View.{View}
+use Rattle.show_engine.specs.declared.counts.Counted.{Counted}
+use Rattle.show_engine.specs.declared.frames.Frame.{Frame}
+use Rattle.show_engine.specs.declared.frames.View.{View}
 use Rattle.show_engine.specs.Frames.{frame_of}
 use Rattle.show_engine.specs.Pictures.{events_text, framed_text, picture_pieces, takes_effect}
 use Rattle.show_engine.specs.Showing.{AreEffects, IsCountOf, is_among, the_picture}

@@ -6,7 +6,7 @@ use Rattle.history.specs.declared.refusals.Refusal.TheVariants.{Write}
 use Rattle.check_engine.specs.Checks.{IsTextOf}
 use Rattle.text_io.specs.Blocks.{TakesPrefix}
 use Rattle.text_io.specs.Devices.{SinkState}
-use Rattle.show_engine.specs.declared.framing.View.{View}
+use Rattle.show_engine.specs.declared.frames.View.{View}
 use Rattle.show_engine.specs.Timelines.{timeline_text}
 use Rattle.show_engine.specs.Telling.{BeginsTimeline}
 

@@ -11,7 +11,7 @@ use Rattle.place_engine.proofs.Saying.{says}
 use Rattle.recorded_source.specs.Given.{IsRecordOf}
 use Rattle.text_io.specs.Blocks.{TakesPrefix}
 use Rattle.text_io.specs.Devices.{SinkState}
-use Rattle.show_engine.specs.declared.framing.View.{View}
+use Rattle.show_engine.specs.declared.frames.View.{View}
 use Rattle.show_engine.specs.Found.{BeginsFound, DrawsFound}
 use Rattle.show_engine.specs.Reasons.{found_picture}
 

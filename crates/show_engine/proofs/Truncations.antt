@@ -4,7 +4,7 @@ use Rattle.std.proofs.Common.{arith, length-append, if◌then◌else◌, decimal
 use Rattle.std.specs.Prelude.{leb}
 use Rattle.std.proofs.lemmas.List.{append-nil, length-replicate, length-take-le, take_all, take-append-le}
 use Rattle.std.proofs.lemmas.Bool.{leb-true, leb-false}
-use Rattle.show_engine.specs.declared.framing.Frame.{Frame}
+use Rattle.show_engine.specs.declared.frames.Frame.{Frame}
 use Rattle.show_engine.specs.Frames.{column_of}
 use Rattle.show_engine.specs.Rows.{beside, names_text, padded}
 

@@ -6,7 +6,7 @@ use Rattle.placing.specs.declared.answers.Reason.{Reason}
 use Rattle.place_engine.specs.FoundTexts.{no_text}
 use Rattle.place_engine.specs.WhyTexts.{lines_in, places_of}
 use Rattle.recorded_source.specs.Given.{header_of}
-use Rattle.show_engine.specs.declared.framing.View.{View}
+use Rattle.show_engine.specs.declared.frames.View.{View}
 use Rattle.show_engine.specs.declared.scales.Scale.{Scale}
 use Rattle.show_engine.specs.Found.{AreRising}
 use Rattle.show_engine.specs.Reasons.{beside_text, operations_at, reason_picture, rows_beside, scale_beside, times_text}

@@ -7,7 +7,7 @@ use Rattle.line_steps.specs.Memory.{Shared, Head, Tail, Free, Next, Tail_lock, H
 use Rattle.step_machine.specs.declared.accesses.Contents.{Contents}
 use Rattle.step_machine.specs.declared.accesses.Contents.TheVariants.{Number, Reference, Closed, Value}
 use Rattle.step_machine.specs.Accesses.{contents_in}
-use Rattle.show_engine.specs.declared.framing.Frame.{Frame}
+use Rattle.show_engine.specs.declared.frames.Frame.{Frame}
 
 -- the node of a reference; 0 where there is none
 abbrev pub node_in : Contents → ℕ

@@ -9,7 +9,7 @@ use Rattle.place_engine.specs.Places.{SaysOf}
 use Rattle.recorded_source.specs.Given.{IsRecordOf}
 use Rattle.text_io.specs.Blocks.{TakesPrefix}
 use Rattle.text_io.specs.Devices.{SinkState}
-use Rattle.show_engine.specs.declared.framing.View.{View}
+use Rattle.show_engine.specs.declared.frames.View.{View}
 use Rattle.show_engine.specs.Reasons.{found_picture}
 use Rattle.show_engine.specs.Showing.{is_among}
 

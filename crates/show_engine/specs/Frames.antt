@@ -1,7 +1,7 @@
 -- What of a run is shown, and in which columns.
 use Rattle.std.specs.Prelude.{ℕ, ◌+◌, ◌-◌, ◌*◌, ◌/◌, ◌<◌, ◌≤◌, ◌^◌, min, max, Bool, ◌&&◌, nat_eq, nat_le, nat_lt, if◌then◌else◌}
-use Rattle.show_engine.specs.declared.framing.View.{View}
-use Rattle.show_engine.specs.declared.framing.Frame.{Frame}
+use Rattle.show_engine.specs.declared.frames.View.{View}
+use Rattle.show_engine.specs.declared.frames.Frame.{Frame}
 
 -- how many columns a row has at most: those asked for, but no fewer than 40 and no more than 190
 abbrev pub width_of : View → ℕ

@@ -12,8 +12,8 @@ use Rattle.step_machine.specs.declared.actors.Stepped.{Stepped}
 use Rattle.step_machine.specs.declared.actors.Stepped.TheVariants.{Began, Went, Ended}
 use Rattle.step_machine.specs.Calls.{move_answer}
 use Rattle.step_machine.specs.Machine.{World, mover, next}
-use Rattle.show_engine.specs.declared.framing.Frame.{Frame}
-use Rattle.show_engine.specs.declared.framing.Meaning.{Meaning}
+use Rattle.show_engine.specs.declared.frames.Frame.{Frame}
+use Rattle.show_engine.specs.declared.frames.Meaning.{Meaning}
 use Rattle.show_engine.specs.Frames.{shows}
 use Rattle.show_engine.specs.Rows.{pair_row}
 

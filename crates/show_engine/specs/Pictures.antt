@@ -13,9 +13,9 @@ use Rattle.step_machine.specs.Calls.{move_answer}
 use Rattle.step_machine.specs.Machine.{World, actor_of, mover}
 use Rattle.run_engine.specs.Runs.{opening_of}
 use Rattle.trace_engine.specs.Pieces.{Pieces, actors_text, moves_text}
-use Rattle.show_engine.specs.declared.framing.Frame.{Frame}
-use Rattle.show_engine.specs.declared.framing.Meaning.{Meaning}
-use Rattle.show_engine.specs.declared.framing.View.{View}
+use Rattle.show_engine.specs.declared.frames.Frame.{Frame}
+use Rattle.show_engine.specs.declared.frames.Meaning.{Meaning}
+use Rattle.show_engine.specs.declared.frames.View.{View}
 use Rattle.show_engine.specs.Frames.{frame_of, shows}
 use Rattle.show_engine.specs.Rows.{names_row, number_text, queue_text, row_text, shown_text}
 use Rattle.show_engine.specs.Cells.{cell_text, gives_text, touch_text}

@@ -9,7 +9,7 @@ use Rattle.placing.specs.declared.answers.Placed.TheVariants.{History, Impossibl
 use Rattle.recorded_source.specs.Given.{header_of}
 use Rattle.place_engine.specs.FoundTexts.{no_text}
 use Rattle.place_engine.specs.WhyTexts.{answer_text, lines_in, numbered_line, places_of}
-use Rattle.show_engine.specs.declared.framing.View.{View}
+use Rattle.show_engine.specs.declared.frames.View.{View}
 use Rattle.show_engine.specs.Frames.{width_of}
 use Rattle.show_engine.specs.declared.scales.Scale.{Scale}
 use Rattle.show_engine.specs.Scales.{end_of_history, is_shown}

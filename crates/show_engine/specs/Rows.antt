@@ -2,7 +2,7 @@
 use Rattle.std.specs.Prelude.{ℕ, zero, suc, ◌+◌, ◌-◌, List, ◌++◌, length, take, replicate, codes, decimal, nat_eq, nat_le, min, if◌then◌else◌}
 use Rattle.schedule_text.specs.Schedules.{Schedule}
 use Rattle.schedule_text.specs.Texts.{kind_name}
-use Rattle.show_engine.specs.declared.framing.Frame.{Frame}
+use Rattle.show_engine.specs.declared.frames.Frame.{Frame}
 use Rattle.show_engine.specs.Frames.{column_of}
 
 -- a text with spaces up to a column, if it doesn't reach that far

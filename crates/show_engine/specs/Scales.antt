@@ -1,7 +1,7 @@
 -- Which numbers of a history a timeline shows, and in which columns.
 use Rattle.std.specs.Prelude.{ℕ, ◌+◌, ◌-◌, ◌*◌, ◌/◌, ◌≤◌, min, max, List, [], ◌∷◌, Option, Some, None, Bool, true, ◌&&◌, ◌||◌, nat_eq, nat_le}
 use Rattle.history.specs.declared.operations.Stamped.{Stamped}
-use Rattle.show_engine.specs.declared.framing.View.{View}
+use Rattle.show_engine.specs.declared.frames.View.{View}
 use Rattle.show_engine.specs.Frames.{end_of, width_of}
 use Rattle.show_engine.specs.declared.scales.Scale.{Scale}
 

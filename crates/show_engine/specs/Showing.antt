@@ -7,8 +7,8 @@ use Rattle.schedule_text.specs.Schedules.{Schedule}
 use Rattle.text_io.specs.Devices.{SinkState}
 use Rattle.trace_engine.specs.Answering.{HasWritten, OfSchedule, RunText}
 use Rattle.trace_engine.specs.Stopping.{IsCountOf as IsRunOf}
-use Rattle.show_engine.specs.declared.counting.Counted.{Counted}
-use Rattle.show_engine.specs.declared.framing.View.{View}
+use Rattle.show_engine.specs.declared.counts.Counted.{Counted}
+use Rattle.show_engine.specs.declared.frames.View.{View}
 use Rattle.show_engine.specs.Pictures.{picture_text, stopped_text, takes_effect}
 
 -- whether a number is one of these

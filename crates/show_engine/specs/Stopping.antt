@@ -8,10 +8,10 @@ use Rattle.step_machine.specs.Machine.{World}
 use Rattle.text_io.specs.Devices.{SinkState}
 use Rattle.trace_engine.specs.Answering.{Answers, HasBegun, HasStopped, OfSchedule}
 use Rattle.trace_engine.specs.Pieces.{Pieces, run_text}
-use Rattle.show_engine.specs.declared.counting.Counted.{Counted}
-use Rattle.show_engine.specs.declared.framing.Frame.{Frame}
-use Rattle.show_engine.specs.declared.framing.View.{View}
-use Rattle.show_engine.specs.declared.framing.Meaning.{Meaning}
+use Rattle.show_engine.specs.declared.counts.Counted.{Counted}
+use Rattle.show_engine.specs.declared.frames.Frame.{Frame}
+use Rattle.show_engine.specs.declared.frames.View.{View}
+use Rattle.show_engine.specs.declared.frames.Meaning.{Meaning}
 use Rattle.show_engine.specs.Legends.{legend_text, lines_in}
 use Rattle.show_engine.specs.Pictures.{picture_pieces}
 use Rattle.show_engine.specs.Rows.{shown_text}

@@ -5,7 +5,7 @@ use Rattle.history.specs.declared.operations.Stamped.{Stamped}
 use Rattle.text_io.specs.Blocks.{TakesPrefix}
 use Rattle.text_io.specs.Devices.{SinkState}
 use Rattle.check_engine.specs.Checks.{IsTextOf}
-use Rattle.show_engine.specs.declared.framing.View.{View}
+use Rattle.show_engine.specs.declared.frames.View.{View}
 use Rattle.show_engine.specs.Timelines.{timeline_text}
 
 -- known bytes were the text of a history, and its timeline was written

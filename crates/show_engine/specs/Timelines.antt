@@ -4,7 +4,7 @@ use Rattle.std.specs.List.{flat_map}
 use Rattle.history.specs.declared.operations.Stamped.{Stamped}
 use Rattle.history_text.specs.HistoryText.{call_text}
 use Rattle.show_engine.specs.Cells.{named_reply}
-use Rattle.show_engine.specs.declared.framing.View.{View}
+use Rattle.show_engine.specs.declared.frames.View.{View}
 use Rattle.show_engine.specs.Rows.{truncated_to, number_text}
 use Rattle.show_engine.specs.declared.scales.Scale.{Scale}
 use Rattle.show_engine.specs.Scales.{column_of, end_of_history, is_shown, scale_of}

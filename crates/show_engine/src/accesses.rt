@@ -1,5 +1,5 @@
 //! What the lines do, by docs/LINES.md, which tools/pages writes from there.
-use crate::framing::Meaning;
+use crate::frames::Meaning;
 use line_table::Line;
 
 /// The access of each line, in the order of the tables.

@@ -8,7 +8,7 @@ ghost use Rattle.show_engine.specs.Timelines.{bar_text};
 
 use crate::bars::push_bar;
 use crate::effects::is_among;
-use crate::framing::View;
+use crate::frames::View;
 use crate::rows::push_number;
 use crate::scales::{Scale, end_of_history};
 use history::Stamped;

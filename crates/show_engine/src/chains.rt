@@ -3,7 +3,7 @@ ghost use Rattle.std.specs.Prelude.{◌≡◌, ℕ, ◌+◌, ◌*◌, ◌≤◌,
 ghost use Rattle.step_machine.specs.Accesses.{contents_in, word_named};
 ghost use Rattle.show_engine.specs.Chains.{arrow_text, chain_text, chains_text, has_arrow, holder_text, holders_text, links_text, node_in, rest_text, side_text, state_text, tail_node, tail_text};
 
-use crate::framing::Frame;
+use crate::frames::Frame;
 use step_machine::{Contents, WordName, WorldOf};
 use text_io::{LINE_ROOM, Line};
 

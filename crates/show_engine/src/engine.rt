@@ -6,9 +6,9 @@ ghost use Rattle.text_io.specs.Blocks.{GivesUp};
 ghost use Rattle.show_engine.specs.Showing.{WritesPicture};
 ghost use Rattle.show_engine.specs.Stopping.{BeginsPicture, Draws, WritesStop};
 
-use crate::counting::count;
-use crate::drawing::draw;
-use crate::framing::{Frame, View};
+use crate::counts::count;
+use crate::pictures::draw;
+use crate::frames::{Frame, View};
 use engine_faults::Fault;
 use history::Refusal;
 use run_engine::by_bits;

@@ -9,8 +9,8 @@ ghost use Rattle.text_io.specs.Blocks.{Writes};
 ghost use Rattle.show_engine.specs.Frames.{IsFitting};
 ghost use Rattle.show_engine.specs.Legends.{has_line, legend_text, lines_in, meaning_row, with_line, with_move, with_moves, with_stepped};
 
-use crate::framing::{Frame, Meaning};
-use crate::moving::mover;
+use crate::frames::{Frame, Meaning};
+use crate::move_rows::mover;
 use crate::rows::pair_line;
 use history::Refusal;
 use line_table::Line as At;

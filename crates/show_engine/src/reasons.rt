@@ -10,7 +10,7 @@ ghost use Rattle.show_engine.specs.Reasons.{found_picture, reason_picture};
 
 use crate::bars::count_shown;
 use crate::beside::{push_rows, scale_beside, times_line};
-use crate::framing::View;
+use crate::frames::View;
 use history::{Refusal, Stamped};
 use place_engine::{lines_of, no_line, places_of, tell};
 use placing::{Placed, Reason, place};

@@ -4,7 +4,7 @@ ghost use Rattle.schedule_text.specs.Texts.{IsInRange};
 ghost use Rattle.show_engine.specs.Frames.{IsFitting};
 ghost use Rattle.show_engine.specs.Rows.{truncated_to, names_row, number_text, padded, pair_row, queue_text, row_text, shown_text};
 
-use crate::framing::Frame;
+use crate::frames::Frame;
 use schedule_text::{Schedule, name_of_kind};
 use text_io::{LINE_ROOM, Line};
 

@@ -2,7 +2,7 @@
 ghost use Rattle.std.specs.Prelude.{◌≡◌, ◌≤◌, ◌<◌};
 ghost use Rattle.show_engine.specs.Scales.{IsFitting, column_of, end_of_history, greatest_of, is_shown, reaches, scale_of};
 
-use crate::framing::View;
+use crate::frames::View;
 use history::Stamped;
 
 /// The numbers that are shown, and the columns of their bars.

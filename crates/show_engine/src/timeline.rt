@@ -9,7 +9,7 @@ ghost use Rattle.show_engine.specs.Timelines.{scaled_text};
 ghost use Rattle.show_engine.specs.Telling.{BeginsTimeline, WritesTimeline};
 
 use crate::bars::{count_shown, shown_row, span_line};
-use crate::framing::View;
+use crate::frames::View;
 use crate::scales::{Scale, end_of_history};
 use check_engine::history_in;
 use history::{Refusal, Stamped};

@@ -4,14 +4,14 @@
 mod accesses;
 mod actors;
 mod benches;
-mod committing;
+mod commits;
 pub mod histories;
 pub mod laws;
-mod moving;
+mod moves;
 pub mod non_blocking_laws;
 mod places;
 pub mod solo;
-pub mod stamping;
+pub mod stamp_laws;
 pub mod two_lock_laws;
 mod world;
 
@@ -19,6 +19,6 @@ pub use accesses::{Contents, WordName};
 pub use actors::{Move, Stepped};
 pub use benches::{Bench, BenchOf, on_bench};
 pub use line_steps::{ActorOf, Held, Setup, Told};
-pub use moving::step_in;
+pub use moves::step_in;
 pub use places::Place;
 pub use world::{World, WorldOf};

@@ -9,7 +9,7 @@ ghost use Rattle.step_machine.specs.Calls.{setup_from, NewRefused, BeginRefused,
 ghost use Rattle.step_machine.specs.Solo.{EndsAlone};
 
 use crate::actors::{Move, Stepped};
-use crate::committing::{Call, actor_at, commit, idle_actors, put_actor, take_step};
+use crate::commits::{Call, actor_at, commit, idle_actors, put_actor, take_step};
 use counted_ref::{CountedRefOf, most_count, most_node};
 use history::{MOST_ACTOR, Op, Refusal, Reply, Stamped, Taken};
 use line_steps::{ActorOf, Held, MemoryOf, Setup, begin, give_up};
@@ -20,7 +20,7 @@ use std::marker::Model;
 /// A world with 24 bits for the number of a node.
 pub type World = WorldOf<24>;
 
-mod placing;
+mod node_places;
 mod queries;
 
 /// Both ends of a queue, its free list and the actors, in plain memory: the machine after some list of moves.

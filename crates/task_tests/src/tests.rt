@@ -1,5 +1,5 @@
 //! Tasks of several types, in threads.
-mod counting;
+mod counted_tasks;
 mod fed;
 mod left;
 mod memory;

@@ -4,11 +4,11 @@
 pub mod laws;
 mod numbers;
 mod printable;
-mod splitting;
-mod wording;
+mod line_splits;
+mod words;
 
 pub use history::TextCause;
 pub use numbers::number_in;
 pub use printable::printable_in;
-pub use splitting::line_at;
-pub use wording::Words;
+pub use line_splits::line_at;
+pub use words::Words;

@@ -1,5 +1,5 @@
 //! Words, lines, devices, verdicts, tables and texts, each against what was typed from outside.
-mod comparing;
+mod comparisons;
 mod devices;
 mod histories;
 mod jobs;

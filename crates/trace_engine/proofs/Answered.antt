@@ -14,7 +14,7 @@ use Rattle.step_machine.specs.Machine.{World}
 use Rattle.text_io.specs.Blocks.{Sends, TakesPrefix}
 use Rattle.text_io.specs.Devices.{SinkState}
 use Rattle.text_io.proofs.Sends.{Appends-Sends}
-use Rattle.trace_engine.specs.declared.counting.Counted.{Counted}
+use Rattle.trace_engine.specs.declared.counts.Counted.{Counted}
 use Rattle.trace_engine.specs.Answering.{Answers, HasBegun, IsDueOf, IsStopOf, IsTracingFault, IsWholeOf, RunText, StopsTelling, Tells}
 use Rattle.trace_engine.specs.Stopping.{EndsAsCounted, IsCountOf}
 use Rattle.trace_engine.proofs.Stops.{events_refused, is_refused, stops_at}

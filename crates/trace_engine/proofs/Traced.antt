@@ -9,7 +9,7 @@ use Rattle.schedule_text.specs.declared.schedules.Event.{Event}
 use Rattle.schedule_text.specs.Schedules.{Schedule, moves_of}
 use Rattle.step_machine.specs.Machine.{World}
 use Rattle.text_io.specs.Devices.{SinkState}
-use Rattle.trace_engine.specs.declared.counting.Counted.{Counted}
+use Rattle.trace_engine.specs.declared.counts.Counted.{Counted}
 use Rattle.trace_engine.specs.Answering.{Tells}
 use Rattle.trace_engine.specs.Pieces.{moves_text, run_text}
 use Rattle.trace_engine.specs.Steps.{header_text, move_text}

@@ -8,7 +8,7 @@ use Rattle.run_engine.specs.Runs.{EventRefused, EventsLead, opening_of}
 use Rattle.schedule_text.specs.declared.schedules.Event.{Event}
 use Rattle.schedule_text.specs.Schedules.{Schedule, header_lines}
 use Rattle.step_machine.specs.Machine.{World}
-use Rattle.trace_engine.specs.declared.counting.Counted.{Counted}
+use Rattle.trace_engine.specs.declared.counts.Counted.{Counted}
 
 -- why no more than so many events were made, which led to this world: there are no more, or the next one is refused
 abbrev pub StopsAt : (events : List Event) → (made : ℕ) → World → Option Refusal → Type 0

@@ -5,7 +5,7 @@ ghost use Rattle.schedule_text.specs.Texts.{IsInRange};
 ghost use Rattle.text_io.specs.Blocks.{GivesUp};
 ghost use Rattle.trace_engine.specs.Tracing.{BeginsTrace, Traces, WritesStop, WritesTrace};
 
-use crate::counting::{count_steps, refuse_at};
+use crate::counts::{count_steps, refuse_at};
 use crate::traces::write_trace;
 use engine_faults::Fault;
 use history::Refusal;

@@ -10,7 +10,7 @@ ghost use Rattle.trace_engine.specs.Answering.{Tells};
 ghost use Rattle.trace_engine.specs.Pieces.{actors_text, moves_text, rest_text, run_text, stop_text};
 ghost use Rattle.trace_engine.specs.Stopping.{IsCountOf};
 
-use crate::counting::{Counted, first_events, opening_world};
+use crate::counts::{Counted, first_events, opening_world};
 use crate::printers::RunPrinter;
 use history::Refusal;
 use schedule_text::{Event, Schedule};

@@ -7,11 +7,11 @@ ghost use Rattle.trace_engine.specs.Answering.{Tells};
 ghost use Rattle.trace_engine.specs.Stopping.{IsCountOf};
 ghost use Rattle.trace_engine.specs.Tracing.{due_text};
 
-use crate::counting::Counted;
+use crate::counts::Counted;
 use crate::printers::RunPrinter;
-use crate::printing::{header_lines, push_move};
+use crate::lines::{header_lines, push_move};
 use crate::runs::print_run;
-use crate::standing::{actor_in, alone_line, stand_line};
+use crate::stands::{actor_in, alone_line, stand_line};
 use history::Refusal;
 use schedule_text::{Event, Schedule};
 use std::alloc::Global;

@@ -4,7 +4,7 @@ pub mod PushTries
 pub mod PopSteps
 pub mod PopStands
 pub mod Fronts
-pub mod Pops
+pub mod PopCalls
 pub mod ShutStands
 pub mod ShutTries
 mod Lines

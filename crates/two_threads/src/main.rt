@@ -1,10 +1,10 @@
 //! Two threads and one queue: one pushes the numbers from 1 on, the other takes them, in that order.
 #![tactic(auto)]
 
-mod making;
-mod running;
+mod new_queues;
+mod threads;
 
-use crate::making::{on_ms_queue, on_two_lock_queue};
+use crate::new_queues::{on_ms_queue, on_two_lock_queue};
 use history::{Refusal, Taken};
 use std::io;
 

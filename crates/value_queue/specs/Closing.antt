@@ -14,7 +14,7 @@ use Rattle.node_arena.specs.AsMany.{pushers}
 use Rattle.node_arena.specs.Ended.{HasRoomFor, ended_id, last_words}
 use Rattle.node_arena.specs.Leftovers.{rest_in, values_in}
 use Rattle.node_arena.specs.Remains.{ref_at, AreLeft}
-use Rattle.value_queue.specs.declared.closing.Room.{Room}
+use Rattle.value_queue.specs.declared.ends.Room.{Room}
 use Rattle.value_queue.specs.Runs.{as_item}
 
 -- a queue was closed by these seats, with what is left in its arena

@@ -1,7 +1,7 @@
 //! The queue's calls.
 ghost use Rattle.std.specs.Prelude.{◌≡◌, Err};
 
-use crate::pushing::{body_of, unpushed};
+use crate::pushes::{body_of, unpushed};
 use crate::queue::QueueOf;
 use arena_queue::Algorithm;
 use carriers::{Carrier, ItemOf, Unpushed};

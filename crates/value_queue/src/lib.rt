@@ -2,11 +2,11 @@
 #![tactic(auto)]
 
 mod carrier;
-mod closing;
+mod ends;
 mod looks;
-mod popping;
-mod pushing;
+mod pops;
+mod pushes;
 mod queue;
 
-pub use closing::Room;
+pub use ends::Room;
 pub use queue::{MsValueQueue, MsValueQueueOf, QueueOf, TwoLockValueQueue, TwoLockValueQueueOf};

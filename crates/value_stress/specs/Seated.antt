@@ -2,7 +2,7 @@
 use Rattle.std.specs.Prelude.{List}
 use Rattle.history.specs.Seats.{Permit, MayPush, MayPop}
 use Rattle.carriers.specs.Knowledge.{KnownOf}
-use Rattle.value_stress.specs.declared.seating.Four.{Four}
+use Rattle.value_stress.specs.declared.four_seats.Four.{Four}
 
 module _ {Q S A : Type 0} (is_seat : Q → S → Type 0) (permits : Q → List Permit) (known : S → KnownOf A) where
   -- a seat is the queue's, in no call, and may push and pop

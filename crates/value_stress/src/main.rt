@@ -2,14 +2,14 @@
 #![tactic(auto)]
 
 mod loads;
-mod measuring;
+mod timed_work;
 mod queues;
 mod rings;
-mod running;
-mod seating;
+mod threads;
+mod four_seats;
 mod tallies;
 
-use crate::measuring::Works;
+use crate::timed_work::Works;
 use crate::queues::{Asked, Carried, Which, stressed, worked};
 use std::alloc::Global;
 use std::sync::Wait;

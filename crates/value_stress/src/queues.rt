@@ -1,9 +1,9 @@
 //! The queues that run.
 use crate::loads::{Load, Words};
-use crate::measuring::{Works, all};
+use crate::timed_work::{Works, all};
 use crate::rings;
-use crate::running::{Verdict, judged};
-use crate::seating::last_four_keeping;
+use crate::threads::{Verdict, judged};
+use crate::four_seats::last_four_keeping;
 use arena_queue::{Algorithm, ArenaQueueOf};
 use carriers::Numbers;
 use history::Body;

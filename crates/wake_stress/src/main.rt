@@ -1,15 +1,15 @@
 //! Threads that sleep for values, over each queue: all come, and how long each takes.
 #![tactic(auto)]
 
-mod handing;
-mod idling;
-mod pushing;
+mod hand_overs;
+mod idle_threads;
+mod timed_pushes;
 
 ghost use Rattle.std.specs.List.{All};
 
-use crate::handing::{Load, hand_over};
-use crate::idling::idle;
-use crate::pushing::time_pushes;
+use crate::hand_overs::{Load, hand_over};
+use crate::idle_threads::idle;
+use crate::timed_pushes::time_pushes;
 use blocking_queue::BlockingQueue;
 use history::{Fifo, Refusal};
 use node_arena::{MOST_COUNT, Role};

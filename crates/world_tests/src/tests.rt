@@ -1,18 +1,18 @@
 //! What a world is led through, and what is seen of it.
 mod answers;
 mod benches;
-mod comparing;
+mod comparisons;
 mod events;
 mod expected;
 mod long_runs;
 mod memory;
 mod moves;
 mod non_blocking;
-mod overlapping;
+mod overlaps;
 mod places;
 mod queries;
 mod refusals;
-mod shutting;
+mod shuts;
 mod trials;
 mod two_lock;
 mod words;

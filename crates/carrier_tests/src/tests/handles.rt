@@ -2,4 +2,4 @@
 mod common;
 mod ends;
 mod random;
-mod waking;
+mod wake_ups;

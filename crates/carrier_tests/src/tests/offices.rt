@@ -1,5 +1,5 @@
 //! Offices of letters, in one thread and in four.
-mod closing;
+mod rests;
 mod common;
 mod ends;
 mod rings;

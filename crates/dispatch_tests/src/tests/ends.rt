@@ -2,7 +2,7 @@
 ghost use Rattle.std.specs.List.{All};
 ghost use Rattle.history.specs.Closing.{AsksAny};
 
-use super::comparing::same;
+use super::comparisons::same;
 use super::gates::Open;
 use super::plans::{Rule, Trouble};
 use super::queues::{KINDS, non_blocking_of, non_blocking_with, two_lock_of};

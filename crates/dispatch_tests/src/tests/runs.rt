@@ -1,7 +1,7 @@
 //! Runs of `dispatch` on both queues.
 ghost use Rattle.std.specs.List.{All};
 
-use super::comparing::same;
+use super::comparisons::same;
 use super::gates::{Logged, Open, SecondFirst};
 use super::plans::{Rule, Trouble};
 use super::queues::{KINDS, non_blocking_of, two_lock_of};

@@ -1,7 +1,7 @@
 //! Turns of one worker, on one thread.
 ghost use Rattle.std.specs.List.{All};
 
-use super::comparing::same;
+use super::comparisons::same;
 use super::gates::Open;
 use super::queues::{non_blocking_of, two_lock_of};
 use super::seats::{giver_of, sums, taker_of};

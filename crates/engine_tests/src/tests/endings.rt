@@ -1,4 +1,4 @@
-use crate::tests::comparing::same;
+use crate::tests::comparisons::same;
 use engine_faults::{Ending, Fault, end_of};
 use history::{Refusal, TextCause, WornWord};
 use std::process::Abort;

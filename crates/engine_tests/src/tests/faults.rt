@@ -1,4 +1,4 @@
-use crate::tests::comparing::same;
+use crate::tests::comparisons::same;
 use engine_faults::Fault;
 use history::{Refusal, TextCause};
 use std::test::Fail;

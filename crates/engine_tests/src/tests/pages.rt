@@ -1,7 +1,7 @@
 //! Pages around a trace that was worked out by hand, by devices that move few bytes, and by such that fail.
 ghost use Rattle.std.specs.Prelude.{◌<◌};
 
-use crate::tests::comparing::same;
+use crate::tests::comparisons::same;
 use engine_faults::Fault;
 use history::Refusal;
 use page_engine::{Frame, page_text};

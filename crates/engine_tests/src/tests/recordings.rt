@@ -1,4 +1,4 @@
-use crate::tests::comparing::same;
+use crate::tests::comparisons::same;
 use crate::tests::trials::{
     Engine, does, does_by_any_piece, tells_each_end, writes_a_prefix, writes_nothing,
 };

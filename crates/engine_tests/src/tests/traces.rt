@@ -1,5 +1,5 @@
 //! Traces, each against what was worked out by hand, or against the calls of a world.
-mod agreeing;
+mod agreement;
 mod chance;
-mod reading;
+mod rows;
 mod typed;

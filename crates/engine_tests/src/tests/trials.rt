@@ -1,7 +1,7 @@
 //! An engine that is handed a text, and what it answers and writes.
 ghost use Rattle.std.specs.Prelude.{◌<◌};
 
-use crate::tests::comparing::same;
+use crate::tests::comparisons::same;
 use check_engine::check_text;
 use engine_faults::{Ending, Fault, end_of};
 use expand_engine::expand_text;

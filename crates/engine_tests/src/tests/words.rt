@@ -1,4 +1,4 @@
-use crate::tests::comparing::same;
+use crate::tests::comparisons::same;
 use command_line::{Colours, Command, Task, read_words};
 use line_table::Kind;
 use queue_kinds::QueueKind;

@@ -1,7 +1,7 @@
 //! What any engine answers of a text, and what it has written then.
 ghost use Rattle.std.specs.Prelude.{◌<◌};
 
-use crate::tests::comparing::same;
+use crate::tests::comparisons::same;
 use crate::tests::trials::Engine;
 use engine_faults::{Ending, Fault};
 use history::{Refusal, TextCause};

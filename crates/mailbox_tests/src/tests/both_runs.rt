@@ -1,9 +1,9 @@
 //! Letters over either queue: runs that both make alike.
-use super::comparing::same;
+use super::comparisons::same;
 use super::letters::{a_loss_is_told_from_then_on, letters_come_in_the_order_sent};
 use super::loads::LOADS;
 use super::shut_offices::a_shut_ends_an_office;
-use super::sleeping::{a_receiver_is_woken, a_sender_is_woken};
+use super::sleepers::{a_receiver_is_woken, a_sender_is_woken};
 use arena_queue::Algorithm;
 use history::Refusal;
 use mail_engine::mail_queue;

@@ -4,7 +4,7 @@ ghost use Rattle.std.specs.List.{All};
 ghost use Rattle.mailbox.specs.Openings.{CanSend, CanReceive};
 ghost use Rattle.mailbox.specs.Offices.{IsSender, IsReceiver};
 
-use super::comparing::same;
+use super::comparisons::same;
 use history::{Body, Fifo, Refusal};
 use mailbox::{Letter, Office, Receiver, Sender};
 use std::alloc::Global;

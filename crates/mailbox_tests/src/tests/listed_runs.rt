@@ -2,7 +2,7 @@
 ghost use Rattle.mailbox.specs.Openings.{CanSend, CanReceive};
 ghost use Rattle.mailbox.specs.Offices.{IsSender, IsReceiver};
 
-use super::comparing::same;
+use super::comparisons::same;
 use super::letters::{last, parts, sends};
 use history::{Fifo, Refusal, WornWord};
 use mailbox::{Office, Receiver, Sender};

@@ -4,7 +4,7 @@ ghost use Rattle.mailbox.specs.Openings.{CanSend, CanReceive};
 ghost use Rattle.mailbox.specs.Offices.{IsSender, IsReceiver};
 ghost use Rattle.mailbox.specs.Posting.{IsTask};
 
-use super::comparing::same;
+use super::comparisons::same;
 use super::letters::{TURNS, last, sends};
 use history::{Fifo, Refusal};
 use mailbox::{Office, Receiver, Sender, Task, post};

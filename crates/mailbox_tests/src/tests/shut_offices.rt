@@ -3,7 +3,7 @@ ghost use Rattle.std.specs.List.{All};
 ghost use Rattle.mailbox.specs.Openings.{CanSend, CanReceive};
 ghost use Rattle.mailbox.specs.Offices.{IsSender, IsReceiver};
 
-use super::comparing::same;
+use super::comparisons::same;
 use super::letters::{TURNS, last, sends, takes};
 use history::{Fifo, Refusal, WornWord};
 use mailbox::{Office, Receiver, Sender};

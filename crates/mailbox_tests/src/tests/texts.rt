@@ -1,5 +1,5 @@
 //! Texts of mail that are posted over each queue, from any source to any sink.
-use super::comparing::same;
+use super::comparisons::same;
 use history::Refusal;
 use line_table::Kind;
 use mail_engine::post_text;

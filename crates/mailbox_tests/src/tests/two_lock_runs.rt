@@ -1,7 +1,7 @@
 //! Letters over the two-lock queue, also where it refuses.
 use super::both_runs;
 use super::both_runs::{GREATEST_COUNT, came};
-use super::comparing::same;
+use super::comparisons::same;
 use super::letters::take_last;
 use super::losses::{
     a_letter_of_no_task_is_lost, a_post_in_a_shut_office_is_lost,

@@ -1,5 +1,5 @@
 use Rattle.mailbox.proofs.Plans.{receiver_of-same}
-use Rattle.mail_engine.proofs.Tasks.{tasks_of-senders}
+use Rattle.mail_engine.proofs.SenderTasks.{tasks_of-senders}
 use Rattle.numbered_letters.proofs.posted.Goals as goal
 
 pub for_tasks-requires-after_bounds : goal.for_tasks-requires-after_bounds

@@ -1,7 +1,7 @@
 //! Many small histories, each against a search of all orders.
 use crate::tests::chance::{Chance, Kind, by_chance};
-use crate::tests::comparing::same;
-use crate::tests::searching::has_order;
+use crate::tests::comparisons::same;
+use crate::tests::orders::has_order;
 use history::Stamped;
 use placing::{Placed, Unknown, place};
 use std::alloc::Global;

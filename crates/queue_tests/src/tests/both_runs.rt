@@ -4,7 +4,7 @@ ghost use Rattle.std.specs.List.{All};
 ghost use Rattle.counted_ref.specs.Ref.{IsSplit};
 ghost use Rattle.arena_queue.specs.Queues.{IsQueueSeat};
 
-use super::comparing::same;
+use super::comparisons::same;
 use super::drains::{ROOM_FOR_ALL, drains_beside_a_giver, drains_end, drains_go_on};
 use super::runs::{
     AMPLE_COUNT, GREATEST_COUNT, Left, ROOM_FOR_ONE, Told, a_full_queue_is_shut,
@@ -12,7 +12,7 @@ use super::runs::{
     closed_with_one, goes, last, left_one, two_threads_pop_each_value_once,
     values_come_in_their_order,
 };
-use super::waiting::waiting_calls_go_on;
+use super::waits::waiting_calls_go_on;
 use arena_queue::{Algorithm, ArenaQueueOf};
 use history::Refusal;
 use node_arena::{Role, Seat};

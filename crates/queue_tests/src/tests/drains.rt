@@ -3,7 +3,7 @@ ghost use Rattle.std.specs.List.{All};
 ghost use Rattle.queue_tests.specs.Rounds.{MayBegin};
 
 use super::calls::{push, shut};
-use super::comparing::same;
+use super::comparisons::same;
 use super::runs::last;
 use super::threads::{MOST, able};
 use draining::FifoExt;

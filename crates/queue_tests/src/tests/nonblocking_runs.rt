@@ -1,7 +1,7 @@
 //! Runs of the non-blocking queue.
 use super::both_runs;
 use super::both_runs::queue_of;
-use super::comparing::same;
+use super::comparisons::same;
 use super::runs::{Left, Told, goes, last, leaves};
 use history::{Refusal, WornWord};
 use node_arena::{Held, Role};

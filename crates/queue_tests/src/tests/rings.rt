@@ -2,6 +2,6 @@
 mod calls;
 mod ends;
 mod looks;
-mod making;
+mod sizes;
 mod runs;
 mod threads;

@@ -4,7 +4,7 @@ ghost use Rattle.std.specs.List.{All};
 ghost use Rattle.history.specs.Closing.{AsksAny};
 
 use super::calls::{parts, pop, push, shut};
-use super::comparing::same;
+use super::comparisons::same;
 use super::threads::{MOST, Run, met};
 use arena_queue::{Algorithm, ArenaQueueOf};
 use history::{Close, Fifo, Refusal};

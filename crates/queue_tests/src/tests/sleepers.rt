@@ -3,4 +3,4 @@ mod clones;
 mod common;
 mod handles;
 mod random;
-mod waking;
+mod wake_ups;

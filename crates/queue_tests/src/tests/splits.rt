@@ -2,7 +2,7 @@
 ghost use Rattle.counted_ref.specs.Ref.{IsSplit};
 
 use super::both_runs::queue_of;
-use super::comparing::same;
+use super::comparisons::same;
 use super::runs::{
     AMPLE_COUNT, GIVES_AND_SHUTS, ROUNDS_COUNT, TAKES_TO_THE_END, goes, last,
     one_seat_pops_what_it_pushed, words_of,

@@ -10,7 +10,7 @@ ghost use Rattle.step_machine.specs.Words.{memory_words};
 ghost use Rattle.step_machine.specs.TakingEffect.{HavePlacesByItsEffects};
 
 use crate::accesses::{Contents, WordName, told, word_at};
-use crate::committing::actor_at;
+use crate::commits::actor_at;
 use crate::world::WorldOf;
 use counted_ref::CountedRefOf;
 use history::{Refusal, Stamped, Taken};

@@ -1,5 +1,5 @@
 //! Pools that are fed: tasks are asked for as there is room for them, and each result is told as it comes.
-use super::counting::{Calls, Counting, Third, calls, others, same, task_of, wanted};
+use super::counted_tasks::{Calls, Counting, Third, calls, others, same, task_of, wanted};
 use fed_pool::{Fed, Feed, run_feed};
 use history::Refusal;
 use std::alloc::Global;

@@ -1,5 +1,5 @@
 //! Queues that are too small for the tasks, and queues that wear out: what is run by the submitter, and what is left.
-use super::counting::{Counting, Third, calls, others, same, tasks, wanted};
+use super::counted_tasks::{Counting, Third, calls, others, same, tasks, wanted};
 use arena_queue::Algorithm;
 use blocking_carrier::BlockingCarrier;
 use executor::pool_queue;

@@ -1,5 +1,5 @@
 //! Tasks where memory is refused: all come back, or each is answered.
-use super::counting::{Calls, Counting, calls, others, same, tasks, wanted};
+use super::counted_tasks::{Calls, Counting, calls, others, same, tasks, wanted};
 use super::fed::Row;
 use executor::{Unstarted, run_all};
 use fed_pool::run_feed;

@@ -1,5 +1,5 @@
 //! Tasks that `run_all` runs: each is called once, whichever threads there are, and a task that fails takes no others with it.
-use super::counting::{calls, others, same, tasks, wanted};
+use super::counted_tasks::{calls, others, same, tasks, wanted};
 use executor::run_all;
 use history::Refusal;
 use std::alloc::Global;

@@ -1,5 +1,5 @@
 //! Tasks that are run at one time, and tasks that own what they need.
-use super::counting::same;
+use super::counted_tasks::same;
 use executor::run_all;
 use history::Refusal;
 use std::alloc::{AllocError, Global};

@@ -1,5 +1,5 @@
 //! What no clause says: the texts as they stand in a file, the messages, and calls that succeed.
-use crate::tests::comparing::same;
+use crate::tests::comparisons::same;
 use history::{Body, Op, Refusal, Reply, Stamped, Taken, TextCause, WornWord};
 use history_text::print_history;
 use std::test::Fail;

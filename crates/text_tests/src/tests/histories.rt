@@ -1,5 +1,5 @@
 //! What no clause says: that texts are read where memory is there, and the faults of known texts.
-use crate::tests::comparing::same;
+use crate::tests::comparisons::same;
 use history::{Body, Op, Refusal, Reply, Stamped, Taken, TextCause};
 use history_text::{parse_history, print_history};
 use std::alloc::{AllocError, Global};

@@ -1,5 +1,5 @@
 //! What no clause says: that texts of jobs are read where memory is there, tables of results as they stand in a file, and the faults of known texts.
-use crate::tests::comparing::same;
+use crate::tests::comparisons::same;
 use history::{Refusal, TextCause};
 use job_results::{Job, JobResult, parse_jobs};
 use report::results_table;

@@ -1,5 +1,5 @@
 //! The names as the lines are known by, and texts that name no line.
-use crate::tests::comparing::same;
+use crate::tests::comparisons::same;
 use line_table::Line;
 
 const NAMED: [(Line, &str); 45] = [

@@ -1,5 +1,5 @@
 //! What no clause says: that recordings are read where memory is there, and the faults of known texts.
-use crate::tests::comparing::same;
+use crate::tests::comparisons::same;
 use history::{Refusal, TextCause};
 use history_text::print_history;
 use recording_text::{parse_holding, parse_recording, texts_in};

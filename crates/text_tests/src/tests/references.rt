@@ -1,5 +1,5 @@
 //! Words and answers typed from the table of the format, and what the derives write.
-use crate::tests::comparing::same;
+use crate::tests::comparisons::same;
 use counted_ref::{CountedRef, CountedRefOf, MOST_COUNT, MOST_NODE, most_count, most_node};
 
 #[test]

@@ -1,4 +1,4 @@
-use crate::tests::comparing::same;
+use crate::tests::comparisons::same;
 use history::Refusal;
 use schedule_text::parse;
 use std::alloc::{AllocError, Global};

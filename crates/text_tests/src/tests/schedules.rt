@@ -1,4 +1,4 @@
-use crate::tests::comparing::same;
+use crate::tests::comparisons::same;
 use history::{Body, Op};
 use line_table::{Kind, Line};
 use schedule_text::{Event, Schedule, Version, parse, print};

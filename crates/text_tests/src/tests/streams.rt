@@ -1,5 +1,5 @@
 //! Schedules from sources that give few bytes a call, or fail.
-use crate::tests::comparing::same;
+use crate::tests::comparisons::same;
 use crate::tests::schedule_faults::{FAULTS, FAULTS_OF_TWO, LINES, LINES_OF_TWO, text_with};
 use crate::tests::schedules::{SHUTS, WIDEST_OF_16, WIDEST_OF_32};
 use history::{Body, Op, Refusal};

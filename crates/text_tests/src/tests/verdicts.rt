@@ -1,5 +1,5 @@
 //! Calls that succeed: each verdict with its place, on histories that were judged by hand.
-use crate::tests::comparing::same;
+use crate::tests::comparisons::same;
 use history::{Body, Cause, Op, Refusal, Reply, Stamped, Taken, Verdict, check};
 use std::test::Fail;
 

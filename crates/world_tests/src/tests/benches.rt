@@ -1,5 +1,5 @@
 //! Two threads that share a world.
-use super::comparing::same;
+use super::comparisons::same;
 use super::expected::Answer::Value;
 use super::expected::Call::{self, Deq, Enq};
 use super::expected::{op, reply};

@@ -1,5 +1,5 @@
 //! One long run in the greatest queue: no call says that memory is refused where it is there.
-use super::comparing::same;
+use super::comparisons::same;
 use super::expected::Answer::{Done, Value};
 use super::expected::Call::{Deq, Enq};
 use super::expected::Shown::Complete;

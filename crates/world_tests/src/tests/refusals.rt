@@ -1,7 +1,7 @@
 //! What the calls refuse, and that a refused call changes nothing that can be seen.
 ghost use Rattle.counted_ref.specs.Ref.{IsSplit};
 
-use super::comparing::same;
+use super::comparisons::same;
 use super::events::Act::{self, Give, Step};
 use super::events::Event::{At, Begin, Refused, Steps};
 use super::expected::Call::{Deq, Enq};

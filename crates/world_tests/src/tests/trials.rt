@@ -1,7 +1,7 @@
 //! A world that is led through a list of events, and compared with each.
 ghost use Rattle.counted_ref.specs.Ref.{IsSplit};
 
-use super::comparing::same;
+use super::comparisons::same;
 use super::events::{Event, Telling};
 use super::expected::{Shown, Word, closed_end, reply, stamped, taken, word_in};
 use super::moves::{begin, give, move_of, play, steps};

@@ -1,7 +1,7 @@
 //! Rows with their colours, typed by hand, and a byte that no coloured text may have.
 ghost use Rattle.std.specs.Prelude.{◌<◌};
 
-use crate::tests::comparing::same;
+use crate::tests::comparisons::same;
 use colours::{Coloured, Drawing};
 use history::Refusal;
 use std::alloc::Global;

@@ -1,5 +1,5 @@
 //! Pictures that were worked out by hand, of each form of row; what a view leaves out; and faults.
-use crate::tests::comparing::same;
+use crate::tests::comparisons::same;
 use crate::tests::pictures::WHOLE;
 use crate::tests::pictures::meanings::{LEGEND_PICTURE, MEANINGS};
 use crate::tests::schedules::{FIRST, SHUT, STOPS};

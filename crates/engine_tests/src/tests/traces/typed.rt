@@ -1,5 +1,5 @@
 //! Traces that were worked out by hand, of each form of line; and faults.
-use crate::tests::comparing::same;
+use crate::tests::comparisons::same;
 use crate::tests::schedules::{FIRST, SHUT, STOPS};
 use crate::tests::trials::{Engine, does_by_any_piece, writes_nothing};
 use crate::tests::written::{

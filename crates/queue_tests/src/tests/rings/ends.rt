@@ -1,6 +1,6 @@
 //! What is left of a ring that is closed by all its seats.
 use super::calls::{close, pop, push, ring, shut};
-use crate::tests::comparing::same;
+use crate::tests::comparisons::same;
 use history::{Refusal, Rest};
 use ring_queue::Role;
 use std::alloc::Global;

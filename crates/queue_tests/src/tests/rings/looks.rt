@@ -2,7 +2,7 @@
 ghost use Rattle.ring_queue.specs.Queues.{IsQueueSeat};
 
 use super::calls::{last, pop, push, ring, shut};
-use crate::tests::comparing::same;
+use crate::tests::comparisons::same;
 use history::Refusal;
 use ring_queue::{Emptiness, RingQueue, Role, Seat};
 use std::test::Fail;

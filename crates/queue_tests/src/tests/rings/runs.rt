@@ -1,6 +1,6 @@
 //! Runs of a few seats, one call after another.
 use super::calls::{last, pop, pop_up_to, push, push_all, ring, shut};
-use crate::tests::comparing::same;
+use crate::tests::comparisons::same;
 use history::{Fifo, Refusal, WornWord};
 use ring_queue::{RingQueue, Role};
 use std::test::Fail;

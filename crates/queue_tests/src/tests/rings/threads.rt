@@ -3,7 +3,7 @@ ghost use Rattle.std.specs.Prelude.{IfSome};
 ghost use Rattle.ring_queue.specs.Queues.{IsQueueSeat};
 
 use super::calls::{last, pop, push, ring, shut};
-use crate::tests::comparing::same;
+use crate::tests::comparisons::same;
 use history::Refusal;
 use ring_queue::{RingQueue, Role, Seat};
 use std::test::Fail;

@@ -2,7 +2,7 @@
 use Rattle.std.proofs.Common.{◌∙◌, ap, sym}
 use Rattle.blocking_carrier.specs.Queues.{queue_of}
 use Rattle.channels.proofs.Shares.{receiver_in, receiver_stays, sender_of, sender_after}
-use Rattle.channels.proofs.Meets.{met_in_order}
+use Rattle.channels.proofs.MetSeats.{met_in_order}
 use Rattle.channels.proofs.receiver.Receiver.meet.Goals as goal
 
 pub meet-requires-clause-one : goal.meet-requires-clause-one

@@ -6,7 +6,7 @@ use Rattle.node_arena.specs.Places.{shared_words}
 use Rattle.node_arena.specs.Closing.{HasToken}
 use Rattle.node_arena.specs.Leftovers.{ClosesValues}
 use Rattle.node_arena.specs.Remains.{IsQueue}
-use Rattle.node_arena.proofs.Ends.{Rests, have_tokens, count_own, queue_as, rests_as}
+use Rattle.node_arena.proofs.ArenaEnds.{Rests, have_tokens, count_own, queue_as, rests_as}
 use Rattle.node_arena.proofs.ValueEnds.{values_end_as, queue_with_flags, all_lie_then, closes_values, slots_within}
 use Rattle.node_arena.proofs.arena.ArenaOf.close_values.Goals as goal
 

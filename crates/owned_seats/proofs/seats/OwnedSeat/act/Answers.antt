@@ -1,6 +1,6 @@
 -- The seat is its queue's by its type.
 use Rattle.std.proofs.Common.{sym}
-use Rattle.owned_seats.proofs.Shares.{sits_in}
+use Rattle.owned_seats.proofs.SeatShares.{sits_in}
 use Rattle.owned_seats.proofs.seats.OwnedSeat.act.Goals as goal
 
 pub act-requires-clause-seat : goal.act-requires-clause-seat

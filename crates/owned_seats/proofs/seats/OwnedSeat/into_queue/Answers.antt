@@ -1,5 +1,5 @@
 use Rattle.std.proofs.Common.{ap, sym}
-use Rattle.owned_seats.proofs.Shares.{all_sit}
+use Rattle.owned_seats.proofs.SeatShares.{all_sit}
 use Rattle.owned_seats.proofs.seats.OwnedSeat.into_queue.Goals as goal
 
 pub returns-in-Ok-clause-sit : goal.returns-in-Ok-clause-sit

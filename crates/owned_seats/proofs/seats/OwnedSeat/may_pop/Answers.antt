@@ -1,6 +1,6 @@
 -- The seat is its queue's by its type.
 use Rattle.std.proofs.Common.{sym}
-use Rattle.owned_seats.proofs.Shares.{sits_in}
+use Rattle.owned_seats.proofs.SeatShares.{sits_in}
 use Rattle.owned_seats.proofs.seats.OwnedSeat.may_pop.Goals as goal
 
 pub may_pop-requires : goal.may_pop-requires

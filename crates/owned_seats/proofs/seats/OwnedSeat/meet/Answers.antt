@@ -1,6 +1,6 @@
 -- Both seats are the queue's by their types.
 use Rattle.std.proofs.Common.{sym, ◌∙◌}
-use Rattle.owned_seats.proofs.Shares.{sits_in}
+use Rattle.owned_seats.proofs.SeatShares.{sits_in}
 use Rattle.owned_seats.proofs.seats.OwnedSeat.meet.Goals as goal
 
 pub meet-requires-clause-one : goal.meet-requires-clause-one

@@ -1,7 +1,7 @@
 use Rattle.std.proofs.Common.{subst, map, ap, sym}
 use Rattle.carriers.specs.Closing.{ClosesOf}
 use Rattle.owned_values.specs.Owned.{queue_of}
-use Rattle.owned_values.proofs.Shares.{all_sit, all_known}
+use Rattle.owned_values.proofs.SeatShares.{all_sit, all_known}
 use Rattle.owned_values.proofs.seats.ValueSeat.close_with.Goals as goal
 
 pub close_with-requires-clause-seats : goal.close_with-requires-clause-seats

@@ -1,6 +1,6 @@
 -- Both seats are the queue's by their types.
 use Rattle.std.proofs.Common.{sym, ◌∙◌}
-use Rattle.owned_values.proofs.Shares.{sits_in}
+use Rattle.owned_values.proofs.SeatShares.{sits_in}
 use Rattle.owned_values.proofs.seats.ValueSeat.meet.Goals as goal
 
 pub meet-requires-clause-one : goal.meet-requires-clause-one

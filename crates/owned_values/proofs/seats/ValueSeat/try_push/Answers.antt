@@ -1,6 +1,6 @@
 -- The seat is its queue's by its type.
 use Rattle.std.proofs.Common.{sym}
-use Rattle.owned_values.proofs.Shares.{sits_in}
+use Rattle.owned_values.proofs.SeatShares.{sits_in}
 use Rattle.owned_values.proofs.seats.ValueSeat.try_push.Goals as goal
 
 pub try_push-requires-clause-seat : goal.try_push-requires-clause-seat

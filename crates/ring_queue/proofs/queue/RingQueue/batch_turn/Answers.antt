@@ -2,7 +2,7 @@ use Rattle.std.proofs.Common.{take, refl, arith}
 use Rattle.std.proofs.Math.Nat.{min-le_left, min-le_right}
 use Rattle.std.proofs.lemmas.List.{length-take-le}
 use Rattle.history.proofs.Learning.{sees_then}
-use Rattle.ring_queue.specs.declared.popping.Turn.TheVariants.{Failed}
+use Rattle.ring_queue.specs.declared.pops.Turn.TheVariants.{Failed}
 use Rattle.ring_queue.specs.Seats.{known_of}
 use Rattle.ring_queue.proofs.Turns.{turn_after, end_failed}
 use Rattle.ring_queue.proofs.Batching.{popped_after}

@@ -1,0 +1,14 @@
+use Rattle.std.specs.Prelude.{◌≡◌}
+use Rattle.blocking_queue.specs.Queues.{queue_of}
+use Rattle.dispatcher.specs.Workers.{IsTaker}
+use Rattle.dispatcher.specs.Turns.{HasDone}
+use Rattle.dispatcher.proofs.workers.work_on.Given as goal
+
+abbrev pub invariant-loop : goal.invariant-loop
+invariant-loop g l = record {
+  can : (goal.iterator-loop g).can_next l.iterator';
+  finite : (goal.iterator-loop g).is_finite l.iterator';
+  seat : IsTaker g.Q.Fifo.is_seat g.Q.Fifo.permits g.Q.Fifo.known (queue_of l.fn.queue) l.seat;
+  number : (g.Q.Fifo.known l.seat).number ≡ (g.Q.Fifo.known l.initial.seat).number;
+  done : HasDone l.fn.jobs (g.Q.Fifo.known l.initial.seat) (g.Q.Fifo.known l.seat) l.results.items;
+}

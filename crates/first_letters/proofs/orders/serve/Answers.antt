@@ -1,0 +1,11 @@
+-- The waiters and the cook may go to threads.
+use denote.Param.Send.{sendable}
+use Rattle.first_letters.specs.contracts.orders.Order as order
+use Rattle.first_letters.proofs.orders.Order.TheSendSync.{the_send}
+use Rattle.post_office.proofs.Sent.{sender_held}
+use Rattle.first_letters.proofs.orders.serve.Goals as goal
+
+pub join-read-requires-send-F : goal.join-read-requires-send-F
+join-read-requires-send-F g c κs within =
+    let s = sender_held order.the_row the_send in
+    search (sendable, s) depth 40

@@ -1,5 +1,0 @@
-use Rattle.free_list.specs.Gives.{Giving}
-use Rattle.free_list.proofs.giving.give_within.Given as goal
-
-abbrev pub invariant-loop-index : goal.invariant-loop-index
-invariant-loop-index g l = Giving l.arena l.initial.seat l.seat l.held l.index

@@ -1,6 +1,0 @@
-use Rattle.std.proofs.Common.{◌≡◌, map, take}
-use Rattle.msq_c.specs.Made.{role_number}
-use Rattle.msq_c.proofs.making.roles_of.Given as goal
-
-abbrev pub invariant-loop-number : goal.invariant-loop-number
-invariant-loop-number l = map role_number l.roles.items ≡ take l.number-index l.numbers

@@ -1,6 +1,0 @@
-use Rattle.std.proofs.Common.{◌≡◌, map}
-use Rattle.msq_c.specs.WordOwn.{owned_in}
-use Rattle.msq_c.proofs.word_making.boxed.Given as goal
-
-abbrev pub invariant-loop-seat : goal.invariant-loop-seat
-invariant-loop-seat g l = map (λ b. owned_in b.value) l.boxes.items ≡ l.yielded

@@ -1,9 +1,0 @@
-use Rattle.std.proofs.Common.{◌≡◌, ◌*◌, ◌≤◌, take, sum_by}
-use Rattle.node_arena.specs.declared.seats.Seat.{Seat}
-use Rattle.node_arena.proofs.closing.pushes_by.Given as goal
-
-abbrev pub invariant-loop-seat : goal.invariant-loop-seat
-invariant-loop-seat g l = record {
-  sum : l.pushes ≡ sum_by (λ (s : Seat _). s.pushes) (take l.seat-index l.seats);
-  few : l.pushes ≤ 18446744073709551615 * l.seat-index;
-}

@@ -1,5 +1,0 @@
-use Rattle.nonblocking.specs.Pops.{Trying}
-use Rattle.nonblocking.proofs.popping.pop_with_empty_pocket.Given as goal
-
-abbrev pub invariant-loop-index : goal.invariant-loop-index
-invariant-loop-index g l = Trying l.arena l.fn.seat l.seat l.index

@@ -1,5 +1,0 @@
-use Rattle.nonblocking.specs.Shuts.{Trying}
-use Rattle.nonblocking.proofs.shutting.shut_queue.Given as goal
-
-abbrev pub invariant-loop-index : goal.invariant-loop-index
-invariant-loop-index g l = Trying l.arena l.fn.seat l.seat l.index

@@ -1,0 +1,157 @@
+//! A new ring.
+ghost use Rattle.std.specs.Prelude.{◌≡◌, ◌≤◌, ◌^◌, true, length, map, IfOk, IfErr};
+ghost use Rattle.std.specs.List.{All};
+ghost use Rattle.history.specs.Openings.{AreNew};
+ghost use Rattle.ring_queue.specs.Plans.{IsPlanned, permits_by, slots_of};
+ghost use Rattle.ring_queue.specs.Seats.{known_of};
+ghost use Rattle.ring_queue.specs.Queues.{IsQueueSeat, permits_in};
+ghost use Rattle.ring_queue.specs.Making.{AreFirst, AreDealt, IsLeastPower, IsMade, IsMadeFor, NewRefused};
+
+use crate::new_seats::deal_all;
+use crate::places::{HEAD, SHUT, TAIL};
+use crate::plans::Plan;
+use crate::queue::RingQueue;
+use crate::roles::Role;
+use crate::seats::Seat;
+use atomic_table::Table;
+use history::Refusal;
+use std::alloc::{AllocError, Global};
+
+/// The greatest number of seats, 2^15 - 1.
+pub const MOST_SEATS: usize = (1 << 15) - 1;
+
+// The words at the start: the places of the first lap count as taken, and so many flags are down.
+fn words_at_start(alloc: Global, slots: u64, flags: u64) -> Result<Vec<u64>, AllocError>
+    requires slots { slots ≤ 2 ^ 49 }
+    requires flags { flags ≤ 2 ^ 49 }
+    ensures { IfOk result (λ words. AreFirst slots flags words.items) }
+{
+    let mut words = vec![in alloc; 0u64; 32 + 2 * slots as usize + flags as usize]?;
+    words[TAIL] = slots;
+    words[HEAD] = slots;
+    Ok(words)
+}
+
+// The least power of two that is no less than `room`.
+fn slots_for(room: u64) -> u64
+    requires some { 1 ≤ room }
+    requires few { room ≤ 2 ^ 48 }
+    ensures { IsLeastPower room result }
+{
+    let mut slots = 1;
+    for _ in 0..48u32 {
+        if slots >= room {
+            return slots;
+        }
+        slots *= 2;
+    }
+    slots
+}
+
+// How many slots the table of a plan has, each with a flag.
+fn slot_count(plan: &Plan) -> u64
+    ensures { result ≡ slots_of plan.now }
+{
+    if plan.carries { plan.slots } else { 0 }
+}
+
+fn built<T>(alloc: Global, plan: Plan) -> Result<(RingQueue<T>, Vec<Seat<T>>), AllocError>
+    requires planned { IsPlanned plan }
+    requires small { plan.slots ≤ 2 ^ 49 }
+    ensures plan { IfOk result (λ r. r.0.plan ≡ plan) }
+    ensures count { IfOk result (λ r. length r.1.items ≡ length plan.roles) }
+    ensures seats { IfOk result (λ r. AreDealt plan r.0.table.shared.table_id r.1.items) }
+{
+    let flags = slot_count(&plan);
+    let words = words_at_start(alloc, plan.slots, flags)?;
+    let room = Vec::with_capacity(alloc, plan.roles.len())?;
+    let (table, mut keeper) = Table::vacant(alloc, words.as_slice(), flags as usize, &plan)?;
+    let seats = deal_all(&table, &mut keeper, &plan, room);
+    Ok((RingQueue { table, plan }, seats))
+}
+
+// A ring of these sizes, which carries values or doesn't, and its seats.
+fn made<T>(
+    alloc: Global,
+    most: u32,
+    credits: u32,
+    limit: u64,
+    roles: &[Role],
+    carries: bool,
+) -> Result<(RingQueue<T>, Vec<Seat<T>>), Refusal>
+    ensures ok { IfOk result
+        (λ r. IsMadeFor carries most credits limit roles.now r.0 r.1.items) }
+    ensures refused { IfErr result (NewRefused most credits limit roles.now) }
+{
+    if most == 0 || credits == 0 || roles.is_empty() || roles.len() > MOST_SEATS {
+        return Err(Refusal::BadSize);
+    }
+    let room = u64::from(most) + u64::from(credits) * roles.len() as u64;
+    let slots = slots_for(room);
+    if limit < slots || limit >= SHUT {
+        return Err(Refusal::BadSize);
+    }
+    let Ok(roles) = roles.to_vec(alloc) else {
+        return Err(Refusal::Memory);
+    };
+    let plan = Plan {
+        slots,
+        most: u64::from(most),
+        credits: u64::from(credits),
+        limit,
+        roles,
+        carries,
+    };
+    let Ok(made) = built(alloc, plan) else {
+        return Err(Refusal::Memory);
+    };
+    Ok(made)
+}
+
+impl RingQueue {
+    /// A ring that `most` values make full, with up to `credits` places in reserve for each seat, both from 1 on, and a
+    /// seat for each role, 1 to `MOST_SEATS` of them, in their order. Its slots are the least power of two that `most` and
+    /// all reserves fit in; its places go up to `limit`, from the number of slots to 2^62 - 1.
+    ///
+    /// Refusals: `BadSize` where one of them is out of its range, else `Memory`. Takes memory for two words a slot, the seats
+    /// and their roles, and doesn't wait.
+    pub fn new(
+        alloc: Global,
+        most: u32,
+        credits: u32,
+        limit: u64,
+        roles: &[Role],
+    ) -> Result<(RingQueue, Vec<Seat>), Refusal>
+        //= ring/opening (ok, permits, seats, unused, refused): A new ring has the sizes asked for, the least power of two of slots
+        //=   that its values and all reserves fit in, and a seat for each role, in no call, that has seen nothing. It is refused
+        //=   for a size out of its range, or else for want of memory.
+        ensures ok { IfOk result (λ r. IsMade most credits limit roles.now r.0 r.1.items) }
+        ensures permits { IfOk result (λ r. permits_in r.0 ≡ permits_by roles.now) }
+        ensures seats { IfOk result (λ r. All (IsQueueSeat r.0) r.1.items) }
+        ensures unused { IfOk result (λ r. AreNew (permits_in r.0) (map known_of r.1.items)) }
+        ensures refused { IfErr result (NewRefused most credits limit roles.now) }
+    {
+        made(alloc, most, credits, limit, roles, false)
+    }
+}
+
+impl<T> RingQueue<T> {
+    /// A ring that carries values, of the sizes of `new`, with a slot for each of a ring's, 1 to `MOST_SEATS` roles.
+    ///
+    /// Refusals: those of `new`. Takes memory for three words and a slot a slot, the seats and their roles, and doesn't wait.
+    pub fn with_slots(
+        alloc: Global,
+        most: u32,
+        credits: u32,
+        limit: u64,
+        roles: &[Role],
+    ) -> Result<(RingQueue<T>, Vec<Seat<T>>), Refusal>
+        //= ring/slots (ok, refused): A new ring that carries values is as a new ring of numbers, with a slot for a value for
+        //=   each slot of the ring, and no seat has one.
+        ensures ok { IfOk result
+            (λ r. IsMadeFor true most credits limit roles.now r.0 r.1.items) }
+        ensures refused { IfErr result (NewRefused most credits limit roles.now) }
+    {
+        made(alloc, most, credits, limit, roles, true)
+    }
+}
