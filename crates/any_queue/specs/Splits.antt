@@ -4,7 +4,7 @@ use Rattle.counted_ref.specs.Ref.{reserved_node, count_bits}
 use Rattle.line_table.specs.declared.lines.Kind.{Kind}
 use Rattle.node_arena.specs.declared.roles.Role.{Role}
 use Rattle.node_arena.specs.Plans.{Layout}
-use Rattle.node_arena.specs.Making.{plan}
+use Rattle.node_arena.specs.NewArenas.{plan}
 
 -- the node bits of the splits that are picked from
 abbrev pub picked_bits : List ℕ

@@ -3,7 +3,7 @@ ghost use Rattle.std.specs.Prelude.{◌≡◌, ◌↔◌, IsNone, IfSome, IfOk, 
 ghost use Rattle.counted_ref.specs.Ref.{IsSplit};
 ghost use Rattle.line_table.specs.declared.lines.Kind.{Kind};
 ghost use Rattle.line_table.specs.declared.lines.Kind.TheVariants.{TwoLock};
-ghost use Rattle.node_arena.specs.Making.{plan, IsMade, NewRefused};
+ghost use Rattle.node_arena.specs.NewArenas.{plan, IsMade, NewRefused};
 ghost use Rattle.node_arena.specs.Plans.{permits_by, IsPlanned};
 ghost use Rattle.node_arena.specs.Seats.{KeepsStored, known_of, setup_of, plan_of};
 ghost use Rattle.node_arena.specs.Looks.{FoundSo, WasSoLong};
@@ -156,7 +156,7 @@ impl<const B: u32> Fifo for AnyQueueOf<B> {
     ghost use Rattle.node_arena.specs.Seats.{view};
     ghost use Rattle.node_arena.proofs.Seens.{sound_of};
     ghost use Rattle.node_arena.proofs.OneProof.{IsReady-prop};
-    ghost use Rattle.history.specs.Closing.{Closes};
+    ghost use Rattle.history.specs.Ends.{Closes};
     ghost use Rattle.any_queue.specs.Any.{any_arena_of, any_permits_of, IsAnySeat};
     ghost use Rattle.any_queue.specs.Any.{AnyPushRefused, AnyPopRefused, AnyShutRefused, any_closed_alike};
 
@@ -229,7 +229,7 @@ impl<const B: u32> Fifo for AnyQueueOf<B> {
 impl<const B: u32> Close for AnyQueueOf<B> {
     ghost use Rattle.std.specs.Prelude.{map};
     ghost use Rattle.std.specs.List.{All};
-    ghost use Rattle.history.specs.Closing.{Closes};
+    ghost use Rattle.history.specs.Ends.{Closes};
     ghost use Rattle.node_arena.specs.Ended.{HasRoomFor, Leaves};
     ghost use Rattle.any_queue.specs.Any.{any_arena_of, any_permits_of, IsAnySeat};
 

@@ -2,7 +2,7 @@
 ghost use Rattle.std.specs.Prelude.{◌≡◌, ◌↔◌, IsNone, IfSome, IfOk, IfErr, OnOk};
 ghost use Rattle.line_table.specs.declared.lines.Kind.{Kind};
 ghost use Rattle.line_table.specs.declared.lines.Kind.TheVariants.{TwoLock};
-ghost use Rattle.node_arena.specs.Making.{IsMade, NewRefused};
+ghost use Rattle.node_arena.specs.NewArenas.{IsMade, NewRefused};
 ghost use Rattle.node_arena.specs.Plans.{permits_by, IsPlanned};
 ghost use Rattle.node_arena.specs.Seats.{KeepsStored, known_of, setup_of, plan_of};
 ghost use Rattle.node_arena.specs.Looks.{FoundSo, WasSoLong};
@@ -190,7 +190,7 @@ impl Fifo for PickedQueue {
     ghost use Rattle.node_arena.specs.Seats.{view};
     ghost use Rattle.node_arena.proofs.Seens.{sound_of};
     ghost use Rattle.node_arena.proofs.OneProof.{IsReady-prop};
-    ghost use Rattle.history.specs.Closing.{Closes};
+    ghost use Rattle.history.specs.Ends.{Closes};
     ghost use Rattle.any_queue.specs.Picked.{picked_arena_of, picked_permits_of, IsPickedSeat};
     ghost use Rattle.any_queue.specs.Picked.{PickedPushRefused, PickedPopRefused, PickedShutRefused, picked_closed_alike};
 
@@ -245,7 +245,7 @@ impl Fifo for PickedQueue {
 impl Close for PickedQueue {
     ghost use Rattle.std.specs.Prelude.{map};
     ghost use Rattle.std.specs.List.{All};
-    ghost use Rattle.history.specs.Closing.{Closes};
+    ghost use Rattle.history.specs.Ends.{Closes};
     ghost use Rattle.node_arena.specs.Ended.{HasRoomFor, Leaves};
     ghost use Rattle.any_queue.specs.Picked.{picked_arena_of, picked_permits_of, IsPickedSeat};
 

@@ -3,7 +3,7 @@ use Rattle.std.specs.Prelude.{ℕ, List}
 use Rattle.line_table.specs.declared.lines.Kind.{Kind}
 use Rattle.node_arena.specs.declared.roles.Role.{Role}
 use Rattle.node_arena.specs.Plans.{Layout}
-use Rattle.node_arena.specs.Making.{value_plan}
+use Rattle.node_arena.specs.NewArenas.{value_plan}
 use Rattle.any_queue.specs.Splits.{bits_for, greatest_count}
 
 -- the plan of a queue of values of this kind and so many nodes, of the split for these, with this greatest count

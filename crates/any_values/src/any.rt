@@ -3,11 +3,11 @@ ghost use Rattle.std.specs.Prelude.{◌≡◌, ◌↔◌, IsNone, IfSome, IfOk, 
 ghost use Rattle.line_table.specs.declared.lines.Kind.{Kind};
 ghost use Rattle.line_table.specs.declared.lines.Kind.TheVariants.{TwoLock};
 ghost use Rattle.node_arena.specs.Plans.{permits_by, IsPlanned};
-ghost use Rattle.node_arena.specs.Making.{IsMade, NewRefused};
+ghost use Rattle.node_arena.specs.NewArenas.{IsMade, NewRefused};
 ghost use Rattle.node_arena.specs.Seats.{KeepsStored, setup_of};
 ghost use Rattle.value_queue.specs.Queues.{AreNewOf};
 ghost use Rattle.value_queue.specs.Looks.{FoundSoOf, WasSoLongOf};
-ghost use Rattle.value_queue.specs.Telling.{known_by};
+ghost use Rattle.value_queue.specs.ValuesSeen.{known_by};
 ghost use Rattle.any_values.specs.Splits.{limited_plan, picked_plan};
 
 use crate::two_lock_queue::TwoLockValues;

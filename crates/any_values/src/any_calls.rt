@@ -18,7 +18,7 @@ macro_rules! within {
 
 //= values/any
 impl<T: Send> Carrier for AnyValues<T> {
-    ghost use Rattle.value_queue.specs.Telling.{known_by};
+    ghost use Rattle.value_queue.specs.ValuesSeen.{known_by};
     ghost use Rattle.value_queue.specs.Sound.{sound-seat, IsQueueSeat-prop};
     ghost use Rattle.any_values.specs.Any.{arena_of, permits_of, IsQueueSeat, carries};
     ghost use Rattle.any_values.specs.Any.{PushCause, PopCause, ShutCause};
@@ -72,9 +72,9 @@ impl<T: Send> Carrier for AnyValues<T> {
 impl<T: Send + Drop> CloseCarrier for AnyValues<T> {
     ghost use Rattle.std.specs.Prelude.{map};
     ghost use Rattle.std.specs.List.{All};
-    ghost use Rattle.carriers.specs.Closing.{ClosesOf};
-    ghost use Rattle.value_queue.specs.Closing.{HasRoom, LeavesValues};
-    ghost use Rattle.value_queue.specs.Telling.{known_by};
+    ghost use Rattle.carriers.specs.Ends.{ClosesOf};
+    ghost use Rattle.value_queue.specs.Ends.{HasRoom, LeavesValues};
+    ghost use Rattle.value_queue.specs.ValuesSeen.{known_by};
     ghost use Rattle.any_values.specs.Any.{arena_of, permits_of, IsQueueSeat};
 
     type Room = Room<T>;

@@ -8,7 +8,7 @@ use value_queue::Room;
 
 impl<T> TwoLockValues<T> {
     ghost use Rattle.node_arena.specs.Seats.{KeepsStored};
-    ghost use Rattle.value_queue.specs.Telling.{known_by};
+    ghost use Rattle.value_queue.specs.ValuesSeen.{known_by};
     ghost use Rattle.value_queue.specs.Looks.{FoundSoOf};
     ghost use Rattle.any_values.specs.TwoLocks.{IsQueueSeat};
 
@@ -34,7 +34,7 @@ impl<T> TwoLockValues<T> {
 impl<T: Send> Carrier for TwoLockValues<T> {
     ghost use Rattle.two_lock.specs.Worn.{push_worn, pop_worn, shut_worn};
     ghost use Rattle.arena_queue.specs.Answers.{PopRefused, ShutRefused};
-    ghost use Rattle.value_queue.specs.Telling.{known_by};
+    ghost use Rattle.value_queue.specs.ValuesSeen.{known_by};
     ghost use Rattle.value_queue.specs.Pushes.{PushRefused};
     ghost use Rattle.value_queue.specs.Sound.{sound-seat, IsQueueSeat-prop};
     ghost use Rattle.any_values.specs.TwoLocks.{arena_of, permits_of, IsQueueSeat, carries};
@@ -88,9 +88,9 @@ impl<T: Send> Carrier for TwoLockValues<T> {
 impl<T: Send + Drop> CloseCarrier for TwoLockValues<T> {
     ghost use Rattle.std.specs.Prelude.{map};
     ghost use Rattle.std.specs.List.{All};
-    ghost use Rattle.carriers.specs.Closing.{ClosesOf};
-    ghost use Rattle.value_queue.specs.Closing.{HasRoom, LeavesValues};
-    ghost use Rattle.value_queue.specs.Telling.{known_by};
+    ghost use Rattle.carriers.specs.Ends.{ClosesOf};
+    ghost use Rattle.value_queue.specs.Ends.{HasRoom, LeavesValues};
+    ghost use Rattle.value_queue.specs.ValuesSeen.{known_by};
     ghost use Rattle.any_values.specs.TwoLocks.{arena_of, permits_of, IsQueueSeat};
 
     type Room = Room<T>;

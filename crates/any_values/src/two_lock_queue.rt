@@ -2,9 +2,9 @@
 ghost use Rattle.std.specs.Prelude.{◌≡◌, IfOk, IfErr, OnOk};
 ghost use Rattle.line_table.specs.declared.lines.Kind.TheVariants.{TwoLock};
 ghost use Rattle.node_arena.specs.Plans.{permits_by, IsPlanned};
-ghost use Rattle.node_arena.specs.Making.{IsMade, NewRefused};
+ghost use Rattle.node_arena.specs.NewArenas.{IsMade, NewRefused};
 ghost use Rattle.value_queue.specs.Queues.{AreNewOf};
-ghost use Rattle.value_queue.specs.Telling.{known_by};
+ghost use Rattle.value_queue.specs.ValuesSeen.{known_by};
 ghost use Rattle.any_values.specs.Splits.{limited_plan};
 
 use any_queue::bits_for;

@@ -13,14 +13,14 @@ use Rattle.step_machine.specs.Tables.{SharedFits}
 use Rattle.step_machine.proofs.Fits.{shared_fits}
 use Rattle.step_machine.proofs.Reached.{reached_in_range}
 use Rattle.step_machine.proofs.TwoLockCounts.{count_nothing}
-use Rattle.node_arena.specs.Seeing.{SeatView, known_by}
+use Rattle.node_arena.specs.Knowledge.{SeatView, known_by}
 use Rattle.node_arena.specs.Plans.{Layout}
 use Rattle.node_arena.specs.Rule.{StaysLooked}
 use Rattle.node_arena.specs.Looks.{looked_in, LooksAt}
 use Rattle.node_arena.proofs.Reading.{read_back}
 use Rattle.node_arena.proofs.Tracing.{traced_reached}
 use Rattle.node_arena.proofs.Found.{split_there, head_there, tail_there, sees_there, was_meanwhile, since_there, not_less}
-use Rattle.wear.specs.Lasting.{pushes_left, Lasts, Leaves}
+use Rattle.wear.specs.PushesLeft.{pushes_left, Lasts, Leaves}
 use Rattle.wear.proofs.Lasting.{each_lasts}
 use Rattle.arena_queue.specs.Lefts.{LeavesRaises, HasLeft}
 

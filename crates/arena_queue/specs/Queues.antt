@@ -7,7 +7,7 @@ use Rattle.node_arena.specs.Arenas.{Arena}
 use Rattle.node_arena.specs.declared.seats.Seat.{Seat}
 use Rattle.node_arena.specs.Seats as seats
 use Rattle.node_arena.specs.Seats.{IsReady}
-use Rattle.node_arena.specs.Making.{plan, IsMade}
+use Rattle.node_arena.specs.NewArenas.{plan, IsMade}
 use Rattle.arena_queue.specs.declared.algorithms.Algorithm.{Ghosts}
 use Rattle.arena_queue.specs.declared.queue.ArenaQueueOf.{ArenaQueueOf}
 

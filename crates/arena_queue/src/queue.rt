@@ -3,7 +3,7 @@ ghost use Rattle.std.specs.Prelude.{◌≡◌, ◌+◌, ◌*◌, ◌≤◌, ◌�
 ghost use Rattle.counted_ref.specs.Ref.{IsSplit};
 ghost use Rattle.node_arena.specs.Plans.{IsPlanned};
 ghost use Rattle.node_arena.specs.Seats.{carries_of};
-ghost use Rattle.node_arena.specs.Making.{plan, NewRefused};
+ghost use Rattle.node_arena.specs.NewArenas.{plan, NewRefused};
 ghost use Rattle.arena_queue.specs.Answers.{IsOfKind};
 
 use crate::algorithms::Algorithm;
@@ -236,7 +236,7 @@ impl<A: Algorithm<B>, const B: u32> Fifo for ArenaQueueOf<A, B> {
 impl<A: Algorithm<B>, const B: u32> Close for ArenaQueueOf<A, B> {
     ghost use Rattle.std.specs.Prelude.{map};
     ghost use Rattle.std.specs.List.{All};
-    ghost use Rattle.history.specs.Closing.{Closes};
+    ghost use Rattle.history.specs.Ends.{Closes};
     ghost use Rattle.node_arena.specs.Ended.{HasRoomFor, Leaves};
     ghost use Rattle.node_arena.specs.Seats.{known_of};
     ghost use Rattle.arena_queue.specs.Queues.{arena_of, permits_of, IsQueueSeat};

@@ -8,7 +8,7 @@ use Rattle.node_arena.specs.Arenas.{Arena}
 use Rattle.node_arena.specs.declared.seats.Seat.{Seat}
 use Rattle.node_arena.specs.Plans.{Layout}
 use Rattle.node_arena.specs.Seats.{IsReady}
-use Rattle.node_arena.specs.Making.{IsMade}
+use Rattle.node_arena.specs.NewArenas.{IsMade}
 use Rattle.arena_stress.specs.Seated.{IsFresh, AreFresh}
 
 got_longer : {A : Type 0} (xs ys : List A) (k : ℕ) (a : A) → slice_get xs k ≡ Some a → slice_get (xs ++ ys) k ≡ Some a

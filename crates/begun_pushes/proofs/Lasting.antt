@@ -5,10 +5,10 @@ use Rattle.std.proofs.lemmas.List.Sums.{sum_by-cons}
 use Rattle.step_machine.specs.Below.{Line, N1, Actor}
 use Rattle.step_machine.specs.Machine.{World}
 use Rattle.node_arena.specs.Traces.{Traced, IsTraced}
-use Rattle.wear.specs.Lasting.{pushes_left, GoesOn, TakesFewer, Lasts}
+use Rattle.wear.specs.PushesLeft.{pushes_left, GoesOn, TakesFewer, Lasts}
 use Rattle.wear.proofs.Lasting.{each_lasts}
 use Rattle.begun_pushes.specs.Begun.{pushes_begun, has_no_node, has_no_effect, without_node, under_way}
-use Rattle.begun_pushes.specs.Lasting.{BeginFewer, LastsFor, EachLasts, EachLeftLasts}
+use Rattle.begun_pushes.specs.PushesLeft.{BeginFewer, LastsFor, EachLasts, EachLeftLasts}
 use Rattle.begun_pushes.proofs.Runs.{Goes, run_goes}
 
 -- a push that has no node yet has not taken effect

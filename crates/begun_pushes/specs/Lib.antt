@@ -1,3 +1,3 @@
 pub mod Again
 pub mod Begun
-pub mod Lasting
+pub mod PushesLeft

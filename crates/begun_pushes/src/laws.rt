@@ -1,8 +1,8 @@
 //! Laws of what a push takes, over all moves from a traced world on, and of how many pushes are left. Each is the contract of a
 //! function that does nothing.
-ghost use Rattle.wear.specs.Lasting.{pushes_left};
+ghost use Rattle.wear.specs.PushesLeft.{pushes_left};
 ghost use Rattle.begun_pushes.specs.Begun.{OfRuns, EachTakesNodes, TakeNodes, TakeEffect};
-ghost use Rattle.begun_pushes.specs.Lasting.{EachLasts, EachLeftLasts};
+ghost use Rattle.begun_pushes.specs.PushesLeft.{EachLasts, EachLeftLasts};
 ghost use Rattle.begun_pushes.specs.Again.{FindsFreeUnworn, MeetsFreeUnworn, GiveBackEnds, GreatestIsTwiceAnd};
 ghost use Rattle.history.specs.declared.refusals.Refusal.TheVariants.{NoNode};
 

@@ -9,7 +9,7 @@ use Rattle.history.specs.Seats.{Known}
 use Rattle.history.specs.Answers.{Adds, FoundEmpty, FoundShut, FoundShutEmpty, SeesMore, PushRefused, PopRefused, Meets}
 use Rattle.carriers.specs.Deeds.{Deed, RunsTo, RunsToShut}
 use Rattle.carriers.specs.Answers.{AddsDeed, FindsDone, SeesMoreOf, PushRefusedOf, PopRefusedOf, MeetsOf}
-use Rattle.carriers.specs.Matching.{deed_of, deeds_of, known_by_deeds, Matches}
+use Rattle.carriers.specs.DeedsOfNumbers.{deed_of, deeds_of, known_by_deeds, Matches}
 use Rattle.carriers.specs.Sound.{RunsTo-deeds, RunsToShut-deeds}
 
 -- entries go together with themselves as deeds

@@ -12,11 +12,11 @@ use Rattle.history.specs.declared.rests.Rest.{Rest}
 use Rattle.history.specs.Entries.{seat_of, is_push, is_pop, is_shut, own_entries}
 use Rattle.history.specs.Seats.{Permit, Known}
 use Rattle.history.specs.Rests.{left_of, taken_of, whole_of, was_shut_of}
-use Rattle.history.specs.Closing.{IsOfOne, AreAll, Closes}
+use Rattle.history.specs.Ends.{IsOfOne, AreAll, Closes}
 use Rattle.carriers.specs.Deeds.{Deed, doer_of, own_deeds, is_pushing, is_popping, is_shutting}
 use Rattle.carriers.specs.Knowledge.{KnownOf}
-use Rattle.carriers.specs.Closing.{IsOfOneOf, AreAllOf, ClosesWith}
-use Rattle.carriers.specs.Matching.{item_taken, deed_of, deeds_of, known_by_deeds}
+use Rattle.carriers.specs.Ends.{IsOfOneOf, AreAllOf, ClosesWith}
+use Rattle.carriers.specs.DeedsOfNumbers.{item_taken, deed_of, deeds_of, known_by_deeds}
 use Rattle.carriers.specs.Sound.{RunsTo-deeds, permitted-deeds, own-deeds}
 
 -- counts of deeds are those of entries

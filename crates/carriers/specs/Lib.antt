@@ -2,9 +2,9 @@ pub mod Deeds
 pub mod Values
 pub mod Knowledge
 pub mod Answers
-pub mod Matching
+pub mod DeedsOfNumbers
 pub mod Numbers
 pub mod Sound
 pub mod SmallRuns
 pub mod Rests
-pub mod Closing
+pub mod Ends

@@ -16,7 +16,7 @@ use Rattle.history.specs.Seats.{Permit, Known, IsPermitted, IsNoted, IsSound}
 use Rattle.carriers.specs.declared.items.ItemOf.{ItemOf}
 use Rattle.carriers.specs.Deeds.{Deed, own_deeds, Runs, RunsTo, RunsToShut, IsRun}
 use Rattle.carriers.specs.Knowledge.{IsPermittedDeed, IsNotedOf, IsSoundOf}
-use Rattle.carriers.specs.Matching.{item_taken, deed_of, deeds_of, known_by_deeds}
+use Rattle.carriers.specs.DeedsOfNumbers.{item_taken, deed_of, deeds_of, known_by_deeds}
 
 -- the value that is answered, and else another
 abbrev value_or : Taken → Reply → Taken

@@ -1,7 +1,7 @@
 //! The end of a queue of values.
 ghost use Rattle.std.specs.Prelude.{◌≡◌, List, map, IfErr, IfOk};
 ghost use Rattle.std.specs.List.{All};
-ghost use Rattle.carriers.specs.Closing.{ClosesOf};
+ghost use Rattle.carriers.specs.Ends.{ClosesOf};
 
 use crate::queues::Carrier;
 use crate::rests::RestOf;

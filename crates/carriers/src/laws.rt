@@ -8,13 +8,13 @@ ghost use Rattle.history.specs.Entries.{Leads};
 ghost use Rattle.history.specs.Seats.{Permit, Known};
 ghost use Rattle.history.specs.declared.rests.Rest.{Rest};
 ghost use Rattle.history.specs.Rests.{left_of, taken_of, whole_of, was_shut_of};
-ghost use Rattle.history.specs.Closing.{Closes};
+ghost use Rattle.history.specs.Ends.{Closes};
 ghost use Rattle.carriers.specs.declared.items.ItemOf.{ItemOf};
 ghost use Rattle.carriers.specs.Deeds.{Deed, did_pop, did_shut, item, is_pushing, is_shutting, RunsTo, IsRun};
 ghost use Rattle.carriers.specs.Values.{values_pushed, values_popped};
 ghost use Rattle.carriers.specs.Knowledge.{IsSoundOf};
-ghost use Rattle.carriers.specs.Matching.{deeds_of, known_by_deeds, item_taken, Matches};
-ghost use Rattle.carriers.specs.Closing.{ClosesWith};
+ghost use Rattle.carriers.specs.DeedsOfNumbers.{deeds_of, known_by_deeds, item_taken, Matches};
+ghost use Rattle.carriers.specs.Ends.{ClosesWith};
 ghost use Rattle.carriers.specs.SmallRuns.{handed_over, told_apart, popped_from_nothing, popped_from_behind, popped_another, popped_as_anothers, popped_twice, pushed_behind_a_shut, shut_twice};
 
 use crate::queues::Carrier;

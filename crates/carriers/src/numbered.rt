@@ -1,7 +1,7 @@
 //! Every queue of numbers as a queue of values.
 ghost use Rattle.std.specs.Prelude.{◌≡◌};
 ghost use Rattle.carriers.specs.Numbers.{fifo_of};
-ghost use Rattle.carriers.specs.Matching.{item_taken};
+ghost use Rattle.carriers.specs.DeedsOfNumbers.{item_taken};
 
 use crate::items::{ItemOf, Unpushed};
 use crate::queues::Carrier;
@@ -55,7 +55,7 @@ fn item(taken: Taken) -> ItemOf<Body>
 
 //= carriers/numbers
 impl<Q: Fifo> Carrier for Numbers<Q> {
-    ghost use Rattle.carriers.specs.Matching.{known_by_deeds};
+    ghost use Rattle.carriers.specs.DeedsOfNumbers.{known_by_deeds};
     ghost use Rattle.carriers.specs.Sound.{sound-deeds};
 
     type Item = Body;

@@ -13,7 +13,7 @@ use Rattle.carriers.specs.Deeds.{Deed, doer_of, own_deeds}
 use Rattle.carriers.specs.Values.{value_pushed, value_popped, values_pushed, values_popped}
 use Rattle.carriers.specs.Knowledge.{KnownOf}
 use Rattle.carriers.specs.Rests.{left_in, whole_in, was_shut_in}
-use Rattle.carriers.specs.Closing.{IsOfOneOf, ClosesOf}
+use Rattle.carriers.specs.Ends.{IsOfOneOf, ClosesOf}
 use Rattle.carriers.proofs.Running.{pushed-RunsTo}
 use Rattle.deliveries.specs.Together.{pushed_by, popped_by}
 

@@ -11,7 +11,7 @@ ghost use Rattle.carriers.specs.Deeds.{Deed, did_pop, own_deeds, is_popping, Run
 ghost use Rattle.carriers.specs.Values.{values_pushed, values_popped};
 ghost use Rattle.carriers.specs.Knowledge.{KnownOf, IsSoundOf};
 ghost use Rattle.carriers.specs.Rests.{left_in, whole_in};
-ghost use Rattle.carriers.specs.Closing.{ClosesOf};
+ghost use Rattle.carriers.specs.Ends.{ClosesOf};
 ghost use Rattle.deliveries.specs.Deliveries.{sent, taken_of, values_of};
 ghost use Rattle.deliveries.specs.Ends.{DeliversOf};
 ghost use Rattle.deliveries.specs.Together.{pushed_by, popped_by};

@@ -11,7 +11,7 @@ use Rattle.job_results.specs.declared.results.JobResult.{JobResult}
 use Rattle.job_results.specs.declared.gathers.Gather.{Gather}
 use Rattle.job_results.specs.Jobs.{job_rows}
 use Rattle.job_results.specs.Results.{number_in, row_of}
-use Rattle.job_results.specs.Gathering.{IsListed, MissesOne}
+use Rattle.job_results.specs.GatheredResults.{IsListed, MissesOne}
 use Rattle.job_results.specs.Gathers.{jobs_in, found_in, Adds, RefusesToAdd}
 use Rattle.dispatcher.specs.Goings.{IsFilled, OnlyAdds, Fills, Came}
 

@@ -17,7 +17,7 @@ use Rattle.job_results.specs.declared.results.JobResult.{JobResult}
 use Rattle.job_results.specs.declared.jobs.Job.TheVariants.{Add, Mul, Div, Len}
 use Rattle.job_results.specs.Jobs.{same_job}
 use Rattle.job_results.specs.Results.{number_in, job_in}
-use Rattle.job_results.specs.Gathering.{IsListed}
+use Rattle.job_results.specs.GatheredResults.{IsListed}
 use Rattle.job_results.proofs.Same.{true_both}
 use Rattle.dispatcher.specs.declared.workers.Back.{Back}
 use Rattle.dispatcher.specs.declared.workers.End.{End}

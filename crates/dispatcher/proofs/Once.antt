@@ -19,7 +19,7 @@ use Rattle.history.specs.Queue.{Queue, empty}
 use Rattle.history.specs.Entries.{own_entries, Plays}
 use Rattle.history.specs.Seats.{Permit, Known}
 use Rattle.history.specs.Values.{pushed, popped, pushed_by, OnlyPushes}
-use Rattle.history.specs.Closing.{AreAll, Closes}
+use Rattle.history.specs.Ends.{AreAll, Closes}
 use Rattle.history.proofs.Sums.{AreApart, made-all}
 use Rattle.history.proofs.Values.{pushed-Leads, pushed-own}
 use Rattle.history.proofs.Ending.{ends_there}
@@ -29,7 +29,7 @@ use Rattle.dispatcher.specs.declared.workers.End.{End}
 use Rattle.dispatcher.specs.declared.workers.End.TheVariants.{Finished, Stopped, Refused}
 use Rattle.dispatcher.specs.declared.crews.JobsRun.{JobsRun}
 use Rattle.dispatcher.specs.Workers.{after_pushes}
-use Rattle.dispatcher.specs.Working.{IsNoJob}
+use Rattle.dispatcher.specs.WorkerTurns.{IsNoJob}
 use Rattle.dispatcher.specs.Turns.{EndsSo, IsBack}
 use Rattle.dispatcher.specs.Submissions.{EndsShutBy}
 use Rattle.dispatcher.specs.Crews.{HasRun}

@@ -6,7 +6,7 @@ use Rattle.history.specs.Seats.{Known}
 use Rattle.history.specs.Values.{popped}
 use Rattle.job_results.specs.declared.jobs.Job.{Job}
 use Rattle.job_results.specs.declared.results.JobResult.{JobResult}
-use Rattle.job_results.specs.Gathering.{IsListed}
+use Rattle.job_results.specs.GatheredResults.{IsListed}
 use Rattle.job_results.specs.Results.{number_in}
 use Rattle.dispatcher.specs.declared.workers.Back.{Back}
 

@@ -5,7 +5,7 @@ use Rattle.history.specs.declared.rests.Rest.{Rest}
 use Rattle.history.specs.Rests.{left_of}
 use Rattle.history.specs.Seats.{Permit, Known}
 use Rattle.history.specs.Values.{OnlyPushes}
-use Rattle.history.specs.Closing.{AreAll}
+use Rattle.history.specs.Ends.{AreAll}
 use Rattle.dispatcher.specs.declared.workers.Back.{Back}
 use Rattle.dispatcher.specs.declared.workers.End.TheVariants.{Finished}
 use Rattle.dispatcher.specs.Goings.{numbers_in, body_of}

@@ -13,7 +13,7 @@ use Rattle.job_results.specs.Results.{number_in, job_in}
 use Rattle.dispatcher.specs.declared.workers.End.{End}
 use Rattle.dispatcher.specs.declared.workers.End.TheVariants.{Finished, Stopped, Refused}
 use Rattle.dispatcher.specs.declared.workers.Back.{Back}
-use Rattle.dispatcher.specs.Working.{IsNoJob, PutsResult}
+use Rattle.dispatcher.specs.WorkerTurns.{IsNoJob, PutsResult}
 
 -- a seat took this value, and did nothing else
 abbrev pub TookOne : Known → Taken → Known → Type 0

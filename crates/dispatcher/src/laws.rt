@@ -2,7 +2,7 @@
 ghost use Rattle.std.specs.Prelude.{◌≡◌, ◌∷◌, ℕ, List, [], map};
 ghost use Rattle.history.specs.declared.rests.Rest.{Rest};
 ghost use Rattle.history.specs.Rests.{left_of};
-ghost use Rattle.history.specs.Closing.{Closes};
+ghost use Rattle.history.specs.Ends.{Closes};
 ghost use Rattle.job_results.specs.declared.jobs.Job.{Job};
 ghost use Rattle.dispatcher.specs.declared.crews.JobsRun.{JobsRun};
 ghost use Rattle.dispatcher.specs.Crews.{HasRun};

@@ -5,7 +5,7 @@ ghost use Rattle.job_results.specs.Jobs.{job_rows};
 ghost use Rattle.job_results.specs.Results.{number_in, row_of, HaveJobs};
 ghost use Rattle.dispatcher.specs.Workers.{StopsWorkers};
 ghost use Rattle.std.specs.List.{All};
-ghost use Rattle.job_results.specs.Gathering.{IsListed};
+ghost use Rattle.job_results.specs.GatheredResults.{IsListed};
 ghost use Rattle.dispatcher.specs.Goings.{OnlyAdds, Fills, AreListed, Came, numbers_in, seats_in};
 
 use crate::crews::JobsRun;

@@ -2,7 +2,7 @@
 ghost use Rattle.std.specs.Prelude.{◌≡◌, ◌<◌, ◌≤◌, length, vec_len, vec_capacity, IfOk, IfErr, OnOk, OnErr};
 ghost use Rattle.history.specs.Seats.{MayPop};
 ghost use Rattle.history.specs.Answers.{PopRefused, StopsPop};
-ghost use Rattle.dispatcher.specs.Working.{TakesNumber, IsNoJob, PutsResult, Works, WorksNot, HandsOn};
+ghost use Rattle.dispatcher.specs.WorkerTurns.{TakesNumber, IsNoJob, PutsResult, Works, WorksNot, HandsOn};
 
 use crate::gate::Gate;
 use history::{Fifo, Refusal};

@@ -3,7 +3,7 @@ use Rattle.std.proofs.Common.{◌≡◌, List, [], ◌∷◌, map, ◌∙◌, ap
 use Rattle.std.specs.List.{All}
 use mathlib.Core.List.{map-map}
 use Rattle.std.proofs.lemmas.List.Elements.{All-cons, All-nil, All-head, All-tail, All-map, All-weaker}
-use Rattle.history.specs.Closing.{Closes}
+use Rattle.history.specs.Ends.{Closes}
 use Rattle.history.specs.Seats.{Known, Permit}
 use Rattle.history.specs.declared.rests.Rest.{Rest}
 use Rattle.either_queue.specs.declared.either.EitherQueue.{EitherQueue}

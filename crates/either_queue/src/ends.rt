@@ -1,7 +1,7 @@
 //! The end of a queue of one of two kinds.
 ghost use Rattle.std.specs.Prelude.{◌≡◌, ◌≤◌, [], length, map, vec_capacity, IfOk, IfErr};
 ghost use Rattle.std.specs.List.{All};
-ghost use Rattle.history.specs.Closing.{Closes};
+ghost use Rattle.history.specs.Ends.{Closes};
 ghost use Rattle.either_queue.specs.Either.{IsEitherSeat, IsFirst, IsSecond, as_first, as_second};
 ghost use Rattle.either_queue.specs.Either.{either_permits, either_known};
 ghost use Rattle.either_queue.specs.Ends.{HasEitherRoom, EitherAsks, EitherEnds};

@@ -1,9 +1,9 @@
 //! A new queue of values with the seats of a pool: one for each worker, and one for who offers the tasks.
 ghost use Rattle.std.specs.Prelude.{◌≡◌, ◌⊎◌, ◌+◌, ◌≤◌, length, IfOk, IfErr};
 ghost use Rattle.counted_ref.specs.Ref.{IsSplit};
-ghost use Rattle.node_arena.specs.Making.{value_plan, NewRefused};
+ghost use Rattle.node_arena.specs.NewArenas.{value_plan, NewRefused};
 ghost use Rattle.value_queue.specs.Queues.{IsQueueSeat, permits_of};
-ghost use Rattle.value_queue.specs.Telling.{known_by};
+ghost use Rattle.value_queue.specs.ValuesSeen.{known_by};
 ghost use Rattle.task_pool.specs.Pools.{IsCrewOf};
 ghost use Rattle.executor.specs.Roles.{pool_roles};
 

@@ -11,7 +11,7 @@ use Rattle.recipe_text.specs.declared.recipes.Due.TheVariants.{Version as Versio
 use Rattle.recipe_text.specs.declared.recipes.Said.{Said}
 use Rattle.recipe_text.specs.declared.recipes.Said.TheVariants.{Nothing, Version, Queue, Number, Happens, Until, Finish, Repeat, End}
 use Rattle.recipe_text.specs.Recipes.{IsActInRange, IsSaidInRange, MaySay, RecipeLine, due_after, is_act, is_due, recipe_lines}
-use Rattle.recipe_text.specs.Unrolling.{Open, acts_done, open_after, repeated, unrolled}
+use Rattle.recipe_text.specs.UnrolledActs.{Open, acts_done, open_after, repeated, unrolled}
 use Rattle.expand_engine.specs.Expansions.{IsActOf}
 
 -- one list, and then as many as there are of the others

@@ -17,7 +17,7 @@ use Rattle.recipe_text.specs.declared.recipes.Said.{Said}
 use Rattle.recipe_text.specs.declared.recipes.Said.TheVariants.{Happens, Until, Finish}
 use Rattle.recipe_text.specs.declared.recipes.Sizes.{Sizes}
 use Rattle.recipe_text.specs.Recipes.{IsActInRange, IsRecipe, no_sizes, sizes_from}
-use Rattle.recipe_text.specs.Unrolling.{unrolled}
+use Rattle.recipe_text.specs.UnrolledActs.{unrolled}
 use Rattle.expand_engine.specs.Expansions.{ActLeads, ActsLead, AreSizesInRange, EventsOf, IsActOf, IsVersionOf, opening_with}
 use Rattle.expand_engine.specs.Walks.{steps_told}
 use Rattle.expand_engine.proofs.Bounds.{Bounded, of_recipe}

@@ -20,7 +20,7 @@ use Rattle.history.specs.declared.text_causes.TextCause.{TextCause}
 use Rattle.text_lines.specs.Grammars.{IsFirstFault}
 use Rattle.text_lines.specs.Numerals.{IsWithin}
 use Rattle.recipe_text.specs.Recipes.{IsActInRange, IsRecipe, is_act, recipe_lines}
-use Rattle.recipe_text.specs.Unrolling.{unrolled}
+use Rattle.recipe_text.specs.UnrolledActs.{unrolled}
 use Rattle.recipe_text.specs.declared.recipes.Act.{Act}
 use Rattle.recipe_text.specs.declared.recipes.Due.TheVariants.{Version as VersionDue}
 use Rattle.recipe_text.specs.declared.recipes.Said.{Said}

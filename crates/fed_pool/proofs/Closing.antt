@@ -7,7 +7,7 @@ use Rattle.history.specs.Seats.{Permit}
 use Rattle.carriers.specs.declared.rests.RestOf.{RestOf}
 use Rattle.carriers.specs.Knowledge.{KnownOf}
 use Rattle.carriers.specs.Rests.{left_in}
-use Rattle.carriers.specs.Closing.{ClosesOf}
+use Rattle.carriers.specs.Ends.{ClosesOf}
 use Rattle.deliveries.specs.Together.{pushed_by, popped_by}
 use Rattle.deliveries.proofs.Together.{handed_over_once}
 use Rattle.tasks.specs.declared.answers.Done.{Done}
@@ -16,8 +16,8 @@ use Rattle.fed_pool.specs.declared.worker.Post.{Post}
 use Rattle.fed_pool.specs.declared.worker.Served.{Served}
 use Rattle.fed_pool.specs.declared.crews.Crew.{Crew}
 use Rattle.fed_pool.specs.Answered.{AnsweredOnce, value_in}
-use Rattle.fed_pool.specs.Serving.{IsServed}
-use Rattle.fed_pool.specs.Leading.{LeadsSo}
+use Rattle.fed_pool.specs.Workers.{IsServed}
+use Rattle.fed_pool.specs.Leaders.{LeadsSo}
 use Rattle.fed_pool.specs.Pools.{taker_in, giver_in, result_in, unsent_of, takes, gives}
 use Rattle.fed_pool.specs.Ends.{AllEnded}
 use Rattle.fed_pool.proofs.Together.{Together, together}

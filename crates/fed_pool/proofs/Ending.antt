@@ -17,7 +17,7 @@ use Rattle.tasks.specs.declared.runs.Numbered.{Numbered}
 use Rattle.tasks.specs.Tasks.{IsDoneOf}
 use Rattle.tasks.specs.Turns.{AreDone}
 use Rattle.fed_pool.specs.Answered.{numbered, value_in, AnsweredOnce}
-use Rattle.fed_pool.specs.Leading.{LeadsSo}
+use Rattle.fed_pool.specs.Leaders.{LeadsSo}
 use Rattle.fed_pool.proofs.Zipping.{zip-append, zip-values, zip-long}
 use Rattle.fed_pool.proofs.Deeds.{values-items}
 

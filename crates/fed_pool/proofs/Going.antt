@@ -6,7 +6,7 @@ use Rattle.tasks.specs.declared.answers.Done.{Done}
 use Rattle.tasks.specs.declared.runs.Numbered.{Numbered}
 use Rattle.fed_pool.specs.declared.leader.Leader.{Leader}
 use Rattle.fed_pool.proofs.Handing.{leads_none}
-use Rattle.fed_pool.specs.Leading.{LeadsSo, IsLeading, GoesOn}
+use Rattle.fed_pool.specs.Leaders.{LeadsSo, IsLeading, GoesOn}
 
 module _ {Q S V U T A F : Type 0} (is_seat : Q → S → Type 0) (permits : Q → List Permit) (known : S → KnownOf (Numbered T))
     (is_seat' : V → U → Type 0) (permits' : V → List Permit) (known' : U → KnownOf (Done A))

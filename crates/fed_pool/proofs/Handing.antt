@@ -13,7 +13,7 @@ use Rattle.tasks.specs.declared.runs.Numbered.{Numbered}
 use Rattle.tasks.specs.Tasks.{IsDoneOf}
 use Rattle.tasks.proofs.Lying.{zip-push}
 use Rattle.fed_pool.specs.Answered.{numbered, value_in}
-use Rattle.fed_pool.specs.Leading.{LeadsSo}
+use Rattle.fed_pool.specs.Leaders.{LeadsSo}
 use Rattle.fed_pool.proofs.Permuting.{perm_first, perm_last, perm_middle, numbered-push, length-numbered}
 use Rattle.fed_pool.proofs.Deeds.{pushed-push, popped-push, pushed-pop, popped-pop}
 

@@ -6,7 +6,7 @@ use Rattle.std.proofs.lemmas.Bool.Decides.{eqb_tells}
 use Rattle.std.proofs.lemmas.Map.Keys.{IsDistinct-cons}
 use Rattle.history.specs.Seats.{Permit, MayPush, MayPop}
 use Rattle.carriers.specs.Knowledge.{KnownOf}
-use Rattle.carriers.specs.Closing.{AreAllOf}
+use Rattle.carriers.specs.Ends.{AreAllOf}
 use Rattle.tasks.proofs.Gathering.{some_same}
 use Rattle.tasks.proofs.Lying.{Lies, lies-left, lies-right, lies-all, all-lies, place_of, place_low, place-left, place-last}
 use Rattle.fed_pool.specs.Pools.{IsLineOf}

@@ -7,7 +7,7 @@ use Rattle.carriers.specs.Knowledge.{KnownOf}
 use Rattle.tasks.specs.declared.answers.Done.{Done}
 use Rattle.tasks.specs.declared.runs.Numbered.{Numbered}
 use Rattle.fed_pool.specs.declared.worker.Post.{Post}
-use Rattle.fed_pool.specs.Serving.{IsPost}
+use Rattle.fed_pool.specs.Workers.{IsPost}
 use Rattle.fed_pool.specs.Pools.{takes, gives}
 
 -- what is so of two queues is so of equal ones

@@ -11,7 +11,7 @@ use Rattle.tasks.specs.Tasks.{IsDoneOf}
 use Rattle.tasks.specs.Turns.{AreDone}
 use Rattle.fed_pool.proofs.Zipping.{zip-append}
 use Rattle.fed_pool.specs.declared.worker.Unsendable.{Unsendable}
-use Rattle.fed_pool.specs.Serving.{Sends, ServesSo, unsent_in}
+use Rattle.fed_pool.specs.Workers.{Sends, ServesSo, unsent_in}
 
 module _ {T A : Type 0} (answers : T → A → Type 0) where
   -- nothing yet

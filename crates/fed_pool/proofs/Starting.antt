@@ -10,8 +10,8 @@ use Rattle.fed_pool.specs.declared.worker.Post.{Post}
 use Rattle.fed_pool.specs.declared.worker.Served.{Served}
 use Rattle.fed_pool.specs.declared.leader.Leader.{Leader}
 use Rattle.fed_pool.specs.declared.crews.Crew.{Crew}
-use Rattle.fed_pool.specs.Serving.{IsPost, IsServed}
-use Rattle.fed_pool.specs.Leading.{IsLeading, HasEnded}
+use Rattle.fed_pool.specs.Workers.{IsPost, IsServed}
+use Rattle.fed_pool.specs.Leaders.{IsLeading, HasEnded}
 use Rattle.fed_pool.specs.Pools.{IsLineOf, takes, gives}
 use Rattle.fed_pool.specs.Ends.{AllEnded}
 use Rattle.fed_pool.proofs.Going.{begins}

@@ -19,7 +19,7 @@ use Rattle.tasks.specs.Turns.{AreDone}
 use Rattle.fed_pool.specs.declared.worker.Post.{Post}
 use Rattle.fed_pool.specs.declared.worker.Served.{Served}
 use Rattle.fed_pool.specs.Answered.{value_in}
-use Rattle.fed_pool.specs.Serving.{IsServed, unsent_in}
+use Rattle.fed_pool.specs.Workers.{IsServed, unsent_in}
 use Rattle.fed_pool.specs.Pools.{taker_in, giver_in, result_in, unsent_of, takes, gives}
 use Rattle.fed_pool.proofs.Deeds.{pushes-pushed, pushes-popped, pops-pushed, pops-popped, values-items}
 use Rattle.fed_pool.proofs.Zipping.{zip-append}

@@ -8,8 +8,8 @@ use Rattle.tasks.specs.declared.runs.Numbered.{Numbered}
 use Rattle.fed_pool.specs.declared.worker.Post.{Post}
 use Rattle.fed_pool.specs.declared.crews.Team.{Team}
 use Rattle.fed_pool.specs.declared.crews.Crew.{Crew}
-use Rattle.fed_pool.specs.Serving.{IsServed}
-use Rattle.fed_pool.specs.Leading.{IsLeading, HasEnded}
+use Rattle.fed_pool.specs.Workers.{IsServed}
+use Rattle.fed_pool.specs.Leaders.{IsLeading, HasEnded}
 
 -- there is room for what so many workers bring back
 abbrev pub HasRoomFor : {S U F A : Type 0} → List (Post S U) → Team S U F A → Type 0

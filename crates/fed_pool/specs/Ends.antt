@@ -8,8 +8,8 @@ use Rattle.tasks.specs.declared.runs.Numbered.{Numbered}
 use Rattle.fed_pool.specs.declared.worker.Post.{Post}
 use Rattle.fed_pool.specs.declared.leader.Leader.{Leader}
 use Rattle.fed_pool.specs.declared.crews.Crew.{Crew}
-use Rattle.fed_pool.specs.Serving.{IsServed}
-use Rattle.fed_pool.specs.Leading.{HasEnded}
+use Rattle.fed_pool.specs.Workers.{IsServed}
+use Rattle.fed_pool.specs.Leaders.{HasEnded}
 use Rattle.fed_pool.specs.Pools.{IsLineOf, takes, gives}
 
 module _ {Q S V U T A F : Type 0} (is_seat : Q → S → Type 0) (permits : Q → List Permit) (known : S → KnownOf (Numbered T))

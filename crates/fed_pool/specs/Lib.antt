@@ -1,8 +1,8 @@
 pub mod Answered
 pub mod Roles
 pub mod Feeds
-pub mod Serving
-pub mod Leading
+pub mod Workers
+pub mod Leaders
 pub mod Crews
 pub mod Pools
 pub mod Ends

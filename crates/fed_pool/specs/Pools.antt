@@ -13,7 +13,7 @@ use Rattle.fed_pool.specs.declared.pools.Fed.{Fed}
 use Rattle.fed_pool.specs.declared.pools.Parts.{Parts}
 use Rattle.fed_pool.specs.declared.pools.Space.{Space}
 use Rattle.fed_pool.specs.Answered.{AnsweredOnce, value_in}
-use Rattle.fed_pool.specs.Serving.{unsent_in}
+use Rattle.fed_pool.specs.Workers.{unsent_in}
 
 -- these are all the seats of a new queue, in no call, and each may push and pop
 pub record IsLineOf {Q S N : Type 0} (is_seat : Q → S → Type 0) (permits : Q → List Permit) (known : S → KnownOf N) (queue : Q) (seats : List S) : Type 0 where

@@ -3,8 +3,8 @@ ghost use Rattle.std.specs.Prelude.{◌≡◌, [], None};
 ghost use Rattle.std.specs.List.{All};
 ghost use denote.Param.Send.{IsSend, IsSync};
 ghost use Rattle.blocking_carrier.specs.Queues.{queue_of};
-ghost use Rattle.fed_pool.specs.Serving.{IsPost, IsServed};
-ghost use Rattle.fed_pool.specs.Leading.{IsLeading, HasEnded};
+ghost use Rattle.fed_pool.specs.Workers.{IsPost, IsServed};
+ghost use Rattle.fed_pool.specs.Leaders.{IsLeading, HasEnded};
 ghost use Rattle.fed_pool.specs.Crews.{IsTeam, HasRoomFor, HasCrew};
 
 use crate::feeds::Feed;

@@ -3,7 +3,7 @@ ghost use Rattle.std.specs.Prelude.{◌≡◌, ◌⊎◌, ◌<◌, IsTrue, IfOk,
 ghost use Rattle.history.specs.Seats.{MayPush};
 ghost use Rattle.blocking_carrier.specs.Queues.{queue_of};
 ghost use Rattle.tasks.specs.Offers.{EndsShutBy};
-ghost use Rattle.fed_pool.specs.Leading.{IsLeading, GoesOn, HasEnded};
+ghost use Rattle.fed_pool.specs.Leaders.{IsLeading, GoesOn, HasEnded};
 
 use crate::feeds::Feed;
 use blocking_carrier::BlockingCarrier;

@@ -1,9 +1,9 @@
 //! New queues with the seats of a fed pool, and a pool over them.
 ghost use Rattle.std.specs.Prelude.{◌≡◌, ◌⊎◌, ◌+◌, ◌≤◌, [], length, None, IfOk, IfErr};
 ghost use Rattle.counted_ref.specs.Ref.{IsSplit};
-ghost use Rattle.node_arena.specs.Making.{value_plan, NewRefused};
+ghost use Rattle.node_arena.specs.NewArenas.{value_plan, NewRefused};
 ghost use Rattle.value_queue.specs.Queues.{IsQueueSeat, permits_of};
-ghost use Rattle.value_queue.specs.Telling.{known_by};
+ghost use Rattle.value_queue.specs.ValuesSeen.{known_by};
 ghost use Rattle.carriers.specs.Rests.{left_in};
 ghost use Rattle.fed_pool.specs.Pools.{IsLine, HasFed};
 ghost use Rattle.fed_pool.specs.Roles.{line_roles};

@@ -1,6 +1,6 @@
 //! A pool that is fed: the tasks that it is given are run by its workers, and each result is told.
 ghost use Rattle.std.specs.Prelude.{◌≡◌, ◌+◌, ◌++◌, ◌≤◌, ℕ, [], List, Result, length, map, None, vec_capacity, IfOk, IfErr};
-ghost use Rattle.carriers.specs.Closing.{AsksSoMany};
+ghost use Rattle.carriers.specs.Ends.{AsksSoMany};
 ghost use Rattle.carriers.specs.Rests.{left_in};
 ghost use Rattle.tasks.specs.declared.answers.Done.{Done};
 ghost use Rattle.fed_pool.specs.Answered.{value_in};

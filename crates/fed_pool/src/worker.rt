@@ -4,7 +4,7 @@ ghost use Rattle.history.specs.Seats.{MayPush, MayPop};
 ghost use Rattle.blocking_carrier.specs.Queues.{queue_of};
 ghost use Rattle.blocking_carrier.specs.Answers.{ReceivedOf};
 ghost use Rattle.tasks.specs.Tasks.{IsDoneOf};
-ghost use Rattle.fed_pool.specs.Serving.{Sends, ServesOne, IsPost, IsServed};
+ghost use Rattle.fed_pool.specs.Workers.{Sends, ServesOne, IsPost, IsServed};
 
 use blocking_carrier::{BlockingCarrier, InTime};
 use carriers::{Carrier, ItemOf, Unpushed};

@@ -14,7 +14,7 @@ use Rattle.carriers.specs.Deeds.{Deed, did_push, did_pop, did_shut, own_deeds}
 use Rattle.carriers.specs.Knowledge.{KnownOf, IsPermittedDeed}
 use Rattle.carriers.specs.Answers.{PushedOf}
 use Rattle.carriers.specs.Rests.{left_in}
-use Rattle.carriers.specs.Closing.{ClosesOf}
+use Rattle.carriers.specs.Ends.{ClosesOf}
 use Rattle.deliveries.specs.Deliveries.{sent, taken_of, values_of}
 use Rattle.deliveries.proofs.Deliveries.{sent-RunsTo}
 

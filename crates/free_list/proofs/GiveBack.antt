@@ -30,7 +30,7 @@ use Rattle.arena_lines.specs.declared.outcomes.Outcome.{Outcome}
 use Rattle.arena_lines.specs.declared.outcomes.Outcome.TheVariants.{Goes, Ends}
 use Rattle.arena_lines.specs.declared.outcomes.Reply.TheVariants.{Done}
 use Rattle.arena_lines.proofs.Registers.{same_registers}
-use Rattle.free_list.specs.Running.{Running}
+use Rattle.free_list.specs.Registers.{Running}
 use Rattle.free_list.specs.declared.outcomes.Gave.TheVariants.{Back, Again}
 use Rattle.free_list.specs.Runs.{in_hand, gave_of, Frees, CallIsAt, StartsGive, Follows, GoesTo, Leaves}
 use Rattle.free_list.specs.Gives.{IsBack, GiveTurns, Sets, Giving, GiveAnswers}

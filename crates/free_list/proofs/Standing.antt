@@ -28,7 +28,7 @@ use Rattle.arena_lines.specs.declared.outcomes.Outcome.TheVariants.{Goes, Ends}
 use Rattle.arena_lines.specs.declared.outcomes.Reply.TheVariants.{Refused as IsRefused}
 use Rattle.arena_lines.proofs.Registers.{same_registers}
 use Rattle.free_list.specs.declared.outcomes.Turn.TheVariants.{Took, Failed}
-use Rattle.free_list.specs.Running.{Running}
+use Rattle.free_list.specs.Registers.{Running}
 use Rattle.free_list.specs.Runs.{follow, in_hand, turn_of, AgreesAt, CallIsAt, Follows, GoesTo}
 use Rattle.free_list.specs.Takes.{WasThere, IsRefusedBy, Turns, Looks}
 use Rattle.free_list.proofs.Steps.{ref_free, ref_n3}

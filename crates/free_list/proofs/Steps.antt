@@ -12,7 +12,7 @@ use Rattle.node_arena.specs.Seats.{DidStep, view}
 use Rattle.node_arena.proofs.Told.{was_in_range, was_fits}
 use Rattle.node_arena.proofs.Known.{by_known}
 use Rattle.node_arena.proofs.Reading.{read_back}
-use Rattle.free_list.specs.Running.{Running}
+use Rattle.free_list.specs.Registers.{Running}
 use Rattle.free_list.specs.Runs.{CallIsAt}
 
 module _ {T : Type 0} (r : Arena) (s : Seat T) (a : Running) where

@@ -15,7 +15,7 @@ use Rattle.free_list.specs.declared.outcomes.Turn.{Turn}
 use Rattle.free_list.specs.declared.outcomes.Turn.TheVariants.{Took, Failed, Refused}
 use Rattle.free_list.specs.declared.outcomes.Gave.{Gave}
 use Rattle.free_list.specs.declared.outcomes.Gave.TheVariants.{Back, Again}
-use Rattle.free_list.specs.Running.{Running}
+use Rattle.free_list.specs.Registers.{Running}
 use Rattle.free_list.specs.Runs.{Way, GoesTo, Leaves}
 use Rattle.free_list.specs.Takes.{Turned, Turns}
 use Rattle.free_list.specs.Gives.{GiveTurned, GiveTurns}

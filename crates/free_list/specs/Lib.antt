@@ -1,4 +1,4 @@
-pub mod Running
+pub mod Registers
 pub mod Runs
 pub mod Takes
 pub mod Gives

@@ -14,7 +14,7 @@ use Rattle.node_arena.specs.Turns.{failed_turns}
 use Rattle.node_arena.specs.Paths.{added, EndedAt, FailedAt, LastHeld, NowHolds, IsRefusedAt, MetCause, EndsFailed, IsSole}
 use Rattle.arena_lines.specs.declared.outcomes.Outcome.{Outcome}
 use Rattle.arena_lines.specs.declared.outcomes.Outcome.TheVariants.{Goes, Ends}
-use Rattle.free_list.specs.Running.{Running}
+use Rattle.free_list.specs.Registers.{Running}
 use Rattle.free_list.specs.declared.outcomes.Turn.{Turn}
 use Rattle.free_list.specs.declared.outcomes.Turn.TheVariants.{Took, Failed, Refused}
 use Rattle.free_list.specs.Runs.{taking, turn_of, Way, GoesTo, Leaves}

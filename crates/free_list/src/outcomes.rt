@@ -20,7 +20,7 @@ pub(crate) struct ActorOf<const B: u32> {
 }
 
 impl<const B: u32> Model for ActorOf<B> {
-    ghost use Rattle.free_list.specs.Running.{Running};
+    ghost use Rattle.free_list.specs.Registers.{Running};
 
     ghost Value = { Running };
 

@@ -13,7 +13,7 @@ use Rattle.history.specs.declared.operations.Stamped.{Stamped}
 use Rattle.history.specs.declared.operations.Cause.{Cause}
 use Rattle.history.specs.declared.operations.Cause.TheVariants.{Shape, Span, Shared}
 use Rattle.history.specs.History.{point_or_zero, inserted, by_point, same_point, is_shared, is_shaped, lies_within, fault_of, fault_or, first_fault}
-use Rattle.history.specs.Checking.{OperationsByPoint, shown, numbered, listed, HoldsThoseWithPoints, Judges}
+use Rattle.history.specs.Tables.{OperationsByPoint, shown, numbered, listed, HoldsThoseWithPoints, Judges}
 use Rattle.history.proofs.Rising.{by_point-cons, by_point-push, by_point-push_unplaced}
 
 -- a list of operations has been gone through without fault, up to an index

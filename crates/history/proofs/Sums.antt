@@ -18,7 +18,7 @@ use Rattle.history.specs.Queue.{Queue}
 use Rattle.history.specs.Entries.{seat_of, own_entries, is_push, is_pop, is_shut, Plays, Leads, IsQueueRun}
 use Rattle.history.specs.Seats.{Permit, Known, Allows, IsPermitted, IsEmptyAfter, IsShutAfter}
 use Rattle.history.specs.Rests.{left_of, taken_of, whole_of, was_shut_of}
-use Rattle.history.specs.Closing.{pushes_of, pops_of, shuts_of, IsOfOne, AreAll, Closes}
+use Rattle.history.specs.Ends.{pushes_of, pops_of, shuts_of, IsOfOne, AreAll, Closes}
 
 -- one where a test is passed
 abbrev one_of : Bool → ℕ

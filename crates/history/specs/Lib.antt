@@ -7,10 +7,10 @@ pub mod Seats
 pub mod Values
 pub mod Answers
 pub mod Rests
-pub mod Closing
+pub mod Ends
 pub mod Openings
 pub mod History
-pub mod Checking
+pub mod Tables
 pub mod Faults
 pub mod Order
 pub mod Linearizability

@@ -3,7 +3,7 @@ ghost use Rattle.std.specs.Prelude.{◌≡◌, [], None, IfOk, IfErr};
 ghost use Rattle.history.specs.Queue.{empty};
 ghost use Rattle.history.specs.History as rule;
 ghost use Rattle.history.specs.History.{verdict};
-ghost use Rattle.history.specs.Checking.{listed, Judges};
+ghost use Rattle.history.specs.Tables.{listed, Judges};
 
 use crate::operations::{Cause, Stamped, Verdict};
 use crate::refusals::Refusal;

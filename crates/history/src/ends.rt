@@ -1,7 +1,7 @@
 //! The end of a queue.
 ghost use Rattle.std.specs.Prelude.{◌≡◌, List, map, IfErr, IfOk};
 ghost use Rattle.std.specs.List.{All};
-ghost use Rattle.history.specs.Closing.{Closes};
+ghost use Rattle.history.specs.Ends.{Closes};
 
 use crate::operations::Taken;
 use crate::queues::Fifo;

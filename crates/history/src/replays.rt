@@ -3,7 +3,7 @@ ghost use Rattle.std.specs.Prelude.{◌≡◌, ℕ, OnOk, IfOk, IfErr};
 ghost use Rattle.history.specs.History as rule;
 ghost use Rattle.history.specs.Queue as object;
 ghost use Rattle.history.specs.declared.operations.Op.TheVariants.{Enq};
-ghost use Rattle.history.specs.Checking.{queue_of};
+ghost use Rattle.history.specs.Tables.{queue_of};
 
 use crate::operations::{Op, Reply, Stamped, Taken};
 use crate::refusals::Refusal;

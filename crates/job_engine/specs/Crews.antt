@@ -6,14 +6,14 @@ use Rattle.history.specs.Seats.{Permit, Known}
 use Rattle.node_arena.specs.declared.roles.Role.{Role}
 use Rattle.node_arena.specs.declared.roles.Role.TheVariants.{Giver, Taker}
 use Rattle.node_arena.specs.Plans.{Layout}
-use Rattle.node_arena.specs.Making.{plan}
+use Rattle.node_arena.specs.NewArenas.{plan}
 use Rattle.node_arena.specs.Seats.{plan_of}
 use Rattle.any_queue.specs.Any.{AnyQueue, any_arena_of}
 use Rattle.ring_queue.specs.declared.queue.RingQueue.{RingQueue}
 use Rattle.ring_queue.specs.declared.roles.Role.{Role as RingRole}
 use Rattle.ring_queue.specs.declared.roles.Role.TheVariants as ring
 use Rattle.ring_queue.specs.declared.seats.Seat.{Seat}
-use Rattle.ring_queue.specs.Making.{IsMade}
+use Rattle.ring_queue.specs.NewRings.{IsMade}
 use Rattle.either_queue.specs.declared.either.EitherQueue.{EitherQueue}
 use Rattle.either_queue.specs.declared.either.EitherQueue.TheVariants.{First, Second}
 use Rattle.queue_kinds.specs.declared.kinds.QueueKind.{QueueKind}

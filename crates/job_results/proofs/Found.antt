@@ -7,7 +7,7 @@ use Rattle.job_results.specs.declared.jobs.Job.{Job}
 use Rattle.job_results.specs.declared.results.JobResult.{JobResult}
 use Rattle.job_results.specs.Jobs.{same_job, job_rows, kind_of, value_of}
 use Rattle.job_results.specs.Results.{number_in, job_in, value_in, row_of}
-use Rattle.job_results.specs.Gathering.{fits, are_found}
+use Rattle.job_results.specs.GatheredResults.{fits, are_found}
 use Rattle.job_results.proofs.Same.{both, true_both, kind_of-same, value_of-same}
 
 -- no results are results of any jobs

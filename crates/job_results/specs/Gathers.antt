@@ -4,7 +4,7 @@ use Rattle.history.specs.declared.refusals.Refusal.{Refusal}
 use Rattle.job_results.specs.declared.jobs.Job.{Job}
 use Rattle.job_results.specs.declared.results.JobResult.{JobResult}
 use Rattle.job_results.specs.declared.gathers.Gather.{Gather}
-use Rattle.job_results.specs.Gathering.{AddsResult, RefusesResult}
+use Rattle.job_results.specs.GatheredResults.{AddsResult, RefusesResult}
 
 -- the jobs whose results are gathered
 abbrev pub jobs_in : Gather → List Job

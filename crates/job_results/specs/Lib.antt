@@ -1,6 +1,6 @@
 pub mod Jobs
 pub mod Results
-pub mod Gathering
+pub mod GatheredResults
 pub mod Gathers
 pub mod JobTexts
 pub mod JobReading

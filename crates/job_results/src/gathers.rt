@@ -3,7 +3,7 @@ ghost use Rattle.std.specs.Prelude.{◌≡◌, ◌+◌, ◌<◌, ◌⊎◌, ◌�
 ghost use Rattle.std.specs.List.{filter_map, list_any};
 ghost use Rattle.job_results.specs.Jobs.{job_rows};
 ghost use Rattle.job_results.specs.Results.{row_of, HaveJobs};
-ghost use Rattle.job_results.specs.Gathering.{are_found, Names, MissesOne};
+ghost use Rattle.job_results.specs.GatheredResults.{are_found, Names, MissesOne};
 
 use crate::jobs::Job;
 use crate::results::JobResult;

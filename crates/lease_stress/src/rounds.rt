@@ -1,5 +1,5 @@
 //! Rounds in which many threads come and go.
-ghost use Rattle.history.specs.Closing.{AsksAny};
+ghost use Rattle.history.specs.Ends.{AsksAny};
 ghost use Rattle.seat_pool.specs.Pools.{store_of, queue_in};
 
 use crate::visits::{Found, VALUES, give, take};

@@ -8,4 +8,4 @@ pub mod Stored
 pub mod Words
 pub mod Ready
 pub mod Steps
-pub mod Calling
+pub mod Calls

@@ -1,7 +1,7 @@
 //! How a call begins, and how it is given up.
 ghost use Rattle.std.specs.Prelude.{◌≡◌, Some, None, IfSome, IsNone, true};
 ghost use Rattle.line_steps.specs.Lines as lines;
-ghost use Rattle.line_steps.specs.Calling as calling;
+ghost use Rattle.line_steps.specs.Calls as calling;
 ghost use Rattle.line_steps.specs.Outcomes.{settled};
 
 use crate::actors::{ActorOf, Told};

@@ -7,7 +7,7 @@ use Rattle.mail_text.specs.declared.letters.Outgoing.{Outgoing}
 use Rattle.mail_text.specs.MailTexts.{SaidLetter, said_letter, said_letters}
 use Rattle.mailbox.specs.declared.threads.Task.{Task}
 use Rattle.mailbox.specs.declared.receiver.Letter.{Letter}
-use Rattle.mailbox.specs.Posting.{BringTexts, texts_in, texts_of}
+use Rattle.mailbox.specs.Posts.{BringTexts, texts_in, texts_of}
 use Rattle.mail_engine.specs.Posts.{said_by}
 use Rattle.mail_engine.specs.Shares.{texts_from, HaveTexts}
 

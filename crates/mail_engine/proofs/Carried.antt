@@ -9,7 +9,7 @@ use Rattle.history.specs.Values.{popped, OnlyPops}
 use Rattle.mail_text.specs.MailTexts.{SaidLetter}
 use Rattle.mailbox.specs.declared.receiver.Letter.{Letter}
 use Rattle.mailbox.specs.declared.receiver.Receiver.{Receiver}
-use Rattle.mailbox.specs.Posting.{Delivered, texts_of}
+use Rattle.mailbox.specs.Posts.{Delivered, texts_of}
 use Rattle.mail_engine.specs.Carriers.{values_of, CarriedBy}
 use Rattle.mail_engine.proofs.Told.{AreBrought}
 

@@ -10,7 +10,7 @@ use Rattle.mailbox.specs.declared.office.Office.{Office}
 use Rattle.mailbox.specs.declared.sender.Sender.{Sender}
 use Rattle.mailbox.specs.declared.threads.Task.{Task}
 use Rattle.mailbox.specs.Offices.{IsSender}
-use Rattle.mailbox.specs.Posting.{IsTask}
+use Rattle.mailbox.specs.Posts.{IsTask}
 
 -- what holds of each image holds of what it is the image of
 pub all_before-map : {X Y : Type 0} (P : Y → Type 0) (f : X → Y) (xs : List X) → All P (map f xs) → All (λ x. P (f x)) xs

@@ -10,7 +10,7 @@ use Rattle.mailbox.specs.declared.receiver.Letter.{Letter}
 use Rattle.mailbox.specs.declared.receiver.Receiver.{Receiver}
 use Rattle.mailbox.specs.declared.sender.Sender.{Sender}
 use Rattle.mailbox.specs.declared.threads.Task.{Task}
-use Rattle.mailbox.specs.Posting.{BringTexts, Delivered, letters_of, texts_in, texts_of}
+use Rattle.mailbox.specs.Posts.{BringTexts, Delivered, letters_of, texts_in, texts_of}
 use Rattle.text_io.specs.Devices.{SinkState}
 use Rattle.mail_engine.specs.Rows.{givers_and_taker}
 use Rattle.mail_engine.specs.Shares.{HaveTexts}

@@ -14,7 +14,7 @@ use Rattle.history.specs.Values.{pushed, popped}
 use Rattle.history.proofs.Values.{pushed-Leads}
 use Rattle.mailbox.specs.declared.receiver.Receiver.{Receiver}
 use Rattle.mailbox.specs.declared.receiver.Letter.{Letter}
-use Rattle.mailbox.specs.Posting.{Delivered}
+use Rattle.mailbox.specs.Posts.{Delivered}
 use Rattle.mail_engine.specs.Rows.{givers_and_taker}
 use Rattle.mail_engine.proofs.SenderTasks.{all_before-map}
 

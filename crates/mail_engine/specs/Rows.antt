@@ -14,8 +14,8 @@ use Rattle.ring_queue.specs.declared.queue.RingQueue.{RingQueue}
 use Rattle.ring_queue.specs.declared.roles.Role.{Role as RingRole}
 use Rattle.ring_queue.specs.declared.roles.Role.TheVariants as ring
 use Rattle.ring_queue.specs.declared.seats.Seat.{Seat as RingSeat}
-use Rattle.ring_queue.specs.Making.{IsMade, NewRefused as RingRefused}
-use Rattle.node_arena.specs.Making.{plan, NewRefused}
+use Rattle.ring_queue.specs.NewRings.{IsMade, NewRefused as RingRefused}
+use Rattle.node_arena.specs.NewArenas.{plan, NewRefused}
 use Rattle.mailbox.specs.Openings.{CanSend, CanReceive}
 
 -- who may push, and not pop

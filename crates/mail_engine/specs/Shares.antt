@@ -3,7 +3,7 @@ use Rattle.std.specs.Prelude.{◌≡◌, ◌≢◌, ℕ, ◌+◌, ◌<◌, List,
 use Rattle.std.specs.List.{filter}
 use Rattle.mail_text.specs.declared.letters.Outgoing.{Outgoing}
 use Rattle.mailbox.specs.declared.threads.Task.{Task}
-use Rattle.mailbox.specs.Posting.{texts_in}
+use Rattle.mailbox.specs.Posts.{texts_in}
 
 -- the texts of one sender's letters, in their order
 abbrev pub texts_from : (sender : ℕ) → List Outgoing → List (List ℕ)

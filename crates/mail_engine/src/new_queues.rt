@@ -1,6 +1,6 @@
 //! A new queue with a seat for each sender and one for their receiver.
 ghost use Rattle.std.specs.Prelude.{◌≡◌, [], ◌∷◌, ◌++◌, IfOk, IfErr, OnOk};
-ghost use Rattle.node_arena.specs.Making.{plan};
+ghost use Rattle.node_arena.specs.NewArenas.{plan};
 ghost use Rattle.node_arena.specs.Plans.{IsPlanned};
 ghost use Rattle.node_arena.specs.Seats.{known_of};
 ghost use Rattle.arena_queue.specs.Queues.{permits_of, IsQueueSeat, IsQueueMade};

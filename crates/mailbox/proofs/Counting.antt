@@ -14,7 +14,7 @@ use Rattle.mailbox.specs.declared.parcels.Due.{Due}
 use Rattle.mailbox.specs.declared.receiver.Letter.{Letter}
 use Rattle.mailbox.specs.Plans.{plan_numbers, IsDue}
 use Rattle.mailbox.specs.Offices.{marks}
-use Rattle.mailbox.specs.Posting.{IsNext, IsNotNext, AreThoseDue, texts_of, BringTexts}
+use Rattle.mailbox.specs.Posts.{IsNext, IsNotNext, AreThoseDue, texts_of, BringTexts}
 use Rattle.mailbox.specs.Causes.{IsItsTurn}
 
 -- so many letters of each task are there, and they are the first that it is to send

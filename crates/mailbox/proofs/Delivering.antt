@@ -11,7 +11,7 @@ use Rattle.mailbox.specs.declared.office.Office.{Office}
 use Rattle.mailbox.specs.declared.receiver.Receiver.{Receiver}
 use Rattle.mailbox.specs.declared.receiver.Letter.{Letter}
 use Rattle.mailbox.specs.Offices.{RecvAnswers}
-use Rattle.mailbox.specs.Posting.{Delivered}
+use Rattle.mailbox.specs.Posts.{Delivered}
 
 -- a call that had its effect adds one entry of the seat's own
 pub length-adds : (a b : Known) (e : Entry) → Adds a e b → length b.mine ≡ length a.mine + 1

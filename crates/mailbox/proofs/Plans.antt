@@ -14,7 +14,7 @@ use Rattle.mailbox.specs.declared.receiver.Receiver.{Receiver}
 use Rattle.mailbox.specs.declared.threads.Task.{Task}
 use Rattle.mailbox.specs.Plans.{plan_numbers, IsDue, AreDue}
 use Rattle.mailbox.specs.Offices.{IsReceiver, queue_in}
-use Rattle.mailbox.specs.Posting.{AreThoseDue, BringTexts, IsTask, HasQueueOf, Plans, texts_in, letters_of}
+use Rattle.mailbox.specs.Posts.{AreThoseDue, BringTexts, IsTask, HasQueueOf, Plans, texts_in, letters_of}
 use Rattle.mailbox.proofs.Codes.{plan-same}
 
 -- a prefix of the texts due, and the rest

@@ -6,7 +6,7 @@ use Rattle.history.specs.Seats.{Known}
 use Rattle.mailbox.specs.declared.office.Office.{Office}
 use Rattle.mailbox.specs.declared.sender.Sender.{Sender}
 use Rattle.mailbox.specs.Causes.{HasEnded, IsRefusedNext}
-use Rattle.mailbox.specs.Posting.{AddsEntries}
+use Rattle.mailbox.specs.Posts.{AddsEntries}
 
 -- so many of these texts were sent, and these are left
 module _ {Q S Z : Type 0} (is_seat : Q → S → Type 0) (known : S → Known) (cause : Q → S → S → ℕ → Refusal → Type 0) (o : Office Q S) (s last : Sender Q S)

@@ -7,7 +7,7 @@ use Rattle.mailbox.specs.declared.office.Office.{Office}
 use Rattle.mailbox.specs.declared.threads.Started.{Started}
 use Rattle.mailbox.specs.declared.threads.Task.{Task}
 use Rattle.mailbox.specs.Offices.{marks}
-use Rattle.mailbox.specs.Posting.{IsTask, IsTaskAt, Plans}
+use Rattle.mailbox.specs.Posts.{IsTask, IsTaskAt, Plans}
 use Rattle.mailbox.specs.Threads.{IsStartedFor}
 use Rattle.mailbox.proofs.Plans.{AreDueFrom, due_of-plan, first_task, first_due, other_tasks, others_due}
 use Rattle.mailbox.proofs.Telling.{zip_append}

@@ -11,7 +11,7 @@ use Rattle.mailbox.specs.declared.parcels.Due.{Due}
 use Rattle.mailbox.specs.declared.receiver.Letter.{Letter}
 use Rattle.mailbox.specs.declared.receiver.Receiver.{Receiver}
 use Rattle.mailbox.specs.Offices.{TookText, TookNothing, Loses, LastIs, RecvAnswers, WaitedInVain}
-use Rattle.mailbox.specs.Posting.{Delivered}
+use Rattle.mailbox.specs.Posts.{Delivered}
 use Rattle.mailbox.specs.Causes.{IsItsTurn, TookAllThere, TookUntil}
 
 closed≢lost : Closed ≢ Lost

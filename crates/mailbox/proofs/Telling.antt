@@ -15,7 +15,7 @@ use Rattle.mailbox.specs.declared.sender.Sender.{Sender}
 use Rattle.mailbox.specs.declared.threads.Task.{Task}
 use Rattle.mailbox.specs.declared.threads.Started.{Started}
 use Rattle.mailbox.specs.declared.threads.Started.TheVariants.{Running, Unstarted}
-use Rattle.mailbox.specs.Posting.{letters_of}
+use Rattle.mailbox.specs.Posts.{letters_of}
 use Rattle.mailbox.specs.Refusals.{EndsPost}
 use Rattle.mailbox.specs.Offices.{IsSender}
 use Rattle.mailbox.specs.Causes.{IsTold, FirstIsTold, HasEnded, EndsSo, TookAllThere, AreMissing}

@@ -7,7 +7,7 @@ use Rattle.history.specs.Seats.{Known}
 use Rattle.blocking_queue.specs.Answers.{Received, RecvRefused}
 use Rattle.mailbox.specs.Refusals.{HandsOn}
 use Rattle.mailbox.specs.Offices.{SentNothing, SendEnded, HasNoBody, TookText, TookNothing, Loses, LastIs, WaitedInVain}
-use Rattle.mailbox.specs.Posting.{AddsEntries, Delivered, texts_of, letters_of}
+use Rattle.mailbox.specs.Posts.{AddsEntries, Delivered, texts_of, letters_of}
 use Rattle.mailbox.specs.declared.office.Office.{Office}
 use Rattle.mailbox.specs.declared.sender.Sender.{Sender}
 use Rattle.mailbox.specs.declared.receiver.Receiver.{Receiver}

@@ -3,7 +3,7 @@ pub mod Plans
 pub mod Refusals
 pub mod Offices
 pub mod Openings
-pub mod Posting
+pub mod Posts
 pub mod Causes
 pub mod Endings
 pub mod Threads

@@ -2,7 +2,7 @@
 ghost use Rattle.std.specs.Prelude.{◌≡◌, map, IfOk, IfErr, IfSome};
 ghost use Rattle.std.specs.List.{All};
 ghost use Rattle.mailbox.specs.Plans.{plan_numbers};
-ghost use Rattle.mailbox.specs.Posting.{IsTask, Plans, HasQueueOf, letters_of, texts_in};
+ghost use Rattle.mailbox.specs.Posts.{IsTask, Plans, HasQueueOf, letters_of, texts_in};
 
 use crate::office::Office;
 use crate::parcels::Letters;

@@ -2,7 +2,7 @@
 ghost use Rattle.std.specs.Prelude.{◌≡◌, ◌<◌, ◌≤◌, true, false, [], length, get_or, replicate, vec_capacity, IfOk, IfErr};
 ghost use Rattle.mailbox.specs.Deliveries.{InOrder};
 ghost use Rattle.mailbox.specs.Offices.{IsReceiver, receiver_knows};
-ghost use Rattle.mailbox.specs.Posting.{IsNext, IsNotNext, AreThoseDue, Delivered};
+ghost use Rattle.mailbox.specs.Posts.{IsNext, IsNotNext, AreThoseDue, Delivered};
 ghost use Rattle.mailbox.specs.Refusals.{EndsTaking};
 ghost use Rattle.mailbox.specs.Causes.{TookAllThere, TookUntil};
 

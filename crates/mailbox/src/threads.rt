@@ -4,7 +4,7 @@ ghost use Rattle.std.specs.List.{All, AllZip};
 ghost use Rattle.mailbox.specs.Deliveries.{InOrder};
 ghost use Rattle.mailbox.specs.Plans.{AreDue};
 ghost use Rattle.mailbox.specs.Offices.{IsSender, IsReceiver, marks, receiver_knows};
-ghost use Rattle.mailbox.specs.Posting.{IsTask, IsTaskAt, Plans, BringTexts, Delivered, letters_of, texts_in};
+ghost use Rattle.mailbox.specs.Posts.{IsTask, IsTaskAt, Plans, BringTexts, Delivered, letters_of, texts_in};
 ghost use Rattle.mailbox.specs.Refusals.{EndsDue, EndsPost};
 ghost use Rattle.mailbox.specs.Causes.{HasEnded, FirstIsTold, PostRefused};
 ghost use Rattle.mailbox.specs.Endings.{IsLeftShut, PostLeaves};

@@ -7,7 +7,7 @@ use Rattle.history.specs.declared.rests.Rest.{Rest}
 use Rattle.history.specs.Entries.{own_entries}
 use Rattle.history.specs.Seats.{Known, IsPermitted}
 use Rattle.history.specs.Rests.{left_of, taken_of, whole_of, was_shut_of}
-use Rattle.history.specs.Closing.{pushes_of, pops_of, IsOfOne, Closes}
+use Rattle.history.specs.Ends.{pushes_of, pops_of, IsOfOne, Closes}
 use Rattle.mock_queues.specs.declared.full.FullSeat.{FullSeat}
 use Rattle.mock_queues.specs.Permits.{one_permit}
 use Rattle.mock_queues.specs.Full.{knows_empties}

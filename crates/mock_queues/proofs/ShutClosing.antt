@@ -10,7 +10,7 @@ use Rattle.history.specs.declared.rests.Rest.{Rest}
 use Rattle.history.specs.Entries.{is_shut, own_entries}
 use Rattle.history.specs.Seats.{Known, IsPermitted}
 use Rattle.history.specs.Rests.{left_of, taken_of, whole_of, was_shut_of}
-use Rattle.history.specs.Closing.{pushes_of, pops_of, shuts_of, IsOfOne, AreAll, Closes}
+use Rattle.history.specs.Ends.{pushes_of, pops_of, shuts_of, IsOfOne, AreAll, Closes}
 use Rattle.mock_queues.specs.declared.shut.ShutSeat.{ShutSeat}
 use Rattle.mock_queues.specs.Permits.{one_permit}
 use Rattle.mock_queues.specs.Shut.{one_shut, knows_shut}

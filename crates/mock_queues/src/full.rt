@@ -82,7 +82,7 @@ impl Fifo for FullQueue {
 
 impl Close for FullQueue {
     ghost use Rattle.std.specs.Prelude.{◌≡◌, [], map};
-    ghost use Rattle.history.specs.Closing.{Closes};
+    ghost use Rattle.history.specs.Ends.{Closes};
     ghost use Rattle.mock_queues.specs.Permits.{one_permit};
     ghost use Rattle.mock_queues.specs.Full.{knows_empties, LeavesNone};
 

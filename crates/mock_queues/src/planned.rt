@@ -47,7 +47,7 @@ impl<Q: Fifo + Drop, P: Plan + Drop> Planned<Q, P> {
 impl<Q: Fifo + Drop, P: Plan + Drop> Fifo for Planned<Q, P> {
     ghost use Rattle.std.specs.Prelude.{◌≡◌, map};
     ghost use Rattle.std.specs.List.{All};
-    ghost use Rattle.history.specs.Closing.{Closes};
+    ghost use Rattle.history.specs.Ends.{Closes};
     ghost use Rattle.mock_queues.specs.Plans.{queue_of};
 
     type Seat = Q::Seat;
@@ -122,7 +122,7 @@ impl<Q: Fifo + Drop, P: Plan + Drop> Fifo for Planned<Q, P> {
 impl<Q: Close + Drop, P: Plan + Drop> Close for Planned<Q, P> {
     ghost use Rattle.std.specs.Prelude.{map};
     ghost use Rattle.std.specs.List.{All};
-    ghost use Rattle.history.specs.Closing.{Closes};
+    ghost use Rattle.history.specs.Ends.{Closes};
     ghost use Rattle.mock_queues.specs.Plans.{queue_of};
 
     type End = Q::End;

@@ -93,7 +93,7 @@ impl Fifo for ShutQueue {
 
 impl Close for ShutQueue {
     ghost use Rattle.std.specs.Prelude.{◌≡◌, [], map};
-    ghost use Rattle.history.specs.Closing.{Closes};
+    ghost use Rattle.history.specs.Ends.{Closes};
     ghost use Rattle.mock_queues.specs.Permits.{one_permit};
     ghost use Rattle.mock_queues.specs.Full.{LeavesNone};
 

@@ -11,12 +11,12 @@ use Rattle.msq.specs.declared.options.Frames.{Frames}
 use Rattle.show_engine.specs.declared.frames.Meaning.{Meaning}
 use Rattle.show_engine.specs.declared.frames.View.{View}
 use Rattle.show_engine.specs.Found.{DrawsFound}
-use Rattle.show_engine.specs.Showing.{WritesPicture}
-use Rattle.show_engine.specs.Telling.{WritesTimeline}
+use Rattle.show_engine.specs.PicturesWritten.{WritesPicture}
+use Rattle.show_engine.specs.TimelinesWritten.{WritesTimeline}
 use Rattle.placing.specs.declared.answers.Placed.{Placed}
 use Rattle.recording_text.specs.RecordingReading.{bytes_of}
 use Rattle.place_engine.specs.Places.{TellsPlaces}
-use Rattle.place_engine.specs.Holding.{TellsHolding}
+use Rattle.place_engine.specs.HeldTexts.{TellsHolding}
 
 -- a view is the one of a run or of a history that options ask for, with these meanings where they ask for a legend
 pub record IsViewOf (options : Asked) (meanings : List Meaning) (view : View) : Type 0 where

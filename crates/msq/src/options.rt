@@ -9,7 +9,7 @@ ghost use Rattle.job_engine.specs.Works.{IsBadSize};
 ghost use Rattle.page_engine.specs.Histories.{WritesHistoryPage};
 ghost use Rattle.page_engine.specs.Pages.{WritesPage};
 ghost use Rattle.recording_text.specs.RecordingReading.{bytes_of};
-ghost use Rattle.recording_text.specs.Holding.{AreHeld};
+ghost use Rattle.recording_text.specs.HeldTexts.{AreHeld};
 ghost use Rattle.place_engine.specs.Places.{TellsPlaces};
 ghost use Rattle.msq.specs.Options.{Draws, PlacesBy, has_colours, held_texts};
 

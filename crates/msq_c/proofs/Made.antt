@@ -8,7 +8,7 @@ use Rattle.history.specs.Openings.{AreNew}
 use Rattle.node_arena.specs.declared.roles.Role.{Role}
 use Rattle.node_arena.specs.declared.seats.Seat.{Seat}
 use Rattle.node_arena.specs.Seats as arena
-use Rattle.node_arena.specs.Making.{IsMade}
+use Rattle.node_arena.specs.NewArenas.{IsMade}
 use Rattle.owned_seats.specs.Owned.{queue_of, seat_of}
 use Rattle.owned_seats.proofs.SeatShares.{All-unmap}
 use Rattle.any_queue.specs.declared.picked.PickedQueue.{PickedQueue}
@@ -16,7 +16,7 @@ use Rattle.any_queue.specs.Picked.{picked_arena_of, picked_permits_of}
 use Rattle.ring_queue.specs.declared.queue.RingQueue.{RingQueue}
 use Rattle.ring_queue.specs.declared.roles.Role.{Role as RingRole}
 use Rattle.ring_queue.specs.declared.seats.Seat.{Seat as RingSeat}
-use Rattle.ring_queue.specs.Making as ring
+use Rattle.ring_queue.specs.NewRings as ring
 use Rattle.ring_queue.specs.Queues.{permits_in}
 use Rattle.ring_queue.specs.Seats as rings
 use Rattle.either_queue.specs.declared.either.EitherQueue.TheVariants.{First, Second}

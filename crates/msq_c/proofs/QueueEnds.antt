@@ -4,14 +4,14 @@ use Rattle.std.specs.List.{All}
 use Rattle.std.proofs.lemmas.List.{length-append, length-map}
 use Rattle.std.proofs.lemmas.List.Elements.{All-map, All-pop, All-weaker}
 use mathlib.Core.List.{map-map}
-use Rattle.history.specs.Closing.{Closes}
+use Rattle.history.specs.Ends.{Closes}
 use Rattle.history.specs.Seats.{Known}
 use Rattle.history.specs.declared.rests.Rest.{Rest}
 use Rattle.node_arena.specs.Ended.{HasRoomFor}
 use Rattle.owned_seats.specs.Owned.{queue_of, seat_of}
 use Rattle.owned_seats.proofs.SeatShares.{all_known}
 use Rattle.any_queue.specs.Picked.{picked_arena_of}
-use Rattle.ring_queue.specs.Closing as ring
+use Rattle.ring_queue.specs.Ends as ring
 use Rattle.ring_queue.specs.Queues.{permits_in}
 use Rattle.either_queue.specs.declared.either.EitherQueue.TheVariants.{First, Second}
 use Rattle.either_queue.specs.Ends.{HasEitherRoom, EitherAsks}

@@ -5,12 +5,12 @@ use Rattle.std.proofs.lemmas.List.{length-append, length-map}
 use Rattle.std.proofs.lemmas.List.Elements.{All-map, All-pop, All-weaker}
 use mathlib.Core.List.{map-map}
 use Rattle.carriers.specs.declared.queues.Carrier.{Ghosts}
-use Rattle.carriers.specs.Closing.{ClosesOf}
+use Rattle.carriers.specs.Ends.{ClosesOf}
 use Rattle.carriers.specs.declared.rests.RestOf.{RestOf}
 use Rattle.node_arena.specs.declared.ended.Ended.{Ended}
 use Rattle.node_arena.specs.declared.seats.Seat.{Seat}
-use Rattle.value_queue.specs.Closing.{LeavesValues}
-use Rattle.value_queue.specs.Telling.{known_by}
+use Rattle.value_queue.specs.Ends.{LeavesValues}
+use Rattle.value_queue.specs.ValuesSeen.{known_by}
 use Rattle.any_values.specs.declared.any.AnyValues.{AnyValues}
 use Rattle.any_values.specs.Any.{arena_of, permits_of}
 use Rattle.owned_values.specs.Owned.{queue_of, seat_of}

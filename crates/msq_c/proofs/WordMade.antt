@@ -9,9 +9,9 @@ use Rattle.carriers.specs.declared.queues.Carrier.{Ghosts}
 use Rattle.node_arena.specs.declared.roles.Role.{Role}
 use Rattle.node_arena.specs.declared.seats.Seat.{Seat}
 use Rattle.node_arena.specs.Plans.{Layout, IsPlanned}
-use Rattle.node_arena.specs.Making.{IsMade}
+use Rattle.node_arena.specs.NewArenas.{IsMade}
 use Rattle.value_queue.specs.Queues.{AreNewOf}
-use Rattle.value_queue.specs.Telling.{known_by}
+use Rattle.value_queue.specs.ValuesSeen.{known_by}
 use Rattle.any_values.specs.declared.any.AnyValues.{AnyValues}
 use Rattle.any_values.specs.Any.{arena_of, permits_of}
 use Rattle.owned_values.specs.Owned.{queue_of, seat_of}

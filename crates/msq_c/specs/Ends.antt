@@ -1,12 +1,12 @@
 -- The end of a queue, by handles.
 use Rattle.std.specs.Prelude.{◌≡◌, ℕ, ◌+◌, ◌≤◌, List, [], length, map, vec_capacity, true, false}
 use Rattle.std.specs.List.{All, AllPass}
-use Rattle.history.specs.Closing.{Closes}
+use Rattle.history.specs.Ends.{Closes}
 use Rattle.history.specs.declared.refusals.Refusal.TheVariants.{Memory}
 use Rattle.history.specs.declared.rests.Rest.{Rest}
 use Rattle.node_arena.specs.Ended.{HasRoomFor}
 use Rattle.any_queue.specs.Picked.{picked_arena_of}
-use Rattle.ring_queue.specs.Closing as ring
+use Rattle.ring_queue.specs.Ends as ring
 use Rattle.either_queue.specs.Ends.{HasEitherRoom}
 use Rattle.msq_c.specs.declared.own_seats.EndRoom.{EndRoom}
 use Rattle.msq_c.specs.declared.handles.MsqSeat.{MsqSeat}

@@ -11,7 +11,7 @@ use Rattle.node_arena.specs.declared.seats.Seat.{Seat}
 use Rattle.node_arena.specs.declared.roles.Role.{Role}
 use Rattle.node_arena.specs.declared.roles.Role.TheVariants.{Giver, Taker, Both}
 use Rattle.node_arena.specs.Plans.{Layout}
-use Rattle.node_arena.specs.Making.{IsMade}
+use Rattle.node_arena.specs.NewArenas.{IsMade}
 use Rattle.owned_seats.specs.Owned.{queue_of, seat_of}
 use Rattle.any_queue.specs.Splits.{bits_for, greatest_count, limited_plan}
 use Rattle.any_queue.specs.declared.picked.PickedQueue.{PickedQueue}
@@ -20,7 +20,7 @@ use Rattle.ring_queue.specs.declared.queue.RingQueue.{RingQueue}
 use Rattle.ring_queue.specs.declared.roles.Role.{Role as RingRole}
 use Rattle.ring_queue.specs.declared.roles.Role.TheVariants as ring_role
 use Rattle.ring_queue.specs.declared.seats.Seat.{Seat as RingSeat}
-use Rattle.ring_queue.specs.Making as ring
+use Rattle.ring_queue.specs.NewRings as ring
 use Rattle.either_queue.specs.declared.either.EitherQueue.TheVariants.{First, Second}
 use Rattle.either_queue.specs.Either.{as_first, as_second}
 use Rattle.msq_c.specs.declared.own_seats.OwnSeat.{OwnSeat}

@@ -3,12 +3,12 @@ use Rattle.std.specs.Prelude.{◌≡◌, ℕ, ◌+◌, Bool, List, [], length, m
 use Rattle.std.specs.List.{All, AllPass}
 use Rattle.history.specs.declared.refusals.Refusal.TheVariants.{Memory}
 use Rattle.carriers.specs.declared.queues.Carrier.{Ghosts}
-use Rattle.carriers.specs.Closing.{ClosesOf}
+use Rattle.carriers.specs.Ends.{ClosesOf}
 use Rattle.carriers.specs.declared.rests.RestOf.{RestOf}
 use Rattle.node_arena.specs.declared.ended.Ended.{Ended}
 use Rattle.node_arena.specs.declared.seats.Seat.{Seat}
 use Rattle.value_queue.specs.declared.ends.Room.{Room}
-use Rattle.value_queue.specs.Closing.{HasRoom, LeavesValues}
+use Rattle.value_queue.specs.Ends.{HasRoom, LeavesValues}
 use Rattle.any_values.specs.declared.any.AnyValues.{AnyValues}
 use Rattle.any_values.specs.Any.{arena_of, permits_of}
 use Rattle.owned_values.specs.declared.ends.EndRoom.{EndRoom}

@@ -6,7 +6,7 @@ use Rattle.carriers.specs.declared.queues.Carrier.{Ghosts}
 use Rattle.carriers.specs.Knowledge.{KnownOf}
 use Rattle.carriers.specs.Answers.{PushRefusedOf, PopRefusedOf}
 use Rattle.node_arena.specs.declared.seats.Seat.{Seat}
-use Rattle.value_queue.specs.Telling.{known_by}
+use Rattle.value_queue.specs.ValuesSeen.{known_by}
 use Rattle.any_values.specs.declared.any.AnyValues.{AnyValues}
 use Rattle.any_values.specs.Any.{permits_of, PushCause, PopCause, ShutCause}
 use Rattle.owned_values.specs.declared.seats.ValueSeat.{ValueSeat}

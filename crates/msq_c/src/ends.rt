@@ -1,7 +1,7 @@
 //! The end of a queue, by handles.
 ghost use Rattle.std.specs.Prelude.{◌≡◌, ◌+◌, ◌++◌, ◌∷◌, [], map, length, true, IfOk, IfErr, OnOk, MatchBool};
 ghost use Rattle.std.specs.List.{All};
-ghost use Rattle.history.specs.Closing.{Closes};
+ghost use Rattle.history.specs.Ends.{Closes};
 ghost use Rattle.owned_seats.specs.Owned.{queue_of, seat_of};
 ghost use Rattle.msq_c.specs.Queues.{known_of, permits_of, EndsWith};
 ghost use Rattle.msq_c.specs.Seats.{is_full, own_at, queue_at};

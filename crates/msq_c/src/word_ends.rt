@@ -1,9 +1,9 @@
 //! The end of a queue of words, by handles.
 ghost use Rattle.std.specs.Prelude.{◌≡◌, ◌++◌, ◌∷◌, [], map, length, true, IfOk, IfErr, OnOk, MatchBool};
 ghost use Rattle.std.specs.List.{All};
-ghost use Rattle.carriers.specs.Closing.{ClosesOf};
-ghost use Rattle.value_queue.specs.Telling.{known_by};
-ghost use Rattle.value_queue.specs.Closing.{LeavesValues};
+ghost use Rattle.carriers.specs.Ends.{ClosesOf};
+ghost use Rattle.value_queue.specs.ValuesSeen.{known_by};
+ghost use Rattle.value_queue.specs.Ends.{LeavesValues};
 ghost use Rattle.any_values.specs.Any.{arena_of, permits_of};
 ghost use Rattle.owned_values.specs.Owned.{queue_of, seat_of};
 ghost use Rattle.msq_c.specs.Ends.{IsMemory};

@@ -22,7 +22,7 @@ use Rattle.history.specs.Entries.{is_push, is_pop, is_shut, own_entries, Plays, 
 use Rattle.history.specs.declared.operations.Entry.{Entry}
 use Rattle.history.specs.Seats.{Permit, Known, IsPermitted}
 use Rattle.history.specs.Rests.{left_of, taken_of, whole_of, was_shut_of}
-use Rattle.history.specs.Closing.{pushes_of, pops_of, shuts_of, Closes}
+use Rattle.history.specs.Ends.{pushes_of, pops_of, shuts_of, Closes}
 use Rattle.history.proofs.Sums.{AreApart, closes, theirs, made-le, pushes-Leads, shut_by_one}
 use Rattle.line_steps.specs.declared.actors.Setup.{Setup}
 use Rattle.line_steps.specs.Memory.{Shared, Head, Next, Value_of, node_at}
@@ -42,12 +42,12 @@ use Rattle.step_machine.proofs.EitherQueue.{head_some, have_their_places}
 use Rattle.node_arena.specs.Arenas.{Arena}
 use Rattle.node_arena.specs.declared.seats.Seat.{Seat}
 use Rattle.node_arena.specs.Traces.{Traced, IsTraced}
-use Rattle.node_arena.specs.Seeing.{View, gathered}
+use Rattle.node_arena.specs.Knowledge.{View, gathered}
 use Rattle.node_arena.specs.Places.{shared_words}
 use Rattle.node_arena.specs.Plans.{Layout, RolesPermit, IsTable, slots_of}
 use Rattle.node_arena.specs.Rule.{Fits, Holds}
 use Rattle.node_arena.specs.Seats.{IsReady, HasNoSlot, view, known_of, permits_of}
-use Rattle.node_arena.specs.Closing.{HasToken, CountsItsOwn}
+use Rattle.node_arena.specs.Ends.{HasToken, CountsItsOwn}
 use Rattle.line_steps.specs.Words.{value_of}
 use Rattle.node_arena.specs.Remains.{ref_at, end_of, front_of, HasNode, HaveValues, AreLeft, IsQueue}
 use Rattle.node_arena.proofs.There.{length-node_words}

@@ -27,7 +27,7 @@ use Rattle.line_steps.specs.Actors.{Node}
 use Rattle.history.specs.declared.operations.Taken.{Taken}
 use Rattle.line_steps.specs.Memory.{Shared, Next, Value_of, blank, node_at, put}
 use Rattle.line_steps.specs.Lines.{with_node, dequeues, gives_up, busy_or, to_pocket, raised, raised_end}
-use Rattle.line_steps.specs.Calling.{is_call, begun, from_pocket}
+use Rattle.line_steps.specs.Calls.{is_call, begun, from_pocket}
 use Rattle.step_machine.specs.declared.actors.Move.TheVariants.{Begin, Step, Give}
 use Rattle.step_machine.specs.Machine.{World, actor_of, rested, entry_or, with_actor, after_outcome, begins, steps, given, gives, may_rest, rests}
 use Rattle.step_machine.specs.Machine.{moved, rest_of, AnyMove, made, Rest, next_any, IsSized}

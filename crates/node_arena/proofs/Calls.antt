@@ -16,7 +16,7 @@ use Rattle.node_arena.specs.Arenas.{Arena}
 use Rattle.node_arena.specs.declared.seats.Seat.{Seat}
 use Rattle.node_arena.specs.Traces.{entries_at, number_at, step_at}
 use Rattle.node_arena.specs.Prologues.{Prologue, after_prologue}
-use Rattle.node_arena.specs.Seeing.{View, seated, knows}
+use Rattle.node_arena.specs.Knowledge.{View, seated, knows}
 use Rattle.node_arena.specs.Places.{place}
 use Rattle.node_arena.specs.Plans.{Layout}
 use Rattle.node_arena.specs.Rule.{Steps, Fitted, Tells, line_or_first}

@@ -33,11 +33,11 @@ use Rattle.history.specs.Seats.{IsNoted}
 use Rattle.history.specs.declared.operations.Entry.{Entry}
 use Rattle.node_arena.specs.Deeds.{Matches}
 use Rattle.node_arena.specs.Seats.{IsArena}
-use Rattle.node_arena.specs.Seeing.{SeatView, View, keeper, seated, paired, members, knows, new_seat, dealt_left, dealt_right}
+use Rattle.node_arena.specs.Knowledge.{SeatView, View, keeper, seated, paired, members, knows, new_seat, dealt_left, dealt_right}
 use Rattle.node_arena.specs.Places.{place, shared_words}
 use Rattle.node_arena.specs.Plans.{Layout, IsPlanned, RolesPermit, IsTable, slots_of}
 use Rattle.node_arena.specs.Rule.{Fits, Holds, Fitted, first_view}
-use Rattle.node_arena.specs.Making.{first_memory_words, LieFirst, IsDealt, AreDealt, IsNewSeat}
+use Rattle.node_arena.specs.NewArenas.{first_memory_words, LieFirst, IsDealt, AreDealt, IsNewSeat}
 use Rattle.node_arena.proofs.Placed.{length-shared_words, shared_words-set, shared_words-blank}
 use Rattle.node_arena.proofs.Tracing.{changed_here, changed_else}
 use Rattle.node_arena.proofs.StepsPreserve.{one_of}

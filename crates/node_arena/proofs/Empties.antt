@@ -27,7 +27,7 @@ use Rattle.line_steps.specs.declared.actors.Held.{Held}
 use Rattle.line_steps.specs.Outcomes.{Outcome}
 use Rattle.line_steps.specs.Memory.{Found, found, node_at}
 use Rattle.line_steps.specs.Lines.{action, outcome, goes, ends, worn, closed, effect, empties_hand, fills_hand, to_pocket, sets_aside, freed, unlocked, left, left_with_node, with_node, dequeues}
-use Rattle.line_steps.specs.Calling.{begun, from_pocket}
+use Rattle.line_steps.specs.Calls.{begun, from_pocket}
 use Rattle.step_machine.specs.Machine.{IsReached, actor_of, entry_or}
 use Rattle.step_machine.proofs.Fixed.{FixedAt, DecidedFreeing}
 use Rattle.step_machine.proofs.EitherQueue.{fixed_at as fixed_in}

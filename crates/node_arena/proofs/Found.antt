@@ -23,7 +23,7 @@ use Rattle.step_machine.proofs.Reached.{reached_in_range}
 use Rattle.step_machine.proofs.Chains.{next_in, second_or_end}
 use Rattle.step_machine.proofs.EitherQueue.{HasChains, reached_chains, head_some}
 use Rattle.node_arena.specs.Traces.{Traced, IsTraced}
-use Rattle.node_arena.specs.Seeing.{SeatView, known_by}
+use Rattle.node_arena.specs.Knowledge.{SeatView, known_by}
 use Rattle.node_arena.specs.Plans.{Layout}
 use Rattle.node_arena.specs.Rule.{IsCurrentOrPast, StaysLooked}
 use Rattle.node_arena.specs.Looks.{looked_in, LooksAt, WasMeanwhile, LeadsToSome, FoundSo}

@@ -14,13 +14,13 @@ use Rattle.history.specs.declared.operations.Entry.{Entry}
 use Rattle.node_arena.proofs.Lifts.{HoldsWith, at_end, none_hand, lift_joins, lift_enters}
 use Rattle.node_arena.specs.declared.seats.Seat.{Seat}
 use Rattle.node_arena.specs.Traces.{changed}
-use Rattle.node_arena.specs.Seeing.{SeatView, View, keeper, gathered, seated, paired, spent, members, both_of}
+use Rattle.node_arena.specs.Knowledge.{SeatView, View, keeper, gathered, seated, paired, spent, members, both_of}
 use Rattle.node_arena.specs.Places.{place}
 use Rattle.node_arena.specs.Plans.{Layout, IsTable}
 use Rattle.node_arena.specs.Rule.{Fits, Holds, Opens}
 use Rattle.node_arena.specs.Moments.{WasWord}
 use Rattle.node_arena.specs.Seats.{view, deeds_of}
-use Rattle.node_arena.specs.Closing.{HasToken, HasGathered}
+use Rattle.node_arena.specs.Ends.{HasToken, HasGathered}
 use Rattle.node_arena.proofs.Placed.{place_there, length-shared_words, get_or-shared_words}
 use Rattle.node_arena.proofs.There.{words_there}
 use Rattle.node_arena.proofs.Tracing.{changed_here, changed_else}

@@ -16,7 +16,7 @@ use Rattle.node_arena.specs.declared.seats.Seat.{Seat}
 use Rattle.node_arena.specs.Arenas.{Arena}
 use Rattle.node_arena.specs.Plans.{Layout, slots_of}
 use Rattle.node_arena.specs.Prologues.{at_rest}
-use Rattle.node_arena.specs.Seeing.{SeatView, seated, knows}
+use Rattle.node_arena.specs.Knowledge.{SeatView, seated, knows}
 use Rattle.node_arena.specs.Rule.{Fitted}
 use Rattle.history.specs.Entries.{is_push, is_pop, is_shut}
 use Rattle.std.specs.List.{count_by}

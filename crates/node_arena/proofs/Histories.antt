@@ -23,7 +23,7 @@ use Rattle.line_steps.specs.Actors.{Actor}
 use Rattle.line_steps.specs.Outcomes.{Outcome}
 use Rattle.line_steps.specs.Memory.{Found, found}
 use Rattle.line_steps.specs.Lines.{action, outcome, goes, ends, effect, fills_hand, empties_hand, sets_aside, freed, unlocked, left, left_with_node, busy_or, gives_up}
-use Rattle.line_steps.specs.Calling.{is_call, begun}
+use Rattle.line_steps.specs.Calls.{is_call, begun}
 use Rattle.step_machine.specs.declared.actors.Move.TheVariants.{Begin, Step, Give}
 use Rattle.step_machine.specs.Machine.{World, actor_of, rested, with_actor, begins, steps, given, gives, may_rest, rests, moved, rest_of, AnyMove, made, Rest, next_any, IsReached}
 use Rattle.step_machine.specs.Entries.{pushed_by, entry_of, entries}

@@ -2,7 +2,7 @@
 use Rattle.std.proofs.Common.{◌≡◌, ℕ, ◌<◌, Bool, true, false, List, [], ◌++◌, sym, refl, ap, ◌∙◌, subst, arith, append_assoc, ◌∷◌}
 use mathlib.Core.Option.{some, none, some-ne-none}
 use Rattle.history.specs.declared.operations.Entry.{Entry}
-use Rattle.node_arena.specs.Seeing.{SeatView, paired, knows, first_of, second_of}
+use Rattle.node_arena.specs.Knowledge.{SeatView, paired, knows, first_of, second_of}
 use Rattle.node_arena.specs.Plans.{Layout}
 use Rattle.node_arena.specs.Deeds.{Item, Deed, Runs, Matches}
 use Rattle.node_arena.specs.Beside.{Beside, AllBegin, slots_in, KnowsValues, KnowsBy, KnowsNow, first_beside_of, second_beside_of}

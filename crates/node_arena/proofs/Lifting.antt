@@ -16,7 +16,7 @@ use Rattle.step_machine.specs.Tables.{WordStep, word_index, word_step}
 use Rattle.node_arena.specs.declared.roles.Role.{Role}
 use Rattle.node_arena.specs.Traces.{Traced, entries_at, sees}
 use Rattle.node_arena.specs.Prologues.{Prologue, after_prologue, CanStart}
-use Rattle.node_arena.specs.Seeing.{SeatView, View, seated, knows}
+use Rattle.node_arena.specs.Knowledge.{SeatView, View, seated, knows}
 use Rattle.node_arena.specs.Places.{place}
 use Rattle.node_arena.specs.Plans.{Layout, PermitsLine, slots_of}
 use Rattle.node_arena.specs.Rule.{Holds, Steps, Tells, line_or_first}
@@ -39,7 +39,7 @@ use Rattle.node_arena.specs.Traces.{entries_of}
 use Rattle.node_arena.proofs.Seens.{history_legal}
 use Rattle.node_arena.specs.Deeds.{item, Deed, pushed, popped, closed, Matches}
 use Rattle.node_arena.specs.Slots.{Changes, item_of}
-use Rattle.node_arena.specs.Riding.{Rides, number_of}
+use Rattle.node_arena.specs.ValueHistories.{Rides, number_of}
 use Rattle.node_arena.specs.Beside.{Beside, hand_in, hand_at, home_at, plain_of, plain_state, words_of, flag_at, Begins, CarriedBy, HoldsFor}
 use Rattle.node_arena.specs.Beside.{KnowsValues, KnowsBy, Effect, EffectBy, TellsBeside, LoadedAt}
 use Rattle.node_arena.proofs.Riding.{rides_push, rides_pop, rides_shut, rides_same}

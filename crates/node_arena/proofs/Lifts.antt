@@ -11,7 +11,7 @@ use Rattle.atomic_table.specs.Table.{State, Me, Act, keeps, takes, gives, chain,
 use Rattle.atomic_table.proofs.Lists.{at_map, at_set, set_else}
 use Rattle.history.specs.declared.operations.Entry.{Entry}
 use Rattle.node_arena.specs.Places.{shared_words}
-use Rattle.node_arena.specs.Seeing.{SeatView, View, seated, paired, knows}
+use Rattle.node_arena.specs.Knowledge.{SeatView, View, seated, paired, knows}
 use Rattle.node_arena.proofs.Riding.{rides_same}
 use Rattle.node_arena.proofs.KnownValues.{knows_values}
 use Rattle.node_arena.specs.Plans.{Layout}

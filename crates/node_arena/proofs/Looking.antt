@@ -14,7 +14,7 @@ use Rattle.node_arena.specs.declared.seats.Seat.{Seat}
 use Rattle.node_arena.specs.Arenas.{Arena}
 use Rattle.node_arena.specs.Traces.{Traced, IsTraced}
 use Rattle.node_arena.specs.Prologues.{at_rest}
-use Rattle.node_arena.specs.Seeing.{SeatView, View, keeper, seated, members, knows}
+use Rattle.node_arena.specs.Knowledge.{SeatView, View, keeper, seated, members, knows}
 use Rattle.node_arena.specs.Places.{place}
 use Rattle.node_arena.specs.Plans.{Layout}
 use Rattle.node_arena.specs.Rule.{StaysLooked, Fits, Holds, Fitted}

@@ -6,9 +6,9 @@ use lib.ListN.{get_elem?}
 use Rattle.atomic_table.proofs.Lists.{set_else}
 use Rattle.node_arena.specs.Deeds.{item}
 use Rattle.node_arena.specs.Slots.{Lying, item_of}
-use Rattle.node_arena.specs.Riding.{number_of}
+use Rattle.node_arena.specs.ValueHistories.{number_of}
 use Rattle.node_arena.proofs.Emptied.{got_or}
-use Rattle.node_arena.specs.Lying.{with_value, values_of, all_lie}
+use Rattle.node_arena.specs.ValuesLeft.{with_value, values_of, all_lie}
 
 module _ {T : Type 0} where
   -- each of these values lies in its slot

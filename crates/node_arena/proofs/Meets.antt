@@ -14,7 +14,7 @@ use Rattle.node_arena.specs.Slots.{item_of}
 use Rattle.history.specs.Entries.{is_push, is_pop, is_shut}
 use Rattle.history.specs.Seats.{IsNoted}
 use Rattle.node_arena.specs.Traces.{Traced, changed}
-use Rattle.node_arena.specs.Seeing.{SeatView, View, keeper, seated, paired, spent, members, knows, knows_second, both_of, first_of, second_of}
+use Rattle.node_arena.specs.Knowledge.{SeatView, View, keeper, seated, paired, spent, members, knows, knows_second, both_of, first_of, second_of}
 use Rattle.node_arena.specs.Places.{shared_words}
 use Rattle.node_arena.specs.Plans.{Layout}
 use Rattle.node_arena.specs.Rule.{Fits, Holds, Fitted, Met}

@@ -22,7 +22,7 @@ use Rattle.node_arena.specs.declared.roles.Role.{Role}
 use Rattle.node_arena.specs.declared.seats.Seat.{Seat}
 use Rattle.node_arena.specs.Arenas.{Arena}
 use Rattle.node_arena.specs.Plans.{Layout, IsTable}
-use Rattle.node_arena.specs.Seeing.{SeatView, View}
+use Rattle.node_arena.specs.Knowledge.{SeatView, View}
 use Rattle.node_arena.specs.Seats.{Sits, IsSeat, IsReady}
 
 Line-set : IsSet Line

@@ -9,8 +9,8 @@ use Rattle.history.specs.Openings.{AreNew, newcomer}
 use Rattle.node_arena.specs.Arenas.{Arena}
 use Rattle.node_arena.specs.declared.seats.Seat.{Seat}
 use Rattle.node_arena.specs.Plans.{Layout, permit_of, permits_by}
-use Rattle.node_arena.specs.Making.{IsMade}
-use Rattle.node_arena.specs.Seeing.{known_by}
+use Rattle.node_arena.specs.NewArenas.{IsMade}
+use Rattle.node_arena.specs.Knowledge.{known_by}
 use Rattle.node_arena.specs.Seats.{IsReady, permits_of, known_of}
 
 -- what holds at each place of a list holds of all

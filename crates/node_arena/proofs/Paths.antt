@@ -13,7 +13,7 @@ use Rattle.history.proofs.Learning.{adds_then, push_refused_then, pop_refused_th
 use Rattle.node_arena.specs.Machine.{Held, Actor, Outcome, World, actor_of, entry_or, action, found}
 use Rattle.node_arena.specs.Traces.{Event, Traced, entries_at, event_at, outcome_at, sees, step_at}
 use Rattle.node_arena.specs.Prologues.{Prologue, continues, after_prologue}
-use Rattle.node_arena.specs.Seeing.{SeatView, known_by}
+use Rattle.node_arena.specs.Knowledge.{SeatView, known_by}
 use Rattle.node_arena.specs.Arenas.{Arena}
 use Rattle.node_arena.specs.declared.seats.Seat.{Seat}
 use Rattle.node_arena.specs.Rule.{notes_of, SaysOfSeen, FoundClosedAt}

@@ -15,7 +15,7 @@ use Rattle.history.specs.declared.operations.Reply.TheVariants.{Refused}
 use Rattle.line_steps.specs.Actors.{Actor}
 use Rattle.line_steps.specs.Outcomes.{Outcome}
 use Rattle.line_steps.specs.Lines.{gives_up, ends, busy_or, to_pocket}
-use Rattle.line_steps.specs.Calling.{begun, is_call}
+use Rattle.line_steps.specs.Calls.{begun, is_call}
 use Rattle.step_machine.specs.declared.actors.Move.TheVariants.{Begin, Give}
 use Rattle.step_machine.specs.Machine.{World, actor_of, with_actor, after_outcome, entry_or, rested, may_rest, rests, rest_of, next_any, made, Rest}
 use Rattle.step_machine.proofs.Reached.{mover_in_range}

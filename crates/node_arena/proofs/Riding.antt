@@ -14,7 +14,7 @@ use Rattle.history.specs.Queue.{Queue, empty, response}
 use Rattle.history.specs.Entries.{Plays, Leads, IsQueueRun}
 use Rattle.node_arena.specs.Deeds.{Item, item, Deed, pushed, popped, closed, Runs, Matches, values_pushed, values_popped}
 use Rattle.node_arena.specs.Slots.{Lying, item_of, Home, Slotted, Changes}
-use Rattle.node_arena.specs.Riding.{number_of, Rides}
+use Rattle.node_arena.specs.ValueHistories.{number_of, Rides}
 use Rattle.node_arena.proofs.Slotting.{pushes, pops_front}
 
 -- what entries lead to, what further ones lead on from

@@ -17,7 +17,7 @@ use Rattle.step_machine.specs.Machine.{actor_of}
 use Rattle.step_machine.proofs.StaleReferences.{Rises, was_on}
 use Rattle.step_machine.proofs.NonBlockingLaws.{at_line}
 use Rattle.node_arena.specs.Traces.{Traced, IsTraced, step_at}
-use Rattle.node_arena.specs.Seeing.{Looked}
+use Rattle.node_arena.specs.Knowledge.{Looked}
 use Rattle.node_arena.specs.Rule.{IsCurrentOrPast, StaysLooked}
 use Rattle.node_arena.proofs.Tracing.{traced_reached, step_traced}
 use Rattle.node_arena.proofs.Histories.{counts_pops}

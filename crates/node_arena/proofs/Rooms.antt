@@ -14,7 +14,7 @@ use Rattle.node_arena.specs.Beside.{Beside}
 use Rattle.node_arena.specs.Traces.{Traced, IsTraced}
 use Rattle.node_arena.specs.Arenas.{Arena}
 use Rattle.node_arena.specs.declared.seats.Seat.{Seat}
-use Rattle.node_arena.specs.Seeing.{SeatView}
+use Rattle.node_arena.specs.Knowledge.{SeatView}
 use Rattle.node_arena.specs.Plans.{Layout}
 use Rattle.node_arena.specs.Rule.{Fitted}
 use Rattle.node_arena.specs.Seats.{IsSeat, HasRoom, view}

@@ -16,8 +16,8 @@ use Rattle.line_steps.specs.Actors.{Actor}
 use Rattle.line_steps.specs.Memory.{Found}
 use Rattle.line_steps.specs.Lines.{action}
 use Rattle.node_arena.specs.Traces.{Traced, IsTraced, entries_of, sees}
-use Rattle.node_arena.specs.Seeing as seeing
-use Rattle.node_arena.specs.Seeing.{SeatView}
+use Rattle.node_arena.specs.Knowledge as seeing
+use Rattle.node_arena.specs.Knowledge.{SeatView}
 use Rattle.node_arena.specs.Plans.{Layout, RolesPermit, permits_by}
 use Rattle.node_arena.specs.Rule.{Fitted}
 use Rattle.node_arena.proofs.Tracing.{traced_reached}

@@ -29,7 +29,7 @@ use Rattle.step_machine.proofs.AccessesNameWords.{accesses_are_one_step, each_ac
 use Rattle.node_arena.specs.declared.roles.Role.{Role}
 use Rattle.node_arena.specs.Traces.{Traced, IsTraced, step_at, actor_at, outcome_at, event_at, entries_at, number_at, sees}
 use Rattle.node_arena.specs.Prologues.{Prologue, after_prologue, CanStart}
-use Rattle.node_arena.specs.Seeing.{SeatView, Looked, View, keeper, seated, members}
+use Rattle.node_arena.specs.Knowledge.{SeatView, Looked, View, keeper, seated, members}
 use Rattle.node_arena.specs.Places.{place, shared_words}
 use Rattle.node_arena.specs.Plans.{Layout, RolesPermit, PermitsLine}
 use Rattle.node_arena.specs.Rule.{SawAt, StaysLooked, Fits, IsNew, Holds, notes_of, SaysOfSeen, Steps, Tells, line_or_first}

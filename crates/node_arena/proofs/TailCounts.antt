@@ -19,7 +19,7 @@ use Rattle.step_machine.proofs.EitherQueue.{HasChains, reached_chains}
 use Rattle.step_machine.proofs.NonBlockingLag.{ends_after, one_after, behind_tail as stands_at_tail}
 use Rattle.step_machine.proofs.NonBlockingLaws.{tail_lags, tail_is_not_behind}
 use Rattle.node_arena.specs.Traces.{Traced, IsTraced}
-use Rattle.node_arena.specs.Seeing.{SeatView, known_by}
+use Rattle.node_arena.specs.Knowledge.{SeatView, known_by}
 use Rattle.node_arena.specs.Plans.{Layout}
 use Rattle.node_arena.specs.Rule.{StaysLooked}
 use Rattle.node_arena.specs.Looks.{looked_in, LooksAt, WasMeanwhile, WasSoLong, behind_tail}

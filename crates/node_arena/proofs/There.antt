@@ -14,7 +14,7 @@ use Rattle.step_machine.proofs.Reached.{reached_in_range}
 use Rattle.step_machine.proofs.AccessesNameWords.{each_access_names_a_word}
 use Rattle.node_arena.specs.Traces.{Traced, IsTraced}
 use Rattle.node_arena.specs.Prologues.{Prologue, after_prologue, CanStart}
-use Rattle.node_arena.specs.Seeing.{SeatView, View}
+use Rattle.node_arena.specs.Knowledge.{SeatView, View}
 use Rattle.node_arena.specs.Plans.{Layout}
 use Rattle.node_arena.specs.Places.{shared_words}
 use Rattle.node_arena.specs.Rule.{Fitted, Holds}

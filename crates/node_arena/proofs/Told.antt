@@ -34,7 +34,7 @@ use Rattle.step_machine.proofs.TwoLockCounts.{count_nothing}
 use Rattle.step_machine.proofs.NonBlockingLaws as non_blocking
 use Rattle.node_arena.specs.Traces.{outcome_at}
 use Rattle.node_arena.specs.Prologues.{Prologue, after_prologue}
-use Rattle.node_arena.specs.Seeing.{SeatView}
+use Rattle.node_arena.specs.Knowledge.{SeatView}
 use Rattle.node_arena.specs.Plans.{Layout}
 use Rattle.node_arena.specs.Rule.{Steps}
 use Rattle.node_arena.specs.Paths.{HasOwnCause, IsSole}

@@ -4,7 +4,7 @@ use mathlib.Core.Option.{some, some-injective, some-ne-none}
 use lib.ListN.{get_elem?}
 use Rattle.atomic_table.specs.Table.{opening}
 use Rattle.history.specs.Entries.{Leads}
-use Rattle.node_arena.specs.Seeing.{SeatView, keeper, seated, paired}
+use Rattle.node_arena.specs.Knowledge.{SeatView, keeper, seated, paired}
 use Rattle.node_arena.specs.Plans.{Layout}
 use Rattle.node_arena.specs.Rule.{Holds, first_view}
 use Rattle.node_arena.specs.Deeds.{Matches}

@@ -12,22 +12,22 @@ use Rattle.history.specs.declared.rests.Rest.{Rest}
 use Rattle.history.specs.Queue.{Queue, empty}
 use Rattle.history.specs.Entries.{Leads}
 use Rattle.history.specs.Rests.{left_of, was_shut_of}
-use Rattle.history.specs.Closing.{pushes_of, pops_of, shuts_of}
+use Rattle.history.specs.Ends.{pushes_of, pops_of, shuts_of}
 use Rattle.line_steps.specs.declared.actors.Setup.{Setup}
 use Rattle.step_machine.proofs.Reached.{reached_in_range}
 use Rattle.node_arena.specs.declared.leftovers.LeftValues.{LeftValues}
 use Rattle.node_arena.specs.declared.seats.Seat.{Seat}
 use Rattle.node_arena.specs.Arenas.{Arena}
 use Rattle.node_arena.specs.Traces.{Traced}
-use Rattle.node_arena.specs.Seeing.{gathered}
+use Rattle.node_arena.specs.Knowledge.{gathered}
 use Rattle.node_arena.specs.Places.{shared_words}
 use Rattle.node_arena.specs.Plans.{Layout, IsTable, slots_of}
 use Rattle.node_arena.specs.Deeds.{Deed, Runs, Matches}
 use Rattle.node_arena.specs.Slots.{Lying, Place, queued, item_of}
-use Rattle.node_arena.specs.Riding.{number_of}
+use Rattle.node_arena.specs.ValueHistories.{number_of}
 use Rattle.node_arena.specs.Beside.{Beside, words_of, plain_of, plain_state, HoldsFor, Carried, CarriedBy, AllBegin}
-use Rattle.node_arena.specs.Lying.{values_of, all_lie}
-use Rattle.node_arena.specs.Closing.{EachBegins}
+use Rattle.node_arena.specs.ValuesLeft.{values_of, all_lie}
+use Rattle.node_arena.specs.Ends.{EachBegins}
 use Rattle.node_arena.specs.Leftovers.{rest_in, slots_in, ClosesValues}
 use Rattle.node_arena.specs.Remains.{IsQueue}
 use Rattle.node_arena.specs.Seats.{view, known_of}

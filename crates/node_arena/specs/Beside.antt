@@ -9,13 +9,13 @@ use Rattle.line_table.specs.declared.lines.Line.{Line}
 use Rattle.line_table.specs.declared.lines.Line.TheVariants.{E9, A5}
 use Rattle.history.specs.declared.operations.Entry.{Entry}
 use Rattle.history.specs.declared.operations.Entry.TheVariants.{Push, Pop, Shut}
-use Rattle.node_arena.specs.Seeing.{SeatView, View, keeper, seated, paired, spent, dealt_left, dealt_right, both_of, first_of, second_of, knows, knows_second}
+use Rattle.node_arena.specs.Knowledge.{SeatView, View, keeper, seated, paired, spent, dealt_left, dealt_right, both_of, first_of, second_of, knows, knows_second}
 use Rattle.node_arena.specs.Plans.{Layout}
 use Rattle.node_arena.specs.Prologues.{Prologue}
 use Rattle.node_arena.specs.Rule.{Holds, Tells, Met, Opens}
 use Rattle.node_arena.specs.Deeds.{Item, item, Deed, pushed, popped, closed, Runs, Matches}
 use Rattle.node_arena.specs.Slots.{Home}
-use Rattle.node_arena.specs.Riding.{Rides}
+use Rattle.node_arena.specs.ValueHistories.{Rides}
 
 -- what a seat knows of its queue, a beginning of the history of values, the slot that is out with it, and what seats that it
 -- took in had seen of that history

@@ -2,14 +2,14 @@
 use Rattle.std.specs.Prelude.{◌≡◌, false, List, [], ◌∷◌, map, length, ◌≤◌, Option, Some, None}
 use Rattle.history.specs.declared.rests.Rest.{Rest}
 use Rattle.history.specs.Rests.{left_of, taken_of, whole_of, was_shut_of}
-use Rattle.history.specs.Closing.{Closes}
+use Rattle.history.specs.Ends.{Closes}
 use Rattle.node_arena.specs.declared.leftovers.LeftValue.{LeftValue}
 use Rattle.node_arena.specs.declared.leftovers.LeftValues.{LeftValues}
 use Rattle.node_arena.specs.declared.seats.Seat.{Seat}
 use Rattle.node_arena.specs.Arenas.{Arena}
 use Rattle.node_arena.specs.Deeds.{Item, item, Deed, Runs, Matches}
-use Rattle.node_arena.specs.Lying.{values_of}
-use Rattle.node_arena.specs.Closing.{EachBegins}
+use Rattle.node_arena.specs.ValuesLeft.{values_of}
+use Rattle.node_arena.specs.Ends.{EachBegins}
 use Rattle.node_arena.specs.Seats.{known_of, permits_of}
 
 module _ {T : Type 0} where

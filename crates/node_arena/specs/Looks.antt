@@ -14,7 +14,7 @@ use Rattle.node_arena.specs.declared.lengths.Len.{Len}
 use Rattle.node_arena.specs.declared.seats.Seat.{Seat}
 use Rattle.node_arena.specs.Arenas.{Arena}
 use Rattle.node_arena.specs.Traces.{Traced, IsTraced}
-use Rattle.node_arena.specs.Seeing.{SeatView, Looked}
+use Rattle.node_arena.specs.Knowledge.{SeatView, Looked}
 use Rattle.node_arena.specs.Plans.{Layout}
 use Rattle.node_arena.specs.Rule.{StaysLooked}
 use Rattle.node_arena.specs.Seats.{IsReady, KeepsStored, KeepsSlots, SeesMoreDeeds, carries_of, view}

@@ -8,7 +8,7 @@ pub use Rattle.line_steps.specs.Memory.{Head_lock as WordHeadLock, Next as WordN
 pub use Rattle.line_steps.specs.Memory.{word}
 pub use Rattle.line_steps.specs.Lines.{action, outcome, raised, raised_end, with_node, dequeues, shuts, goes, worn, closed, left, left_with_node}
 pub use Rattle.line_steps.specs.Lines.{fills_hand, empties_hand, freed, sets_aside, unlocked, gives_up, ends, to_pocket, busy_or}
-pub use Rattle.line_steps.specs.Calling.{from_pocket}
+pub use Rattle.line_steps.specs.Calls.{from_pocket}
 pub use Rattle.line_steps.specs.Rooms.{aside_after}
 pub use Rattle.line_steps.specs.Words.{value_of}
 pub use Rattle.step_machine.specs.Words.{index, IsWord, memory_words}

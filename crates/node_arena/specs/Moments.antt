@@ -11,7 +11,7 @@ use Rattle.step_machine.specs.Words.{memory_words}
 use Rattle.step_machine.specs.Entries.{entries}
 use Rattle.step_machine.specs.Machine.{World, AnyMove, run, opening, actor_of, IsSized}
 use Rattle.node_arena.specs.Traces.{Traced, IsTraced}
-use Rattle.node_arena.specs.Seeing.{SeatView, View, members}
+use Rattle.node_arena.specs.Knowledge.{SeatView, View, members}
 use Rattle.node_arena.specs.Places.{shared_words}
 use Rattle.node_arena.specs.Plans.{Layout}
 use Rattle.node_arena.specs.Rule.{Holds}

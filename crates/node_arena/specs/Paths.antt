@@ -16,7 +16,7 @@ use Rattle.step_machine.specs.EachQueue.{HasCause}
 use Rattle.node_arena.specs.Arenas.{Arena}
 use Rattle.node_arena.specs.declared.seats.Seat.{Seat}
 use Rattle.node_arena.specs.Traces.{Event, Traced, IsTraced, event_at, outcome_at}
-use Rattle.node_arena.specs.Seeing.{SeatView, known_by}
+use Rattle.node_arena.specs.Knowledge.{SeatView, known_by}
 use Rattle.node_arena.specs.Seats.{view}
 use Rattle.node_arena.specs.Turns.{failed_at}
 

@@ -6,7 +6,7 @@ use Rattle.line_steps.specs.declared.actors.Setup.{Setup}
 use Rattle.line_steps.specs.Actors.{Actor}
 use Rattle.line_steps.specs.Outcomes.{Outcome}
 use Rattle.line_steps.specs.Lines.{gives_up}
-use Rattle.line_steps.specs.Calling.{is_call, begun}
+use Rattle.line_steps.specs.Calls.{is_call, begun}
 use Rattle.step_machine.specs.Machine.{rested, may_rest}
 
 -- the moves that come directly before a step and touch no shared word

@@ -19,7 +19,7 @@ use Rattle.step_machine.specs.Words.{memory_words}
 use Rattle.step_machine.specs.Machine.{idle, actor_of}
 use Rattle.node_arena.specs.Traces.{Traced, IsTraced, step_at, actor_at, outcome_at, event_at, entries_at, number_at, sees}
 use Rattle.node_arena.specs.Prologues.{Prologue, after_prologue}
-use Rattle.node_arena.specs.Seeing.{SeatView, Looked, View, keeper, gathered, seated, paired, members, knows}
+use Rattle.node_arena.specs.Knowledge.{SeatView, Looked, View, keeper, gathered, seated, paired, members, knows}
 use Rattle.node_arena.specs.Places.{shared_words}
 use Rattle.node_arena.specs.Plans.{Layout, IsPlanned, RolesPermit}
 

@@ -16,7 +16,7 @@ use Rattle.node_arena.specs.declared.roles.Role.{Role}
 use Rattle.node_arena.specs.Arenas.{Arena}
 use Rattle.node_arena.specs.declared.seats.Seat.{Seat}
 use Rattle.node_arena.specs.Prologues.{Prologue, after_prologue, at_rest, CanStart}
-use Rattle.node_arena.specs.Seeing.{SeatView, seated, knows, known_by}
+use Rattle.node_arena.specs.Knowledge.{SeatView, seated, knows, known_by}
 use Rattle.node_arena.specs.Plans.{Layout, IsTable, PermitsLine, permits_by, may_push, may_pop}
 use Rattle.node_arena.specs.Rule.{Steps, Fitted}
 use Rattle.node_arena.specs.Deeds.{Deed}

@@ -1,9 +1,9 @@
 //! The end of an arena.
 ghost use Rattle.std.specs.Prelude.{◌≡◌, ◌<◌, true, false, nat_lt, [], map, IfOk, IfErr};
 ghost use Rattle.std.specs.List.{All};
-ghost use Rattle.history.specs.Closing.{pushes_of, pops_of, shuts_of, Closes};
+ghost use Rattle.history.specs.Ends.{pushes_of, pops_of, shuts_of, Closes};
 ghost use Rattle.node_arena.specs.Seats.{known_of, permits_of, carries_of, HasNoSlot, IsReady};
-ghost use Rattle.node_arena.specs.Closing.{HasToken, HasGathered, CountsItsOwn};
+ghost use Rattle.node_arena.specs.Ends.{HasToken, HasGathered, CountsItsOwn};
 ghost use Rattle.node_arena.specs.Ended.{HasRoomFor, Leaves};
 ghost use Rattle.node_arena.specs.Leftovers.{ClosesValues, rest_in};
 

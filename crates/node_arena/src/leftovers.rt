@@ -1,7 +1,7 @@
 //! What is left of an arena that carried values.
 ghost use Rattle.std.specs.Prelude.{◌≡◌, IsTrue};
 ghost use Rattle.history.specs.Rests.{left_of, taken_of, whole_of, was_shut_of};
-ghost use Rattle.node_arena.specs.Lying.{all_lie};
+ghost use Rattle.node_arena.specs.ValuesLeft.{all_lie};
 
 use history::Rest;
 use std::mem::replace;

@@ -3,8 +3,8 @@ ghost use Rattle.std.specs.Prelude.{◌*◌, ◌^◌, ◌≡◌, ◌<◌, false,
 ghost use Rattle.counted_ref.specs.Ref.{IsSplit};
 ghost use Rattle.line_steps.specs.declared.actors.Setup.{Setup as Setups};
 ghost use Rattle.node_arena.specs.Plans.{IsPlanned};
-ghost use Rattle.node_arena.specs.Making.{LieFirst, IsMade, NewRefused};
-ghost use Rattle.node_arena.specs.Making as making;
+ghost use Rattle.node_arena.specs.NewArenas.{LieFirst, IsMade, NewRefused};
+ghost use Rattle.node_arena.specs.NewArenas as making;
 
 use crate::arena::ArenaOf;
 use crate::new_seats::deal_all;

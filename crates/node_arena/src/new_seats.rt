@@ -1,7 +1,7 @@
 //! Seats are split off the arena's own token.
 ghost use Rattle.std.specs.Prelude.{◌≡◌, ◌+◌, ◌-◌, ◌≤◌, Some, [], length, slice_get, vec_capacity};
 ghost use Rattle.node_arena.specs.Plans.{Layout, IsTable};
-ghost use Rattle.node_arena.specs.Making.{IsKeeper, IsDealt, AreDealt};
+ghost use Rattle.node_arena.specs.NewArenas.{IsKeeper, IsDealt, AreDealt};
 
 use crate::plans::Plan;
 use crate::roles::Role;

@@ -2,8 +2,8 @@
 ghost use Rattle.std.specs.Prelude.{◌≡◌, true, IfOk, IfErr, OnOk};
 ghost use Rattle.counted_ref.specs.Ref.{IsSplit};
 ghost use Rattle.node_arena.specs.Plans.{IsPlanned};
-ghost use Rattle.node_arena.specs.Making.{IsMade, NewRefused};
-ghost use Rattle.node_arena.specs.Making as making;
+ghost use Rattle.node_arena.specs.NewArenas.{IsMade, NewRefused};
+ghost use Rattle.node_arena.specs.NewArenas as making;
 
 use crate::arena::ArenaOf;
 use crate::new_seats::deal_all;

@@ -1,7 +1,7 @@
 //! The end of a queue whose seats own it.
 ghost use Rattle.std.specs.Prelude.{◌≡◌, ◌+◌, ◌≤◌, ◌++◌, ◌∷◌, [], length, map, vec_capacity, IfOk, IfErr};
 ghost use Rattle.std.specs.List.{All};
-ghost use Rattle.history.specs.Closing.{Closes};
+ghost use Rattle.history.specs.Ends.{Closes};
 ghost use Rattle.owned_seats.specs.Owned.{queue_of, seat_of};
 
 use crate::seats::OwnedSeat;

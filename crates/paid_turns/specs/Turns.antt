@@ -11,7 +11,7 @@ use Rattle.step_machine.specs.Words.{memory_words}
 use Rattle.step_machine.specs.Machine.{AnyMove}
 use Rattle.node_arena.specs.Traces.{Event, Traced, trace, IsTraced}
 use Rattle.node_arena.specs.Turns.{failed_turns}
-use Rattle.node_arena.specs.Seeing.{SeatView, View, members}
+use Rattle.node_arena.specs.Knowledge.{SeatView, View, members}
 use Rattle.node_arena.specs.Places.{shared_words}
 use Rattle.node_arena.specs.Plans.{Layout}
 use Rattle.node_arena.specs.Rule.{Holds, Fits}

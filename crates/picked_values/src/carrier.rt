@@ -14,7 +14,7 @@ impl<T: Send> Carrier for ValueQueue<T> {
     ghost use Rattle.node_arena.specs.Seats.{pocket_of, keeps_of};
     ghost use Rattle.arena_queue.specs.Answers.{FailsFewer, FailsFew, FreesItsNode, PopRefused, ShutRefused};
     ghost use Rattle.nonblocking.specs.Worn.{push_worn, pop_worn, shut_worn};
-    ghost use Rattle.value_queue.specs.Telling.{known_by};
+    ghost use Rattle.value_queue.specs.ValuesSeen.{known_by};
     ghost use Rattle.value_queue.specs.Pushes.{PushRefused};
     ghost use Rattle.value_queue.specs.Pops.{KeepsItsNode};
     ghost use Rattle.value_queue.specs.Sound.{sound-seat, IsQueueSeat-prop};

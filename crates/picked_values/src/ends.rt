@@ -2,11 +2,11 @@
 ghost use Rattle.std.specs.Prelude.{◌≡◌, ◌≤◌, map, length};
 ghost use Rattle.std.specs.List.{All};
 ghost use Rattle.history.specs.Rests.{left_of};
-ghost use Rattle.carriers.specs.Closing.{ClosesOf};
+ghost use Rattle.carriers.specs.Ends.{ClosesOf};
 ghost use Rattle.node_arena.specs.Ended.{HasRoomFor, Leaves};
 ghost use Rattle.node_arena.specs.AsMany.{pushers, pushers_of};
 ghost use Rattle.node_arena.specs.Leftovers.{rest_in, values_in};
-ghost use Rattle.value_queue.specs.Telling.{known_by};
+ghost use Rattle.value_queue.specs.ValuesSeen.{known_by};
 
 use crate::queue::{ValueQueue, within};
 use carriers::{CloseCarrier, RestOf};
@@ -16,7 +16,7 @@ use std::alloc::Global;
 use value_queue::Room;
 
 impl<T> ValueQueue<T> {
-    ghost use Rattle.value_queue.specs.Closing.{ClosesLeft};
+    ghost use Rattle.value_queue.specs.Ends.{ClosesLeft};
     ghost use Rattle.picked_values.specs.Queues.{arena_of, permits_of, IsQueueSeat};
 
     /// Ends a queue whose values need not be `Drop`, and the seats handed in, as `QueueOf::close_values` does.
@@ -41,7 +41,7 @@ impl<T> ValueQueue<T> {
 
 //= values/picked_calls
 impl<T: Send + Drop> CloseCarrier for ValueQueue<T> {
-    ghost use Rattle.value_queue.specs.Closing.{HasRoom, LeavesValues};
+    ghost use Rattle.value_queue.specs.Ends.{HasRoom, LeavesValues};
     ghost use Rattle.picked_values.specs.Queues.{arena_of, permits_of, IsQueueSeat};
 
     type Room = Room<T>;

@@ -1,6 +1,6 @@
 //! What a seat can see of its queue without taking anything.
 ghost use Rattle.std.specs.Prelude.{◌≡◌};
-ghost use Rattle.value_queue.specs.Telling.{known_by};
+ghost use Rattle.value_queue.specs.ValuesSeen.{known_by};
 ghost use Rattle.value_queue.specs.Looks.{FoundSoOf, WasSoLongOf};
 
 use crate::queue::{ValueQueue, within};

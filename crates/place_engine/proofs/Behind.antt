@@ -19,16 +19,16 @@ use Rattle.history.specs.declared.operations.Verdict.TheVariants.{Yes}
 use Rattle.history.specs.Queue.{Queue, empty, response}
 use Rattle.history.specs.History.{LiesIn, IsPlaced, AreApart, Placement, by_point, answer, IsSequentialRun, verdict}
 use Rattle.history.proofs.Judging.{yes_is_right}
-use Rattle.placing.specs.Spreading.{EndsSo, IsStampedSo, IsKept, IsPointed, IsFirstOf, IsLastOf, IsSpreadFrom, IsSpreadOut, IsSpread}
+use Rattle.placing.specs.SpreadStamps.{EndsSo, IsStampedSo, IsKept, IsPointed, IsFirstOf, IsLastOf, IsSpreadFrom, IsSpreadOut, IsSpread}
 use Rattle.placing.proofs.InOrder.{Orders, kept_orders, spread_orders}
 use Rattle.recording_text.specs.Recordings.{Recorded}
 use Rattle.recording_text.specs.RecordingLines.{IsReadable, IsRecordingInRange}
-use Rattle.recording_text.specs.Numbering.{known_in, value_by, stamped_by, history_of}
-use Rattle.recording_text.specs.Holding.{push_at, pushes_from, later_by, longer}
+use Rattle.recording_text.specs.Numbers.{known_in, value_by, stamped_by, history_of}
+use Rattle.recording_text.specs.HeldTexts.{push_at, pushes_from, later_by, longer}
 use Rattle.recording_text.proofs.EachOf.{both, parts, together, weaker}
 use Rattle.recording_text.proofs.Known.{by_recursion}
 use Rattle.place_engine.specs.GivenParts.{last_end, earlier_by, behind, given_part}
-use Rattle.place_engine.specs.Holding.{numbered, held_queue, HasPointsFrom}
+use Rattle.place_engine.specs.HeldTexts.{numbered, held_queue, HasPointsFrom}
 use Rattle.place_engine.proofs.PointOrders.{IsAtLeast, by_point-first, later-point, placed-earlier, apart-earlier, by_point-earlier, run-earlier}
 
 -- ---- two lists in a row, item by item

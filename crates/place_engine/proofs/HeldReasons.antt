@@ -13,8 +13,8 @@ use Rattle.placing.specs.Kinds.{shows_shut, is_done_shut, is_told_shut}
 use Rattle.placing.specs.Reasons.{StandsAt, IsMisshapen, EndsTooSoon, IsToldAmiss, ShowsShut, IsTooLate, IsReason}
 use Rattle.recording_text.specs.Recordings.{Recorded}
 use Rattle.recording_text.specs.RecordingLines.{IsReadable, IsRecordingInRange, IsInTime}
-use Rattle.recording_text.specs.Numbering.{known_in, stamped_by, history_of}
-use Rattle.recording_text.specs.Holding.{push_at, pushes_from, later_by, longer}
+use Rattle.recording_text.specs.Numbers.{known_in, stamped_by, history_of}
+use Rattle.recording_text.specs.HeldTexts.{push_at, pushes_from, later_by, longer}
 use Rattle.recording_text.proofs.Known.{by_recursion}
 use Rattle.place_engine.specs.FoundTexts.{place_of}
 

@@ -8,13 +8,13 @@ use Rattle.placing.proofs.Excluding.{excludes}
 use Rattle.placing.proofs.Spreads.{placed_is}
 use Rattle.recording_text.specs.Recordings.{Recorded}
 use Rattle.recording_text.specs.RecordingLines.{IsRecordingInRange}
-use Rattle.recording_text.specs.Numbering.{history_of}
-use Rattle.recording_text.specs.Holding.{pushes_from, later_by, longer}
+use Rattle.recording_text.specs.Numbers.{history_of}
+use Rattle.recording_text.specs.HeldTexts.{pushes_from, later_by, longer}
 use Rattle.recording_text.proofs.EachOf.{parts, together}
 use Rattle.recording_text.proofs.Known.{by_recursion, from_recursion}
 use Rattle.recording_text.proofs.Longer.{linear-as_longer}
 use Rattle.place_engine.specs.OfTexts.{IsRecordedCall, IsOfTextQueue}
-use Rattle.place_engine.specs.Holding.{IsOfHoldingQueue, SaysOfHolding}
+use Rattle.place_engine.specs.HeldTexts.{IsOfHoldingQueue, SaysOfHolding}
 use Rattle.place_engine.proofs.OfTexts.{of_queue-as_history}
 use Rattle.place_engine.proofs.Behind.{points-behind}
 

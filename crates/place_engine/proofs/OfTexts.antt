@@ -3,7 +3,7 @@ use Rattle.std.proofs.Common.{◌↔◌, ℕ, List, [], ◌∷◌, map, Option, 
 use Rattle.std.specs.List.{AllByRecursion}
 use Rattle.placing.specs.Calls.{IsCall, IsOfQueue}
 use Rattle.recording_text.specs.Recordings.{Told, Recorded}
-use Rattle.recording_text.specs.Numbering.{known_in, reply_by, stamped_by, history_of}
+use Rattle.recording_text.specs.Numbers.{known_in, reply_by, stamped_by, history_of}
 use Rattle.recording_text.proofs.Known.{by_recursion, from_recursion}
 use Rattle.recording_text.proofs.Linear.{linear-as_history}
 use Rattle.place_engine.specs.OfTexts.{IsRecordedCall, IsOfTextQueue}

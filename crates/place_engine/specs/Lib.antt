@@ -1,6 +1,6 @@
 pub mod FoundTexts
 pub mod GivenParts
-pub mod Holding
+pub mod HeldTexts
 pub mod OfTexts
 pub mod Overlaps
 pub mod Places

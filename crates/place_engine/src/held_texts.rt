@@ -4,8 +4,8 @@ ghost use Rattle.text_io.specs.Blocks.{GivesUp};
 ghost use Rattle.text_io.specs.Readings.{EndsReadingFor};
 ghost use Rattle.engine_faults.specs.Faults.{IsRunRefusal};
 ghost use Rattle.recording_text.specs.RecordingReading.{bytes_of};
-ghost use Rattle.recording_text.specs.Holding.{AreHeld, IsFaultHolding};
-ghost use Rattle.place_engine.specs.Holding.{FindsHolding, TellsHolding, BeginsHolding, TellsFaultOfHolding};
+ghost use Rattle.recording_text.specs.HeldTexts.{AreHeld, IsFaultHolding};
+ghost use Rattle.place_engine.specs.HeldTexts.{FindsHolding, TellsHolding, BeginsHolding, TellsFaultOfHolding};
 ghost use Rattle.place_engine.specs.Overlaps.{SaysOverlap};
 
 use crate::engine::{Told, overlap_of};

@@ -9,7 +9,7 @@ use Rattle.std.proofs.lemmas.List.Kept.{AllPairs-from_increasing}
 use Rattle.std.proofs.lemmas.List.Elements.{AllZip-get_or}
 use Rattle.std.proofs.lemmas.Option.{slice_get_within, get_or_from_slice_get}
 use Rattle.history.specs.declared.operations.Stamped.{Stamped}
-use Rattle.placing.specs.Spreading.{EndsSo, IsStampedSo, IsKept, IsFirstOf, IsLastOf, IsSpread, AreInOrder, KeepsEachOrder}
+use Rattle.placing.specs.SpreadStamps.{EndsSo, IsStampedSo, IsKept, IsFirstOf, IsLastOf, IsSpread, AreInOrder, KeepsEachOrder}
 
 -- the items of two lists at one place are related where the lists are, item by item
 zip_at : {X : Type 0} (R : X → X → Type 0) (xs ys : List X) (i : ℕ) (x y : X) → AllZip R xs ys → slice_get xs i ≡ Some x → slice_get ys i ≡ Some y → R x y

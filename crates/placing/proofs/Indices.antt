@@ -16,7 +16,7 @@ use Rattle.history.specs.declared.operations.Stamped.{Stamped}
 use Rattle.history.specs.Queue.{Queue, response}
 use Rattle.history.specs.History.{AreApart, AgreesWithQueue, answer, IsSequentialRun}
 use Rattle.history.specs.Linearizability.{MayComeBefore, KeepsTime}
-use Rattle.placing.specs.Spreading.{IsStampedSo}
+use Rattle.placing.specs.SpreadStamps.{IsStampedSo}
 use Rattle.placing.specs.Orders.{with_found, picked, NoneEndsTooSoon}
 use Rattle.placing.proofs.Risen.{Has}
 

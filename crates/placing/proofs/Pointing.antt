@@ -16,7 +16,7 @@ use Rattle.history.specs.History.{IsPlaced, AreApart, IsSequentialRun, by_point,
 use Rattle.history.specs.Linearizability.{IsPending}
 use Rattle.history.proofs.Judged.{right_is_yes}
 use Rattle.placing.specs.Faults.{IsFaultless}
-use Rattle.placing.specs.Spreading.{EndsSo, IsFirstOf, IsLastOf, IsSpreadFrom, SpreadsAll}
+use Rattle.placing.specs.SpreadStamps.{EndsSo, IsFirstOf, IsLastOf, IsSpreadFrom, SpreadsAll}
 use Rattle.placing.specs.Orders.{with_found, picked, IsOrder, NoneEndsTooSoon, IsBehindFirst, PutsPoints, ArePoints}
 use Rattle.placing.proofs.InOrder.{Orders, spread_orders}
 use Rattle.placing.proofs.Risen.{Has, RiseFrom, risen, by_point_has, has_by_point, by_point_rises, one_rising}

@@ -14,7 +14,7 @@ use Rattle.std.proofs.lemmas.List.Elements.{All-contains}
 use Rattle.std.proofs.lemmas.Option.{slice_get_past, slice_get_read}
 use Rattle.history.specs.declared.operations.Stamped.{Stamped}
 use Rattle.placing.specs.Kinds.{ended_before}
-use Rattle.placing.specs.Spreading.{IsOfNumbers}
+use Rattle.placing.specs.SpreadStamps.{IsOfNumbers}
 use Rattle.placing.specs.Orders.{NoneEndsTooSoon, IsBehindFirst, PutsPoints, ArePoints}
 use Rattle.placing.proofs.Indices.{one_value, at_has, has_contains, no_points}
 

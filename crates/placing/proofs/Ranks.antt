@@ -10,7 +10,7 @@ use Rattle.std.proofs.lemmas.List.{get_or_default}
 use Rattle.std.proofs.lemmas.List.Elements.{All-more}
 use Rattle.std.proofs.lemmas.Option.{slice_get_within, IfSome_then}
 use Rattle.history.specs.declared.operations.Stamped.{Stamped}
-use Rattle.placing.specs.Spreading.{IsOfNumbers, AddsStamps}
+use Rattle.placing.specs.SpreadStamps.{IsOfNumbers, AddsStamps}
 
 -- numbers that rise at each step rise over any number of them
 rises_over : (numbers : List ℕ) → IsStrictlyIncreasing numbers → (i more : ℕ) → i + more < length numbers → get_or numbers i 0 ≤ get_or numbers (i + more) 0

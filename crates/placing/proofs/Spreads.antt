@@ -17,7 +17,7 @@ use Rattle.history.specs.Linearizability.{Answered, operations_of, IsPending, Gi
 use Rattle.history.proofs.Judging.{yes_is_right}
 use Rattle.history.proofs.Linearizing.{placed_linearizes}
 use Rattle.placing.specs.Calls.{IsCall, IsOfQueue}
-use Rattle.placing.specs.Spreading.{EndsSo, IsStampedSo, IsKept, IsFirstOf, IsLastOf, IsSpread}
+use Rattle.placing.specs.SpreadStamps.{EndsSo, IsStampedSo, IsKept, IsFirstOf, IsLastOf, IsSpread}
 use Rattle.placing.proofs.InOrder.{Orders, kept_orders, spread_orders}
 
 -- ---- lists that are related item by item

@@ -7,7 +7,7 @@ use Rattle.placing.specs.declared.answers.Unknown.{Unknown}
 use Rattle.placing.specs.declared.answers.Unknown.TheVariants.{Steps, Searched, Unplaced}
 use Rattle.placing.specs.declared.answers.Placed.{Placed}
 use Rattle.placing.specs.declared.answers.Placed.TheVariants.{History, Impossible, Open}
-use Rattle.placing.specs.Spreading.{IsSpread}
+use Rattle.placing.specs.SpreadStamps.{IsSpread}
 use Rattle.placing.specs.Orders.{IsOrder}
 use Rattle.placing.specs.Reasons.{IsReason}
 use Rattle.placing.specs.Faults.{IsFaultless}

@@ -1,6 +1,6 @@
 pub mod Calls
 pub mod Kinds
-pub mod Spreading
+pub mod SpreadStamps
 pub mod Orders
 pub mod Reasons
 pub mod Faults

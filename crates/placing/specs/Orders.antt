@@ -5,7 +5,7 @@ use Rattle.history.specs.declared.operations.Stamped.{Stamped}
 use Rattle.history.specs.History.{IsSequentialRun}
 use Rattle.history.specs.Linearizability.{IsPending, KeepsTime}
 use Rattle.history.specs.Queue.{empty}
-use Rattle.placing.specs.Spreading.{IsFirstOf}
+use Rattle.placing.specs.SpreadStamps.{IsFirstOf}
 
 -- operations with one before them, where there is one
 abbrev pub with_found : Option Stamped → List Stamped → List Stamped

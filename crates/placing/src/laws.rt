@@ -5,7 +5,7 @@ ghost use Rattle.history.specs.declared.operations.Verdict.TheVariants.{Yes};
 ghost use Rattle.history.specs.History.{verdict};
 ghost use Rattle.placing.specs.declared.answers.Reason.{Reason};
 ghost use Rattle.placing.specs.Calls.{IsOfQueue};
-ghost use Rattle.placing.specs.Spreading.{IsSpread, KeepsEachOrder};
+ghost use Rattle.placing.specs.SpreadStamps.{IsSpread, KeepsEachOrder};
 ghost use Rattle.placing.specs.Reasons.{IsReason};
 ghost use Rattle.placing.specs.Tries.{Ending, UsedUp, Ends};
 

@@ -1,6 +1,6 @@
 //! The order of the operations, and points for it.
 ghost use Rattle.std.specs.Prelude.{◌≡◌, ◌≤◌, max, IfSome, IsSome, IfOk, Some, length, slice_set};
-ghost use Rattle.placing.specs.Spreading.{SpreadsAll, HasRoom};
+ghost use Rattle.placing.specs.SpreadStamps.{SpreadsAll, HasRoom};
 ghost use Rattle.placing.specs.Orders.{NoneEndsTooSoon, ArePoints};
 
 use crate::cuts::Cuts;

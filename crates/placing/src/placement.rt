@@ -3,7 +3,7 @@ ghost use Rattle.std.specs.Prelude.{◌≡◌, ◌↔◌, ◌≤◌, IsTrue, IfO
 ghost use Rattle.history.specs.declared.operations.Verdict.TheVariants.{Yes};
 ghost use Rattle.history.specs.History.{verdict};
 ghost use Rattle.placing.specs.declared.answers.Placed.TheVariants.{History};
-ghost use Rattle.placing.specs.Spreading.{IsSpread};
+ghost use Rattle.placing.specs.SpreadStamps.{IsSpread};
 ghost use Rattle.placing.specs.Orders.{IsOrder};
 ghost use Rattle.placing.specs.Faults.{IsFaultless};
 ghost use Rattle.placing.specs.Answers.{IsAnswer, HasCause};

@@ -2,7 +2,7 @@
 ghost use Rattle.std.specs.Prelude.{◌≡◌, ◌≤◌, ◌<◌, ◌*◌, IfSome, IsSome, IfOk, OnOk, Some, All, map, length, slice_get};
 ghost use Rattle.std.specs.List.{Contains, AllZip};
 ghost use Rattle.std.specs.List.Sorted.{IsStrictlyIncreasing};
-ghost use Rattle.placing.specs.Spreading.{IsFirstOf, IsLastOf, IsSpreadFrom, IsPointed, IsSpread, IsOfNumbers, AddsStamps, SpreadsAll, HasRoom};
+ghost use Rattle.placing.specs.SpreadStamps.{IsFirstOf, IsLastOf, IsSpreadFrom, IsPointed, IsSpread, IsOfNumbers, AddsStamps, SpreadsAll, HasRoom};
 ghost use Rattle.placing.specs.Orders.{IsBehindFirst};
 
 use history::Stamped;

@@ -6,7 +6,7 @@ use Rattle.std.specs.List.Sorted.{IsPermutation}
 use Rattle.carriers.specs.declared.queues.Carrier.{Ghosts}
 use Rattle.carriers.specs.declared.rests.RestOf.{RestOf}
 use Rattle.carriers.specs.Knowledge.{KnownOf}
-use Rattle.carriers.specs.Closing.{ClosesOf}
+use Rattle.carriers.specs.Ends.{ClosesOf}
 use Rattle.carriers.specs.Rests.{left_in, was_shut_in, whole_in}
 use Rattle.deliveries.specs.Ends.{DeliversOf}
 use Rattle.deliveries.specs.Together.{pushed_by, popped_by}

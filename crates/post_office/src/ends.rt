@@ -2,7 +2,7 @@
 ghost use Rattle.std.specs.Prelude.{◌≡◌, ◌+◌, ◌≤◌, ◌++◌, IsTrue, nat_eq, length, map, vec_len, vec_capacity, IfErr, IfOk};
 ghost use Rattle.std.specs.List.{All, IsDistinct};
 ghost use Rattle.std.specs.List.Sorted.{IsPermutation};
-ghost use Rattle.carriers.specs.Closing.{ClosesOf};
+ghost use Rattle.carriers.specs.Ends.{ClosesOf};
 ghost use Rattle.carriers.specs.Rests.{left_in, whole_in};
 ghost use Rattle.deliveries.specs.Ends.{DeliversOf};
 ghost use Rattle.deliveries.specs.Together.{pushed_by, popped_by};

@@ -1,9 +1,9 @@
 //! An office over a new queue of nodes.
 ghost use Rattle.std.specs.Prelude.{◌≡◌, ◌⊎◌, ◌+◌, ◌++◌, ◌∷◌, [], ◌<◌, ◌≤◌, ℕ, length, map, max, min, IfErr, IfOk};
 ghost use Rattle.history.specs.Seats.{MayPop};
-ghost use Rattle.node_arena.specs.Making.{NewRefused};
+ghost use Rattle.node_arena.specs.NewArenas.{NewRefused};
 ghost use Rattle.channels.specs.Handles.{sender_seat, receiver_seat};
-ghost use Rattle.value_queue.specs.Telling.{known_by};
+ghost use Rattle.value_queue.specs.ValuesSeen.{known_by};
 ghost use Rattle.picked_values.specs.Queues.{permits_of};
 ghost use Rattle.picked_values.specs.Splits.{picked_plan};
 ghost use Rattle.post_office.specs.Offices.{office_queue, AreOf};

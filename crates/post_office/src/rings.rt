@@ -3,10 +3,10 @@ ghost use Rattle.std.specs.Prelude.{◌≡◌, ◌⊎◌, ◌+◌, ◌<◌, ◌�
 ghost use Rattle.std.specs.List.{All};
 ghost use Rattle.history.specs.Seats.{MayPop};
 ghost use Rattle.node_arena.specs.Plans.{permits_by};
-ghost use Rattle.ring_queue.specs.Making.{NewRefused};
+ghost use Rattle.ring_queue.specs.NewRings.{NewRefused};
 ghost use Rattle.value_queue.specs.Queues.{AreNewOf};
 ghost use Rattle.channels.specs.Handles.{sender_seat, receiver_seat};
-ghost use Rattle.ring_values.specs.Telling.{known_by};
+ghost use Rattle.ring_values.specs.ValuesSeen.{known_by};
 ghost use Rattle.ring_values.specs.Queues.{plan_of, permits_of, IsQueueSeat};
 ghost use Rattle.post_office.specs.Offices.{office_queue, AreOf};
 ghost use Rattle.post_office.specs.Roles.{office_roles, ring_roles_for, newcomers};

@@ -1,5 +1,5 @@
 //! The queues that run.
-ghost use Rattle.history.specs.Closing.{AsksAny};
+ghost use Rattle.history.specs.Ends.{AsksAny};
 ghost use Rattle.std.specs.List.{All};
 
 use crate::verdicts::{Verdict, judged, judged_emptied, judged_shut, judged_shut_emptied};

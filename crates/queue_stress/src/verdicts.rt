@@ -1,5 +1,5 @@
 //! What is left when the threads have ended, and whether it all adds up.
-ghost use Rattle.history.specs.Closing.{AsksAny};
+ghost use Rattle.history.specs.Ends.{AsksAny};
 ghost use Rattle.std.specs.Thread.{IsSync};
 ghost use Rattle.queue_stress.specs.Seated.{MayCall, AreFour};
 

@@ -6,7 +6,7 @@ use Rattle.std.proofs.lemmas.List.{append-nil, replicate-append-replicate}
 use Rattle.std.proofs.lemmas.List.Concat.{flat_map-append}
 use Rattle.recipe_text.specs.declared.recipes.Act.{Act}
 use Rattle.recipe_text.specs.declared.recipes.Said.{Said}
-use Rattle.recipe_text.specs.Unrolling.{Open, acts_done, open_after, repeated, unrolled}
+use Rattle.recipe_text.specs.UnrolledActs.{Open, acts_done, open_after, repeated, unrolled}
 
 -- the acts so far, and those of the lines that are left, are the same behind one more line
 pub unrolled-more : (acts more : List Act) (number : ℕ) (held next : Option Open) (said : Said) (saids : List Said) → more ≡ acts ++ acts_done number held said → next ≡ open_after number held said

@@ -1,2 +1,2 @@
 pub mod Recipes
-pub mod Unrolling
+pub mod UnrolledActs

@@ -6,7 +6,7 @@ ghost use Rattle.schedule_text.specs.Texts.{IsActor};
 ghost use Rattle.text_lines.specs.Lines.{words_of};
 ghost use Rattle.text_lines.specs.Numerals.{IsWithin};
 ghost use Rattle.text_lines.specs.Readings.{Reads, ReadsBack, ReadsLine, ReadsWords};
-ghost use Rattle.text_lines.specs.Wording.{number_words};
+ghost use Rattle.text_lines.specs.WordsLeft.{number_words};
 ghost use Rattle.recipe_text.specs.Recipes.{IsActInRange, IsActSaid, SpellsAct, SpellsEvent, said_words};
 
 use crate::recipes::{MOST_ACTS, Said};

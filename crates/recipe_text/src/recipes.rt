@@ -32,7 +32,7 @@ pub enum Said {
 impl Said {
     ghost use Rattle.std.specs.Prelude.{◌≡◌};
     ghost use Rattle.recipe_text.specs.Recipes.{is_act, says_nothing};
-    ghost use Rattle.recipe_text.specs.Unrolling.{is_end};
+    ghost use Rattle.recipe_text.specs.UnrolledActs.{is_end};
 
     /// Whether this is an act: something that actors do. Takes no memory and doesn't wait.
     pub fn is_act(&self) -> bool

@@ -1,7 +1,7 @@
 //! The acts of a recipe, each as often as it is done.
 ghost use Rattle.std.specs.Prelude.{◌≡◌, ◌++◌, ◌∷◌, [], None, IfOk, IfErr, OnOk};
 ghost use Rattle.history.specs.declared.refusals.Refusal.TheVariants.{Memory};
-ghost use Rattle.recipe_text.specs.Unrolling.{act_at, acts_done, open_after, open_of, opened_by, repeated, unrolled};
+ghost use Rattle.recipe_text.specs.UnrolledActs.{act_at, acts_done, open_after, open_of, opened_by, repeated, unrolled};
 
 use crate::recipes::{Act, Said};
 use history::{Op, Refusal};

@@ -11,10 +11,10 @@ use Rattle.history.specs.declared.refusals.Refusal.TheVariants.{Memory, Text}
 use Rattle.history.specs.declared.operations.Stamped.{Stamped}
 use Rattle.recording_text.specs.Recordings.{Recorded, texts_in, texts_of}
 use Rattle.recording_text.specs.RecordingLines.{IsFirstFaultOfRecording, HasFirstFault}
-use Rattle.recording_text.specs.Numbering.{with_texts, known_in, stamped_by}
+use Rattle.recording_text.specs.Numbers.{with_texts, known_in, stamped_by}
 use Rattle.recording_text.specs.declared.lines.ReadOperation.{ReadOperation}
 use Rattle.recording_text.specs.RecordingReading.{StandsBehind, bytes_of, said_of}
-use Rattle.recording_text.specs.Holding.{push_at, pushes_from, later_by, longer, stamped_later, StampsFit, StandsHolding, IsBeyond, IsBeyondIn, IsFaultHolding, IsHeldText, AreHeld}
+use Rattle.recording_text.specs.HeldTexts.{push_at, pushes_from, later_by, longer, stamped_later, StampsFit, StandsHolding, IsBeyond, IsBeyondIn, IsFaultHolding, IsHeldText, AreHeld}
 use Rattle.recording_text.proofs.Known.{AllAreKnown, all-known_in, history-stays, with_texts-append, length-with_texts}
 
 -- the texts of pushes

@@ -10,7 +10,7 @@ use Rattle.history.specs.declared.operations.Op.TheVariants.{Enq}
 use Rattle.history.specs.declared.operations.Reply.{Reply}
 use Rattle.history.specs.declared.operations.Reply.TheVariants.{Value as ValueReply}
 use Rattle.recording_text.specs.Recordings.{Call, Push, Pop, Shut, Told, Done, Value, Empty, Refused, Closed, Recorded, text_of_call, text_of_told, texts_in, texts_of}
-use Rattle.recording_text.specs.Numbering.{with_text, with_texts, known_in, number_in, op_by, reply_by, stamped_by}
+use Rattle.recording_text.specs.Numbers.{with_text, with_texts, known_in, number_in, op_by, reply_by, stamped_by}
 
 -- a text is among some
 abbrev pub IsKnown : List (List ℕ) → List ℕ → Type 0

@@ -2,7 +2,7 @@
 use Rattle.std.proofs.Common.{◌≡◌, ℕ, ◌+◌, List, [], ◌∷◌, ◌++◌, map, Bool, true, false, not, cond, ◌||◌, if◌then◌else◌, refl, ap, ◌∙◌, bytes_eq, Bor}
 use Rattle.std.specs.List.{list_any, position_or_len}
 use Rattle.std.proofs.lemmas.List.{map-append}
-use Rattle.recording_text.specs.Numbering.{with_text}
+use Rattle.recording_text.specs.Numbers.{with_text}
 use Rattle.recording_text.specs.RecordingReading.{bytes_of}
 
 -- a test of the bytes of words is one of the words

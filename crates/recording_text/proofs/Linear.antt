@@ -15,7 +15,7 @@ use Rattle.history.specs.History.{answer, AgreesWithQueue}
 use Rattle.history.specs.Linearizability as linear
 use Rattle.history.specs.Linearizability.{Answered, IsLinearizable}
 use Rattle.recording_text.specs.Recordings.{Call, Push, Pop, Shut, Told, Done, Value, Empty, Refused, Closed, Recorded, text_of_call, text_of_told, texts_in}
-use Rattle.recording_text.specs.Numbering.{known_in, number_in, value_by, op_by, reply_by, stamped_by, history_of}
+use Rattle.recording_text.specs.Numbers.{known_in, number_in, value_by, op_by, reply_by, stamped_by, history_of}
 use Rattle.recording_text.specs.TextQueues.{TextQueue, no_texts, text_response, queue_after, Tells, AnsweredOperation, operations_of, IsPending}
 use Rattle.recording_text.specs.TextQueues.{TellsRecordedReply, MayComeBefore, KeepsTime, IsRun, IsLinearizableRecording}
 use Rattle.recording_text.proofs.EachOf.{parts, together}

@@ -11,7 +11,7 @@ use Rattle.std.proofs.lemmas.List.Sorted.{IsPermutation-keeps, All-permutation, 
 use Rattle.recording_text.specs.Recordings.{Push, Done, Recorded}
 use Rattle.recording_text.specs.RecordingLines.{IsInTime, IsReadable, IsRecordingInRange}
 use Rattle.recording_text.specs.TextQueues.{TextQueue, queue_after, AnsweredOperation, operations_of, IsPending, TellsRecordedReply, MayComeBefore, KeepsTime, IsRun, IsLinearizableRecording}
-use Rattle.recording_text.specs.Holding.{holding, IsLinearizableFrom, push_at, pushes_from, later_by, longer}
+use Rattle.recording_text.specs.HeldTexts.{holding, IsLinearizableFrom, push_at, pushes_from, later_by, longer}
 use Rattle.recording_text.proofs.EachOf.{parts, together, weaker}
 use Rattle.recording_text.proofs.Known.{by_recursion, from_recursion}
 

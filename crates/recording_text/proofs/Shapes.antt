@@ -8,7 +8,7 @@ use Rattle.history.specs.declared.operations.Reply.{Reply}
 use Rattle.history.specs.declared.operations.Reply.TheVariants.{Done as DoneReply, Value as ValueReply, Empty as EmptyReply, Refused as RefusedReply}
 use Rattle.history.specs.declared.operations.Stamped.{Stamped}
 use Rattle.recording_text.specs.Recordings.{Call, Push, Pop, Shut, Told, Done, Value, Empty, Refused, Closed, Recorded, text_of_call, text_of_told, texts_in, texts_of}
-use Rattle.recording_text.specs.Numbering.{known_in, number_in, op_by, reply_by, stamped_by, history_of}
+use Rattle.recording_text.specs.Numbers.{known_in, number_in, op_by, reply_by, stamped_by, history_of}
 use Rattle.recording_text.specs.Shapes.{shape_of_call, shape_of_told, shape_of, numbers_of}
 
 -- the call that an operation of a history stands for, and the numbers in it

@@ -14,7 +14,7 @@ use Rattle.history.specs.declared.refusals.Refusal.{Refusal}
 use Rattle.history.specs.declared.refusals.Refusal.TheVariants.{Memory, Text}
 use Rattle.history.specs.declared.operations.Stamped.{Stamped}
 use Rattle.recording_text.specs.Recordings.{Recorded, texts_in, texts_of}
-use Rattle.recording_text.specs.Numbering.{with_texts, stamped_by}
+use Rattle.recording_text.specs.Numbers.{with_texts, stamped_by}
 use Rattle.recording_text.specs.RecordingLines.{RecordingLine, Version, Count, Operation, VersionDue, CountDue, Operations, is_line_due, version_line}
 use Rattle.recording_text.specs.RecordingLines.{IsReadable, IsFirstFaultOfRecording, HasFirstFault, recording_grammar, recording_text}
 use Rattle.recording_text.specs.RecordingReading.{AddsOperation, IsWrongOperation, IsAfterCount, SaysCount, IsCount, StandsFor, StandsBehind}

@@ -1,7 +1,7 @@
 pub mod Recordings
 pub mod RecordingLines
-pub mod Numbering
+pub mod Numbers
 pub mod Shapes
 pub mod TextQueues
 pub mod RecordingReading
-pub mod Holding
+pub mod HeldTexts

@@ -18,7 +18,7 @@ use Rattle.recording_text.specs.declared.lines.ReadOperation.{ReadOperation}
 use Rattle.recording_text.specs.Recordings.{Call, Push, Pop, Shut, Told, Done, Value, Empty, Refused, Closed, Recorded, texts_in, texts_of}
 use Rattle.recording_text.specs.RecordingLines.{version_line, call_words, told_words, operation_words, IsText, IsTextCall, IsTextTold, IsSayable}
 use Rattle.recording_text.specs.RecordingLines.{IsShortText, IsCallInRange, IsToldInRange, IsOperationInRange, IsRecordingInRange, recording_text}
-use Rattle.recording_text.specs.Numbering.{stamped_by, with_texts, history_of}
+use Rattle.recording_text.specs.Numbers.{stamped_by, with_texts, history_of}
 
 -- the call that was read
 abbrev pub said_call : ReadCall → Call

@@ -1,7 +1,7 @@
 -- What a history tells of a recording that it stands for: all but the names, and which texts its values are.
 use Rattle.std.specs.Prelude.{ℕ, List, [], Option, None, Some, map}
 use Rattle.recording_text.specs.Recordings.{Call, Push, Pop, Shut, Told, Done, Value, Empty, Refused, Closed, Recorded, texts_of}
-use Rattle.recording_text.specs.Numbering.{known_in, number_in}
+use Rattle.recording_text.specs.Numbers.{known_in, number_in}
 
 -- a call without its text
 abbrev pub shape_of_call : Call → Call

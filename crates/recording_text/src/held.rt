@@ -1,9 +1,9 @@
 //! The history of a recording of a queue that holds texts at the start.
 ghost use Rattle.std.specs.Prelude.{◌≡◌, ◌≤◌, ◌++◌, [], IfErr, IfOk, MatchOption, OnOk, length, map};
-ghost use Rattle.recording_text.specs.Numbering.{stamped_by, with_texts};
+ghost use Rattle.recording_text.specs.Numbers.{stamped_by, with_texts};
 ghost use Rattle.recording_text.specs.RecordingReading.{bytes_of, known_by, said_of};
-ghost use Rattle.recording_text.specs.Holding as texts;
-ghost use Rattle.recording_text.specs.Holding.{StandsHolding, IsFaultHolding, IsBeyondIn, HasRoom, pushes_from, push_at, stamped_later};
+ghost use Rattle.recording_text.specs.HeldTexts as texts;
+ghost use Rattle.recording_text.specs.HeldTexts.{StandsHolding, IsFaultHolding, IsBeyondIn, HasRoom, pushes_from, push_at, stamped_later};
 
 use crate::numbers::numbered;
 use crate::readers::{parse_behind, push_to};

@@ -3,10 +3,10 @@ ghost use Rattle.std.specs.Prelude.{◌≡◌, ◌≢◌, ◌↔◌, ℕ, List, 
 ghost use Rattle.history.specs.declared.text_causes.TextCause.{TextCause};
 ghost use Rattle.history.specs.Linearizability.{IsLinearizable};
 ghost use Rattle.recording_text.specs.Recordings.{Recorded, texts_of};
-ghost use Rattle.recording_text.specs.Numbering.{known_in, number_in, history_of};
+ghost use Rattle.recording_text.specs.Numbers.{known_in, number_in, history_of};
 ghost use Rattle.recording_text.specs.RecordingLines.{recording_text, IsRecordingInRange, HasFirstFault};
 ghost use Rattle.recording_text.specs.Shapes.{shape_of, numbers_of};
-ghost use Rattle.recording_text.specs.Holding.{holding, longer, IsLinearizableFrom};
+ghost use Rattle.recording_text.specs.HeldTexts.{holding, longer, IsLinearizableFrom};
 ghost use Rattle.recording_text.specs.TextQueues.{IsLinearizableRecording};
 
 /// A text is that of one recording in range at most.

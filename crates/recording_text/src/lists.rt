@@ -1,7 +1,7 @@
 //! Lists of texts, with commas between them.
 ghost use Rattle.std.specs.Prelude.{◌≡◌, All, IfOk, MatchBool, MatchOption, map};
 ghost use Rattle.recording_text.specs.RecordingReading.{bytes_of};
-ghost use Rattle.recording_text.specs.Holding.{AreHeld, IsHeldText, listed};
+ghost use Rattle.recording_text.specs.HeldTexts.{AreHeld, IsHeldText, listed};
 
 use crate::lines::{LONGEST_TEXT, are_text_bytes};
 use std::alloc::{AllocError, Global};

@@ -1,6 +1,6 @@
 //! Texts as numbers, by the order in which they first occur.
 ghost use Rattle.std.specs.Prelude.{◌≡◌, ◌≤◌, IfErr, IfOk, OnOk, length, option_map};
-ghost use Rattle.recording_text.specs.Numbering.{number_in, op_by, reply_by, stamped_by, with_text, with_texts};
+ghost use Rattle.recording_text.specs.Numbers.{number_in, op_by, reply_by, stamped_by, with_text, with_texts};
 ghost use Rattle.recording_text.specs.Recordings.{text_of_call, text_of_told, texts_in};
 ghost use Rattle.recording_text.specs.RecordingReading.{said_of, said_call, said_told, known_by};
 

@@ -10,7 +10,7 @@ use Rattle.std.proofs.lemmas.Bool.{leb-false}
 use Rattle.history.specs.declared.operations.Stamped.{Stamped}
 use Rattle.history.specs.declared.operations.Op.TheVariants.{Deq}
 use Rattle.history.specs.History.{point_or_zero, inserted, by_point}
-use Rattle.history.specs.Checking.{shown, numbered}
+use Rattle.history.specs.Tables.{shown, numbered}
 use Rattle.history.specs.Order.{Rises}
 use Rattle.history.proofs.Ordered.{rising_rises}
 use Rattle.report.proofs.StableSort.{filter-map, Ascends, ascends, sorted_once}

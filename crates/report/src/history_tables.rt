@@ -3,7 +3,7 @@ ghost use Rattle.std.specs.Prelude.{◌≡◌, ◌++◌, ◌⊎◌, OnOk, IfErr,
 ghost use Rattle.std.specs.Io.KnownBytes.{Appends};
 ghost use Rattle.std.specs.List.{flat_map};
 ghost use Rattle.text_io.specs.Blocks.{TakesPrefix, GivesUp, Puts, Writes};
-ghost use Rattle.history.specs.Checking.{shown};
+ghost use Rattle.history.specs.Tables.{shown};
 ghost use Rattle.report.specs.HistoryTable.{row_text, count_text, table_text, history_table_text};
 
 use crate::counts::counts_of;

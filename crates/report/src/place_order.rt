@@ -1,7 +1,7 @@
 //! Operations by rising place.
 ghost use Rattle.std.specs.Prelude.{◌≡◌, filter, map, is_some, IfOk, IfErr};
 ghost use Rattle.history.specs.History.{by_point};
-ghost use Rattle.history.specs.Checking.{shown, numbered};
+ghost use Rattle.history.specs.Tables.{shown, numbered};
 
 use history::{Refusal, Stamped};
 use std::alloc::Global;

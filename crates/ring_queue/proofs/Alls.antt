@@ -6,7 +6,7 @@ use Rattle.std.proofs.lemmas.List.{length-map}
 use Rattle.std.proofs.lemmas.Map.Steps.{length-le_from_distinct_below}
 use Rattle.std.proofs.lemmas.Option.{none-some, same_Some, slice_get_within}
 use Rattle.atomic_table.specs.Seated.{TableId}
-use Rattle.history.specs.Closing.{AreAll}
+use Rattle.history.specs.Ends.{AreAll}
 use Rattle.ring_queue.specs.declared.seats.Seat.{Seat}
 use Rattle.ring_queue.specs.Plans.{Layout, permit_of, permits_of}
 use Rattle.ring_queue.specs.Seats.{IsReady, known_of, view}

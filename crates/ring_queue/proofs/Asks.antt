@@ -7,7 +7,7 @@ use Rattle.history.specs.declared.operations.Entry.TheVariants.{Shut}
 use Rattle.node_arena.specs.Deeds.{closed}
 use Rattle.ring_queue.specs.declared.seats.Seat.{Seat}
 use Rattle.ring_queue.specs.Plans.{Layout, IsTable, words_of}
-use Rattle.ring_queue.specs.Seeing.{SeatView, seated, knows}
+use Rattle.ring_queue.specs.Knowledge.{SeatView, seated, knows}
 use Rattle.ring_queue.specs.Beside.{Beside, EffectBy, HoldsBy, IsReadyBy, Moves, Stays, TellsBeside, TellsQuiet}
 use Rattle.ring_queue.specs.Seats.{view, Sits}
 use Rattle.ring_queue.proofs.Calls.{Does}

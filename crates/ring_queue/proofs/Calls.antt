@@ -8,7 +8,7 @@ use Rattle.history.specs.declared.operations.Entry.{Entry}
 use Rattle.history.specs.declared.operations.Taken.{Taken}
 use Rattle.ring_queue.specs.Words.{face, slot_word}
 use Rattle.ring_queue.specs.Plans.{Layout}
-use Rattle.ring_queue.specs.Seeing.{SeatView, claimed, found}
+use Rattle.ring_queue.specs.Knowledge.{SeatView, claimed, found}
 use Rattle.ring_queue.specs.Rule.{put, Ring}
 use Rattle.ring_queue.specs.Steps.{Rests, PlaceFilled, FrontFound, NextFound}
 use Rattle.ring_queue.specs.Seats.{view, Sits}

@@ -19,14 +19,14 @@ use Rattle.history.specs.Entries.{IsQueueRun}
 use Rattle.node_arena.specs.Beside.{flag_at, home_at}
 use Rattle.node_arena.specs.Deeds.{Item, item, Deed, pushed, popped, closed, Runs, Matches}
 use Rattle.node_arena.specs.Slots.{Changes, Slotted, item_of}
-use Rattle.node_arena.specs.Riding.{Rides}
+use Rattle.node_arena.specs.ValueHistories.{Rides}
 use Rattle.node_arena.proofs.Slotting.{acquires, releases}
 use Rattle.node_arena.proofs.Riding.{rides_push, rides_pop, rides_shut, rides_same, runs_first}
 use Rattle.node_arena.proofs.Lifts.{map_set}
 use Rattle.node_arena.proofs.Loads.{runs_to_pop}
 use Rattle.node_arena.proofs.KnownValues.{all_on}
 use Rattle.ring_queue.specs.Plans.{Layout, words_of}
-use Rattle.ring_queue.specs.Seeing.{SeatView, View, seated, knows}
+use Rattle.ring_queue.specs.Knowledge.{SeatView, View, seated, knows}
 use Rattle.ring_queue.specs.Rule.{Ring, put}
 use Rattle.ring_queue.specs.Beside.{Beside, plain_of, plain_state, hand_in, hand_at, Begins, Carried, HoldsValues, KnowsValues, Effect, IsReadyFor}
 use Rattle.ring_queue.proofs.Tables.{HoldsWith, Extends, its_seat, one_seat}

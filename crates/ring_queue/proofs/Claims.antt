@@ -12,7 +12,7 @@ use Rattle.history.specs.Entries.{Leads, LeadsToShut, own_entries, is_pop}
 use Rattle.history.specs.Seats.{IsNoted, IsPermitted}
 use Rattle.ring_queue.specs.Words.{tail_word}
 use Rattle.ring_queue.specs.Plans.{Layout, permits_of}
-use Rattle.ring_queue.specs.Seeing.{claimed, SeatView}
+use Rattle.ring_queue.specs.Knowledge.{claimed, SeatView}
 use Rattle.ring_queue.specs.Rule.{HasClaimed, Cell, Log, SeatOk, total, put, Ring}
 use Rattle.ring_queue.specs.Steps.{Rests, contents, pushes, AreSmall, PlacesClaimed}
 use Rattle.ring_queue.proofs.Puts.{got_snoc, set_twice, put_twice, same_or_not, put_here, put_else, total-put}

@@ -5,20 +5,20 @@ use Rattle.std.proofs.lemmas.List.{length-map}
 use Rattle.atomic_table.specs.Table.{Final, Seen}
 use Rattle.history.specs.declared.rests.Rest.{Rest}
 use Rattle.history.specs.Rests.{left_of, taken_of, whole_of, was_shut_of}
-use Rattle.history.specs.Closing.{Closes}
+use Rattle.history.specs.Ends.{Closes}
 use Rattle.node_arena.specs.Beside.{AllBegin}
 use Rattle.node_arena.specs.Deeds.{Deed}
 use Rattle.ring_queue.specs.declared.queue.RingQueue.{RingQueue}
 use Rattle.ring_queue.specs.declared.seats.Seat.{Seat}
 use Rattle.ring_queue.specs.Plans.{permit_of}
-use Rattle.ring_queue.specs.Seeing.{gathered}
+use Rattle.ring_queue.specs.Knowledge.{gathered}
 use Rattle.ring_queue.specs.Steps.{Rests}
 use Rattle.ring_queue.specs.Beside.{Beside, HoldsBy}
 use Rattle.ring_queue.specs.Seats.{known_of, view}
 use Rattle.ring_queue.specs.Queues.{IsQueueSeat, IsRingSeat, permits_in}
 use Rattle.ring_queue.specs.Moments.{head_in, tail_in}
 use Rattle.ring_queue.specs.Remains.{values_from, HasWords, was_shut_in}
-use Rattle.ring_queue.specs.Closing.{ClosesValues, EachBegins}
+use Rattle.ring_queue.specs.Ends.{ClosesValues, EachBegins}
 use Rattle.ring_queue.proofs.Alls.{are_all}
 use Rattle.ring_queue.proofs.RingEnds.{closes_all, has_words, head_is_low, few_left}
 use Rattle.ring_queue.proofs.Tokens.{carries_none, ends_alone}

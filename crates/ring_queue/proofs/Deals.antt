@@ -14,10 +14,10 @@ use Rattle.atomic_table.specs.Seated.{TableId}
 use Rattle.ring_queue.specs.declared.roles.Role.{Role}
 use Rattle.ring_queue.specs.declared.queue.RingQueue.{RingQueue}
 use Rattle.ring_queue.specs.declared.seats.Seat.{Seat}
-use Rattle.ring_queue.specs.Making.{IsDealt, AreDealt, HasSlots, IsMade, IsMadeFor}
+use Rattle.ring_queue.specs.NewRings.{IsDealt, AreDealt, HasSlots, IsMade, IsMadeFor}
 use Rattle.ring_queue.specs.Words.{parity, slot_word}
 use Rattle.ring_queue.specs.Plans.{Layout, IsPlanned, permits_of}
-use Rattle.ring_queue.specs.Seeing.{SeatView, View, keeper, seated, members, new_seat, known_by, dealt_left, dealt_right}
+use Rattle.ring_queue.specs.Knowledge.{SeatView, View, keeper, seated, members, new_seat, known_by, dealt_left, dealt_right}
 use Rattle.ring_queue.specs.Rule.{put, total, Ring, Holds, first_view}
 use Rattle.ring_queue.proofs.Puts.{put_here, put_else, total_bound}
 use Rattle.ring_queue.proofs.Keeps.{cell}

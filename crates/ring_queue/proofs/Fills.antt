@@ -10,7 +10,7 @@ use Rattle.history.specs.Seats.{IsNoted}
 use Rattle.history.specs.Answers.{Adds, FoundShut}
 use Rattle.ring_queue.specs.Words.{face, slot_word}
 use Rattle.ring_queue.specs.Plans.{Layout}
-use Rattle.ring_queue.specs.Seeing.{standing, Stage, claimed, SeatView, known_by}
+use Rattle.ring_queue.specs.Knowledge.{standing, Stage, claimed, SeatView, known_by}
 use Rattle.ring_queue.specs.Rule.{Cell, Log, SeatOk, HasClaimed, Stands, put, Ring}
 use Rattle.ring_queue.proofs.Puts.{put_else}
 use Rattle.ring_queue.specs.Steps.{next_stage, PlaceFilled}

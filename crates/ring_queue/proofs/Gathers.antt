@@ -6,7 +6,7 @@ use Rattle.atomic_table.specs.Table.{Joins, Enters}
 use Rattle.atomic_table.proofs.Lists.{at_set, set_else}
 use Rattle.history.specs.declared.operations.Entry.{Entry}
 use Rattle.ring_queue.specs.Plans.{Layout}
-use Rattle.ring_queue.specs.Seeing.{SeatView, View, keeper, gathered, seated, spent, members}
+use Rattle.ring_queue.specs.Knowledge.{SeatView, View, keeper, gathered, seated, spent, members}
 use Rattle.ring_queue.specs.Rule.{put, Holds}
 use Rattle.ring_queue.proofs.Puts.{put_here, put_else}
 use Rattle.ring_queue.proofs.Tables.{HoldsWith}

@@ -17,7 +17,7 @@ use Rattle.node_arena.specs.Beside.{slots_in}
 use Rattle.node_arena.proofs.Lifts.{none_held, none_hand}
 use Rattle.ring_queue.specs.declared.seats.Seat.{Seat}
 use Rattle.ring_queue.specs.Plans.{Layout, IsTable, words_of, slots_of, permits_of}
-use Rattle.ring_queue.specs.Seeing.{SeatView, seated, knows, known_by}
+use Rattle.ring_queue.specs.Knowledge.{SeatView, seated, knows, known_by}
 use Rattle.ring_queue.specs.Steps.{Rests}
 use Rattle.ring_queue.specs.Beside.{Beside, CarriedBy, HoldsValues, HoldsBy, KnowsBy, KnowsNow, with_hand}
 use Rattle.ring_queue.specs.Seats.{IsReady, HasNoSlot, view}

@@ -13,7 +13,7 @@ use Rattle.history.specs.Entries.{own_entries, is_pop, Leads}
 use Rattle.history.specs.Seats.{IsPermitted}
 use Rattle.ring_queue.specs.Words.{face, slot_word, tail_word}
 use Rattle.ring_queue.specs.Plans.{Layout, reserve, permits_of}
-use Rattle.ring_queue.specs.Seeing.{Stage, rests, saw, claimed, found, SeatView}
+use Rattle.ring_queue.specs.Knowledge.{Stage, rests, saw, claimed, found, SeatView}
 use Rattle.ring_queue.specs.Rule.{Cell, Log, FitsWord, Lies, CellOk, HasClaimed, IsFilled, Stands, SeatOk, FillerStands, total, put, Ring}
 use Rattle.ring_queue.specs.Steps.{Rests}
 use Rattle.ring_queue.proofs.Numbers.{same_place}

@@ -4,7 +4,7 @@ use Rattle.history.specs.declared.operations.Entry.{Entry}
 use Rattle.node_arena.specs.Beside.{slots_in}
 use Rattle.node_arena.specs.Deeds.{Deed, Runs, Matches}
 use Rattle.ring_queue.specs.Plans.{Layout}
-use Rattle.ring_queue.specs.Seeing.{knows}
+use Rattle.ring_queue.specs.Knowledge.{knows}
 use Rattle.ring_queue.specs.Beside.{Beside, KnowsBy, KnowsNow}
 
 -- a seat that has seen nothing

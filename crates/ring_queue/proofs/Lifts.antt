@@ -15,11 +15,11 @@ use Rattle.node_arena.specs.Slots.{item_of}
 use Rattle.node_arena.proofs.Lifts.{map_set}
 use Rattle.node_arena.proofs.Riding.{rides_same}
 use Rattle.ring_queue.specs.Plans.{Layout, words_of}
-use Rattle.ring_queue.specs.Seeing.{SeatView, View, gathered, seated, paired, knows}
+use Rattle.ring_queue.specs.Knowledge.{SeatView, View, gathered, seated, paired, knows}
 use Rattle.ring_queue.specs.Rule.{Holds}
 use Rattle.ring_queue.specs.Beside.{Beside, plain_of, plain_state, hand_in, hand_at, Begins, Carried, CarriedBy, HoldsFor, HoldsValues, IsReadyBy}
 use Rattle.ring_queue.specs.Beside.{TellsBeside, MeetsBeside, alone, first_beside_of, second_beside_of}
-use Rattle.ring_queue.specs.Meeting.{learned}
+use Rattle.ring_queue.specs.Meets.{learned}
 use Rattle.ring_queue.proofs.Tables.{HoldsWith, its_seat, one_seat}
 use Rattle.ring_queue.proofs.Calls.{Does}
 use Rattle.ring_queue.proofs.Deals.{at_end}

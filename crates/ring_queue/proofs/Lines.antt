@@ -13,7 +13,7 @@ use Rattle.history.specs.Answers.{SeesMore, FoundShut, FoundEmpty, FoundShutEmpt
 use Rattle.history.proofs.Sums.{pushes-Leads}
 use Rattle.ring_queue.specs.Words.{payload, face, parity, slot_word, tail_word}
 use Rattle.ring_queue.specs.Plans.{Layout, reserve}
-use Rattle.ring_queue.specs.Seeing.{Stage, rests, saw, found, SeatView, known_by}
+use Rattle.ring_queue.specs.Knowledge.{Stage, rests, saw, found, SeatView, known_by}
 use Rattle.ring_queue.specs.Rule.{IsFilled, Lies, CellOk, SeatOk, Stands, total, put, Ring}
 use Rattle.ring_queue.specs.Steps.{Rests, IsAhead, LeadsToSome, HoldsSoMany, TailFound, TailSeen, HeadFound, MarkFound, FrontFound, NextFound, EndFound}
 use Rattle.ring_queue.proofs.Numbers.{same_place, parity_turns, face_parity, face_payload, payload_none}

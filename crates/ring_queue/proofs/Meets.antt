@@ -7,9 +7,9 @@ use Rattle.atomic_table.proofs.Lists.{at_set, set_else, set_again}
 use Rattle.history.specs.declared.operations.Entry.{Entry}
 use Rattle.history.specs.Answers.{SeesMore}
 use Rattle.ring_queue.specs.Plans.{Layout}
-use Rattle.ring_queue.specs.Seeing.{Stage, rests, saw, claimed, found, SeatView, View, keeper, seated, paired, spent, members, known_by}
+use Rattle.ring_queue.specs.Knowledge.{Stage, rests, saw, claimed, found, SeatView, View, keeper, seated, paired, spent, members, known_by}
 use Rattle.ring_queue.specs.Rule.{HasClaimed, Stands, SeatOk, total, put, Ring, Holds}
-use Rattle.ring_queue.specs.Meeting.{learned, Met}
+use Rattle.ring_queue.specs.Meets.{learned, Met}
 use Rattle.ring_queue.proofs.Keeps.{renewed}
 use Rattle.ring_queue.proofs.Puts.{put_here, put_else, put_each, total_same}
 use Rattle.ring_queue.proofs.Tables.{HoldsWith, one_of, it_fits, it_is_sound, notes_stay, saw_all, head_below}

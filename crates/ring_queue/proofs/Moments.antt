@@ -7,7 +7,7 @@ use Rattle.history.specs.declared.operations.Taken.{Taken}
 use Rattle.history.proofs.Values.{pushed-Leads}
 use Rattle.ring_queue.specs.Words.{face, parity, slot_word, tail_word}
 use Rattle.ring_queue.specs.Plans.{Layout}
-use Rattle.ring_queue.specs.Seeing.{Stage, rests, saw, claimed, found, SeatView}
+use Rattle.ring_queue.specs.Knowledge.{Stage, rests, saw, claimed, found, SeatView}
 use Rattle.ring_queue.specs.Rule.{Cell, Lies, HasClaimed, Stands, FillerStands, Ring}
 use Rattle.ring_queue.proofs.Numbers.{same_place, face_parity}
 use Rattle.ring_queue.proofs.Keeps.{cell, some_slot}

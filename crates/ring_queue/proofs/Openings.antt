@@ -10,10 +10,10 @@ use Rattle.ring_queue.specs.declared.roles.Role.{Role}
 use Rattle.ring_queue.specs.declared.queue.RingQueue.{RingQueue}
 use Rattle.ring_queue.specs.declared.seats.Seat.{Seat}
 use Rattle.ring_queue.specs.Plans.{permit_of, permits_by}
-use Rattle.ring_queue.specs.Seeing.{known_by}
+use Rattle.ring_queue.specs.Knowledge.{known_by}
 use Rattle.ring_queue.specs.Seats.{known_of}
 use Rattle.ring_queue.specs.Queues.{IsQueueSeat, permits_in}
-use Rattle.ring_queue.specs.Making.{IsMade}
+use Rattle.ring_queue.specs.NewRings.{IsMade}
 
 -- what holds at each place of a list holds of all
 all_places : {A : Type 0} (P : A → Type 0) (xs : List A) → ((k : ℕ) (x : A) → slice_get xs k ≡ Some x → P x) → All P xs

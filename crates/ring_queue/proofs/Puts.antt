@@ -4,7 +4,7 @@ use Rattle.std.proofs.Common.{◌≤◌, if◌then◌else◌, sym, refl, ap, sub
 use Rattle.std.proofs.lemmas.Bool.{eq-eqb}
 use mathlib.Core.Logic.{dite}
 use native.Mathlib.Decide.{dec_le}
-use Rattle.ring_queue.specs.Seeing.{SeatView}
+use Rattle.ring_queue.specs.Knowledge.{SeatView}
 use Rattle.ring_queue.specs.Rule.{put, total}
 
 -- two numbers are one, or not

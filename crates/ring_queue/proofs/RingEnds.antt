@@ -16,12 +16,12 @@ use Rattle.history.specs.Entries.{own_entries, is_push, is_pop, is_shut, Leads}
 use Rattle.history.specs.declared.operations.Entry.{Entry}
 use Rattle.history.specs.Seats.{Known, Permit, IsPermitted}
 use Rattle.history.specs.Rests.{left_of, taken_of, whole_of, was_shut_of}
-use Rattle.history.specs.Closing.{pushes_of, pops_of, shuts_of, AreAll, Closes}
+use Rattle.history.specs.Ends.{pushes_of, pops_of, shuts_of, AreAll, Closes}
 use Rattle.history.proofs.Sums.{AreApart, pushes-Leads, shut_by_one, made-all, made-le, theirs, closes}
 use Rattle.ring_queue.specs.declared.seats.Seat.{Seat}
 use Rattle.ring_queue.specs.Words.{payload, face, tail_word}
 use Rattle.ring_queue.specs.Plans.{Layout, permit_of, permits_of}
-use Rattle.ring_queue.specs.Seeing.{SeatView, View, gathered}
+use Rattle.ring_queue.specs.Knowledge.{SeatView, View, gathered}
 use Rattle.ring_queue.specs.Rule.{FitsWord, Lies, FillerStands, Ring, Holds}
 use Rattle.ring_queue.specs.Steps.{Rests, taken_in}
 use Rattle.ring_queue.specs.Seats.{known_of, view}

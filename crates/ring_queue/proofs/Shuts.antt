@@ -9,7 +9,7 @@ use Rattle.history.specs.Seats.{IsNoted, IsPermitted}
 use Rattle.history.specs.Answers.{Adds, FoundShut}
 use Rattle.ring_queue.specs.Words.{tail_word}
 use Rattle.ring_queue.specs.Plans.{Layout, permits_of}
-use Rattle.ring_queue.specs.Seeing.{Stage, rests, SeatView, known_by}
+use Rattle.ring_queue.specs.Knowledge.{Stage, rests, SeatView, known_by}
 use Rattle.ring_queue.specs.Rule.{Cell, Log, SeatOk, Stands, put, Ring}
 use Rattle.ring_queue.specs.Steps.{Rests, ShutMade}
 use Rattle.ring_queue.proofs.Histories.{own_one, all_noted_more, noted_shut, all_one_note}

@@ -9,7 +9,7 @@ use Rattle.history.specs.declared.operations.Entry.{Entry}
 use Rattle.history.specs.Entries.{own_entries, Leads}
 use Rattle.history.specs.Seats.{IsSound, IsNoted, IsPermitted}
 use Rattle.ring_queue.specs.Plans.{Layout, permits_of}
-use Rattle.ring_queue.specs.Seeing.{SeatView, View, keeper, seated, members, known_by}
+use Rattle.ring_queue.specs.Knowledge.{SeatView, View, keeper, seated, members, known_by}
 use Rattle.ring_queue.specs.Rule.{Stands, SeatOk, total, put, Ring, Holds}
 use Rattle.ring_queue.specs.Steps.{Rests, Learns}
 use Rattle.ring_queue.proofs.Puts.{put_here, put_else, put_each, total_same}

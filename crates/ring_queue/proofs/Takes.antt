@@ -13,7 +13,7 @@ use Rattle.history.specs.Entries.{own_entries}
 use Rattle.history.specs.Seats.{IsPermitted}
 use Rattle.ring_queue.specs.Words.{payload, face}
 use Rattle.ring_queue.specs.Plans.{Layout, permits_of}
-use Rattle.ring_queue.specs.Seeing.{rests, found, SeatView}
+use Rattle.ring_queue.specs.Knowledge.{rests, found, SeatView}
 use Rattle.ring_queue.specs.Rule.{IsFilled, SeatOk, Stands, put, Ring}
 use Rattle.ring_queue.specs.Steps.{Rests, taken_in, AreValues, pops, FrontsTaken}
 use Rattle.ring_queue.proofs.Numbers.{face_payload, payload_some}

@@ -17,12 +17,12 @@ use Rattle.ring_queue.specs.declared.roles.Role.{Role}
 use Rattle.ring_queue.specs.declared.queue.RingQueue.{RingQueue}
 use Rattle.ring_queue.specs.declared.seats.Seat.{Seat}
 use Rattle.ring_queue.specs.Plans.{Layout, IsPlanned, IsTable, words_of, slots_of, permits_of}
-use Rattle.ring_queue.specs.Seeing.{SeatView, View, keeper, gathered, seated, paired, spent, new_seat, knows, known_by, both_of, first_of, second_of, dealt_left, dealt_right}
+use Rattle.ring_queue.specs.Knowledge.{SeatView, View, keeper, gathered, seated, paired, spent, new_seat, knows, known_by, both_of, first_of, second_of, dealt_left, dealt_right}
 use Rattle.ring_queue.specs.Rule.{Holds}
 use Rattle.ring_queue.specs.Steps.{Rests}
 use Rattle.ring_queue.specs.Beside.{Beside, HasNone, HoldsBy, MeetsBeside, OpensBeside, left_dealt, right_dealt, left_as_it_is, knows_nothing, both_beside, first_beside_of, second_beside_of}
-use Rattle.ring_queue.specs.Making.{IsDealt}
-use Rattle.ring_queue.specs.Closing.{HasToken, HasGathered}
+use Rattle.ring_queue.specs.NewRings.{IsDealt}
+use Rattle.ring_queue.specs.Ends.{HasToken, HasGathered}
 use Rattle.ring_queue.specs.Seats.{HasNoSlot, deeds_of, view}
 use Rattle.ring_queue.specs.Queues.{IsQueueSeat, IsRingSeat}
 use Rattle.ring_queue.proofs.Tables.{HoldsWith}

@@ -10,9 +10,9 @@ use Rattle.node_arena.specs.Slots.{free}
 use Rattle.node_arena.specs.Beside.{flag_at}
 use Rattle.ring_queue.specs.Words.{slot_word}
 use Rattle.ring_queue.specs.Plans.{Layout, IsPlanned, IsTable, words_of, slots_of}
-use Rattle.ring_queue.specs.Seeing.{SeatView, keeper, seated, paired}
+use Rattle.ring_queue.specs.Knowledge.{SeatView, keeper, seated, paired}
 use Rattle.ring_queue.specs.Rule.{Holds, first_view}
-use Rattle.ring_queue.specs.Making.{AreFirst}
+use Rattle.ring_queue.specs.NewRings.{AreFirst}
 use Rattle.ring_queue.specs.Beside.{Beside, hand_at, Begins, CarriedBy, HoldsBy, first_beside}
 use Rattle.ring_queue.proofs.Deals.{opened}
 

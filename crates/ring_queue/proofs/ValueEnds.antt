@@ -13,25 +13,25 @@ use Rattle.history.specs.declared.rests.Rest.{Rest}
 use Rattle.history.specs.Queue.{Queue, empty}
 use Rattle.history.specs.Entries.{Leads}
 use Rattle.history.specs.Rests.{left_of, taken_of, whole_of, was_shut_of}
-use Rattle.history.specs.Closing.{AreAll}
+use Rattle.history.specs.Ends.{AreAll}
 use Rattle.node_arena.specs.Deeds.{Deed, Runs, Matches}
 use Rattle.node_arena.specs.Slots.{Lying, Place, queued, item_of}
-use Rattle.node_arena.specs.Riding.{number_of}
+use Rattle.node_arena.specs.ValueHistories.{number_of}
 use Rattle.node_arena.specs.Beside.{AllBegin}
-use Rattle.node_arena.specs.Lying.{values_of, all_lie}
+use Rattle.node_arena.specs.ValuesLeft.{values_of, all_lie}
 use Rattle.node_arena.proofs.Riding.{plays_on}
 use Rattle.node_arena.proofs.Lying.{Lie, LieApart, values-number_of, all_lie-number_of}
 use Rattle.ring_queue.specs.declared.queue.RingQueue.{RingQueue}
 use Rattle.ring_queue.specs.declared.seats.Seat.{Seat}
 use Rattle.ring_queue.specs.Words.{slot_word}
 use Rattle.ring_queue.specs.Plans.{Layout, words_of, permits_of}
-use Rattle.ring_queue.specs.Seeing.{View, gathered}
+use Rattle.ring_queue.specs.Knowledge.{View, gathered}
 use Rattle.ring_queue.specs.Steps.{Rests, taken_in}
 use Rattle.ring_queue.specs.Beside.{Beside, plain_of, Carried, CarriedBy, HoldsBy}
 use Rattle.ring_queue.specs.Seats.{known_of, view}
 use Rattle.ring_queue.specs.Moments.{head_in, tail_in}
 use Rattle.ring_queue.specs.Remains.{word_of, values_from, HasWords, was_shut_in}
-use Rattle.ring_queue.specs.Closing.{ClosesValues, EachBegins}
+use Rattle.ring_queue.specs.Ends.{ClosesValues, EachBegins}
 use Rattle.ring_queue.proofs.RingEnds.{Ends, got_map, closes_all, has_words, head_is_low, few_left}
 
 -- what is left at the end of a table whose words and slots were these, by a token that gathered seats: the numbers left are those of

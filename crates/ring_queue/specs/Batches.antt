@@ -9,7 +9,7 @@ use Rattle.ring_queue.specs.declared.batches.Batch.{Batch}
 use Rattle.ring_queue.specs.declared.batches.Batch.TheVariants.{Took, Empty, Closed, Failed}
 use Rattle.ring_queue.specs.declared.seats.Seat.{Seat}
 use Rattle.ring_queue.specs.Plans.{Layout}
-use Rattle.ring_queue.specs.Seeing.{found}
+use Rattle.ring_queue.specs.Knowledge.{found}
 use Rattle.ring_queue.specs.Steps.{AddsAll, AreValues}
 use Rattle.ring_queue.specs.Seats.{known_of, view}
 use Rattle.ring_queue.specs.Turns.{HaveFailed}

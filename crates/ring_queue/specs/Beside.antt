@@ -9,11 +9,11 @@ use Rattle.history.specs.declared.operations.Entry.{Entry}
 use Rattle.history.specs.declared.operations.Entry.TheVariants.{Push, Pop, Shut}
 use Rattle.node_arena.specs.Deeds.{Item, item, Deed, pushed, popped, closed, Runs, Matches}
 use Rattle.node_arena.specs.Beside.{AllBegin, flag_at, home_at, slots_in}
-use Rattle.node_arena.specs.Riding.{Rides}
-use Rattle.ring_queue.specs.Seeing.{SeatView, View, seated, paired, spent, dealt_left, dealt_right, both_of, first_of, second_of, knows, knows_second}
+use Rattle.node_arena.specs.ValueHistories.{Rides}
+use Rattle.ring_queue.specs.Knowledge.{SeatView, View, seated, paired, spent, dealt_left, dealt_right, both_of, first_of, second_of, knows, knows_second}
 use Rattle.ring_queue.specs.Plans.{Layout, words_of}
 use Rattle.ring_queue.specs.Rule.{Holds, Opens, first_view}
-use Rattle.ring_queue.specs.Meeting.{Met}
+use Rattle.ring_queue.specs.Meets.{Met}
 
 -- what a seat knows of its queue, a beginning of the history of values, the slot that is out with it, and what seats that it
 -- took in had seen of that history

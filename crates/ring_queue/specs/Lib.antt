@@ -1,6 +1,6 @@
 pub mod Words
 pub mod Plans
-pub mod Seeing
+pub mod Knowledge
 pub mod Rule
 pub mod Steps
 pub mod Seats
@@ -8,14 +8,14 @@ pub mod Looks
 pub mod Turns
 pub mod Lengths
 pub mod Causes
-pub mod Meeting
-pub mod Making
+pub mod Meets
+pub mod NewRings
 pub mod Machine
 pub mod Moments
 pub mod Many
 pub mod Batches
 pub mod Remains
-pub mod Closing
+pub mod Ends
 pub mod Laid
 pub mod Queues
 pub mod OneProof

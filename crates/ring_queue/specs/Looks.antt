@@ -7,7 +7,7 @@ use Rattle.ring_queue.specs.declared.looks.EndLook.{EndLook}
 use Rattle.ring_queue.specs.declared.looks.EndLook.TheVariants.{Empty, Closed, Ahead}
 use Rattle.ring_queue.specs.declared.seats.Seat.{Seat}
 use Rattle.ring_queue.specs.Plans.{Layout}
-use Rattle.ring_queue.specs.Seeing.{Stage, saw, found}
+use Rattle.ring_queue.specs.Knowledge.{Stage, saw, found}
 use Rattle.ring_queue.specs.Steps.{IsFull, IsWorn, IsAhead}
 use Rattle.ring_queue.specs.Seats.{known_of, view}
 

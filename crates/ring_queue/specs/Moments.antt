@@ -14,7 +14,7 @@ use Rattle.history.specs.Seats.{IsPermitted}
 use Rattle.history.specs.Values.{pushed, popped}
 use Rattle.ring_queue.specs.Words.{face, parity, slot_word, tail_word}
 use Rattle.ring_queue.specs.Plans.{Layout, permits_of}
-use Rattle.ring_queue.specs.Seeing.{SeatView, View, members}
+use Rattle.ring_queue.specs.Knowledge.{SeatView, View, members}
 use Rattle.ring_queue.specs.Rule.{HasClaimed, Holds}
 use Rattle.ring_queue.specs.Machine.{Words, Actor, C1, C3, steps}
 

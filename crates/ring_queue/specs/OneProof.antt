@@ -12,7 +12,7 @@ use Rattle.ring_queue.specs.declared.roles.Role.{Role}
 use Rattle.ring_queue.specs.declared.queue.RingQueue.{RingQueue}
 use Rattle.ring_queue.specs.declared.seats.Seat.{Seat}
 use Rattle.ring_queue.specs.Plans.{Layout}
-use Rattle.ring_queue.specs.Seeing.{Stage, rests, saw, claimed, found, SeatView, View}
+use Rattle.ring_queue.specs.Knowledge.{Stage, rests, saw, claimed, found, SeatView, View}
 use Rattle.ring_queue.specs.Steps.{Rests}
 use Rattle.ring_queue.specs.Seats.{Sits, IsReady}
 use Rattle.ring_queue.specs.Queues.{IsQueueSeat}

@@ -10,7 +10,7 @@ use Rattle.history.specs.Entries.{own_entries, is_pop, Leads}
 use Rattle.history.specs.Seats.{IsPermitted, IsNoted}
 use Rattle.ring_queue.specs.Words.{face, slot_word, tail_word}
 use Rattle.ring_queue.specs.Plans.{Layout, IsPlanned, reserve, permits_of}
-use Rattle.ring_queue.specs.Seeing.{Stage, rests, saw, claimed, found, SeatView, View, keeper, gathered, members, new_seat}
+use Rattle.ring_queue.specs.Knowledge.{Stage, rests, saw, claimed, found, SeatView, View, keeper, gathered, members, new_seat}
 
 -- the last place of a slot that was claimed, and who will fill it, if it isn't filled
 pub record Cell : Type 0 where

@@ -5,7 +5,7 @@ use Rattle.history.specs.Seats.{Known, IsSound}
 use Rattle.ring_queue.specs.declared.roles.Role.{Role}
 use Rattle.ring_queue.specs.declared.seats.Seat.{Seat}
 use Rattle.ring_queue.specs.Plans.{Layout, permits_of}
-use Rattle.ring_queue.specs.Seeing.{SeatView, seated, knows, known_by}
+use Rattle.ring_queue.specs.Knowledge.{SeatView, seated, knows, known_by}
 use Rattle.ring_queue.specs.Steps.{Rests}
 use Rattle.node_arena.specs.Deeds.{Deed}
 use Rattle.ring_queue.specs.Beside.{HasNone, KnowsNow, Stays}

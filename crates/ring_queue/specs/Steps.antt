@@ -11,7 +11,7 @@ use Rattle.history.specs.Answers.{Adds, FoundEmpty, FoundShut, FoundShutEmpty, S
 use Rattle.ring_queue.specs.Words.{parity, slot_word, tail_word}
 use Rattle.ring_queue.specs.Plans.{Layout, reserve, permits_of}
 use Rattle.ring_queue.specs.Rule.{Ring}
-use Rattle.ring_queue.specs.Seeing.{standing, Stage, rests, saw, claimed, found, SeatView, View, seated, knows, known_by}
+use Rattle.ring_queue.specs.Knowledge.{standing, Stage, rests, saw, claimed, found, SeatView, View, seated, knows, known_by}
 
 -- a seat in no call: it has no place to fill
 abbrev pub Rests : Stage → Type 0

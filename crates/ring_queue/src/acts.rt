@@ -6,7 +6,7 @@ ghost use Rattle.history.specs.Answers.{Pushed, Popped, DidShut, FoundShut, Sees
 ghost use Rattle.ring_queue.specs.Words as words;
 ghost use Rattle.ring_queue.specs.Plans.{permits_of};
 ghost use Rattle.ring_queue.specs.Queues.{IsRingSeat, permits_in};
-ghost use Rattle.ring_queue.specs.Seeing.{claimed, found, standing};
+ghost use Rattle.ring_queue.specs.Knowledge.{claimed, found, standing};
 ghost use Rattle.ring_queue.specs.Beside.{IsReadyBy, Moves};
 ghost use Rattle.ring_queue.specs.Hands.{GivesSlot, PopMoves};
 ghost use Rattle.ring_queue.specs.Steps.{pops, pushes, taken_in, next_stage, content, contents, PushedAll, AreSmall, AreValues, PlacesClaimed, FrontsTaken};

@@ -4,7 +4,7 @@ ghost use Rattle.history.specs.Seats.{MayPop};
 ghost use Rattle.history.specs.Answers.{PopRefused as RefusedPop, StopsPop};
 ghost use Rattle.ring_queue.specs.Plans.{permits_of};
 ghost use Rattle.ring_queue.specs.Seats.{IsReady, KeepsName, known_of, view};
-ghost use Rattle.ring_queue.specs.Seeing.{found};
+ghost use Rattle.ring_queue.specs.Knowledge.{found};
 ghost use Rattle.ring_queue.specs.Steps.{AreValues};
 ghost use Rattle.ring_queue.specs.Causes.{PopRefused};
 ghost use Rattle.ring_queue.specs.Queues.{IsQueueSeat, permits_in};

@@ -1,8 +1,8 @@
 //! The end of a ring.
 ghost use Rattle.std.specs.Prelude.{◌≡◌, ◌<◌, [], true, length, map, IfOk, IfErr};
 ghost use Rattle.std.specs.List.{All};
-ghost use Rattle.history.specs.Closing.{Closes};
-ghost use Rattle.ring_queue.specs.Closing.{HasToken, HasGathered, HasRoomFor, ClosesValues};
+ghost use Rattle.history.specs.Ends.{Closes};
+ghost use Rattle.ring_queue.specs.Ends.{HasToken, HasGathered, HasRoomFor, ClosesValues};
 ghost use Rattle.ring_queue.specs.Queues.{IsQueueSeat, IsRingSeat, permits_in};
 ghost use Rattle.ring_queue.specs.Seats.{HasNoSlot, known_of};
 
@@ -129,7 +129,7 @@ impl<T> RingQueue<T> {
 
 impl Close for RingQueue {
     ghost use Rattle.std.specs.Prelude.{◌≡◌, length};
-    ghost use Rattle.ring_queue.specs.Closing.{HasRoomFor};
+    ghost use Rattle.ring_queue.specs.Ends.{HasRoomFor};
     ghost use Rattle.ring_queue.specs.Queues.{permits_in};
 
     type End = ();

@@ -1,7 +1,7 @@
 //! How many values a ring holds, and whether it is empty, without taking anything.
 ghost use Rattle.std.specs.Prelude.{[], ◌∷◌, ◌≡◌, ◌^◌, ◌<◌, ◌≤◌};
 ghost use Rattle.ring_queue.specs.Steps.{HoldsSoMany};
-ghost use Rattle.ring_queue.specs.Seeing.{found};
+ghost use Rattle.ring_queue.specs.Knowledge.{found};
 ghost use Rattle.ring_queue.specs.Seats.{IsReady, KeepsName, KeepsSlots, KeepsStored, known_of, view};
 ghost use Rattle.ring_queue.specs.Queues.{IsQueueSeat, IsRingSeat};
 ghost use Rattle.ring_queue.specs.Lengths.{FoundSo, WasSoLong, LeavesPushes, FrontSays, ShutSays};

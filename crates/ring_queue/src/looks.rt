@@ -1,7 +1,7 @@
 //! The lines that read.
 ghost use Rattle.std.specs.Prelude.{◌≡◌, ℕ, ◌<◌, List, [], ◌∷◌, length, ◌+◌, ◌%◌, ◌^◌, ◌≤◌, IfSome, IsNone};
 ghost use Rattle.history.specs.Answers.{SeesMore};
-ghost use Rattle.ring_queue.specs.Seeing.{saw, found};
+ghost use Rattle.ring_queue.specs.Knowledge.{saw, found};
 ghost use Rattle.ring_queue.specs.Steps.{HoldsSoMany, WasLate};
 ghost use Rattle.ring_queue.specs.Lengths.{HeadCounts};
 ghost use Rattle.ring_queue.specs.Seats.{IsReady, KeepsName, KeepsSlots, known_of, reserve_of, view};

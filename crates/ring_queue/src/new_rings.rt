@@ -5,7 +5,7 @@ ghost use Rattle.history.specs.Openings.{AreNew};
 ghost use Rattle.ring_queue.specs.Plans.{IsPlanned, permits_by, slots_of};
 ghost use Rattle.ring_queue.specs.Seats.{known_of};
 ghost use Rattle.ring_queue.specs.Queues.{IsQueueSeat, permits_in};
-ghost use Rattle.ring_queue.specs.Making.{AreFirst, AreDealt, IsLeastPower, IsMade, IsMadeFor, NewRefused};
+ghost use Rattle.ring_queue.specs.NewRings.{AreFirst, AreDealt, IsLeastPower, IsMade, IsMadeFor, NewRefused};
 
 use crate::new_seats::deal_all;
 use crate::places::{HEAD, SHUT, TAIL};

@@ -1,7 +1,7 @@
 //! Seats are split off the ring's own token.
 ghost use Rattle.std.specs.Prelude.{◌≡◌, ◌+◌, ◌-◌, ◌≤◌, [], Some, length, slice_get, vec_capacity};
 ghost use Rattle.ring_queue.specs.Plans.{IsTable};
-ghost use Rattle.ring_queue.specs.Making.{IsKeeper, IsDealt, AreDealt};
+ghost use Rattle.ring_queue.specs.NewRings.{IsKeeper, IsDealt, AreDealt};
 
 use crate::plans::Plan;
 use crate::roles::Role;

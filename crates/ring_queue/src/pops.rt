@@ -4,7 +4,7 @@ ghost use Rattle.history.specs.Seats.{MayPop};
 ghost use Rattle.history.specs.Answers.{PopAnswers, PopRefused as RefusedPop, SeesMore, StopsPop};
 ghost use Rattle.ring_queue.specs.Plans.{permits_of};
 ghost use Rattle.ring_queue.specs.Seats.{IsReady, KeepsName, KeepsSlots, known_of, view};
-ghost use Rattle.ring_queue.specs.Seeing.{found};
+ghost use Rattle.ring_queue.specs.Knowledge.{found};
 ghost use Rattle.ring_queue.specs.Queues.{IsRingSeat, permits_in};
 ghost use Rattle.ring_queue.specs.Causes.{PopRefused};
 ghost use Rattle.ring_queue.specs.Hands.{PopMoves, TurnMoves};

@@ -17,24 +17,24 @@ use Rattle.history.specs.Rests.{taken_of, whole_of, was_shut_of, left_of}
 use Rattle.carriers.specs.declared.items.ItemOf.{ItemOf}
 use Rattle.carriers.specs.Deeds.{Deed, did_push, did_pop, did_shut, doer_of, own_deeds, is_pushing, is_popping, is_shutting, Runs}
 use Rattle.carriers.specs.Knowledge.{KnownOf}
-use Rattle.carriers.specs.Closing.{IsOfOneOf, ClosesWith}
-use Rattle.carriers.specs.Matching.{Matches}
+use Rattle.carriers.specs.Ends.{IsOfOneOf, ClosesWith}
+use Rattle.carriers.specs.DeedsOfNumbers.{Matches}
 use Rattle.node_arena.specs.Deeds as slots
 use Rattle.node_arena.specs.Deeds.{Item, pushed, popped, closed}
-use Rattle.node_arena.specs.Lying.{values_of}
+use Rattle.node_arena.specs.ValuesLeft.{values_of}
 use Rattle.node_arena.proofs.AsMany.{as_many}
 use Rattle.ring_queue.specs.declared.queue.RingQueue.{RingQueue}
 use Rattle.ring_queue.specs.declared.seats.Seat.{Seat}
-use Rattle.ring_queue.specs.Closing.{ClosesValues}
+use Rattle.ring_queue.specs.Ends.{ClosesValues}
 use Rattle.ring_queue.specs.Seats.{deeds_of, known_of, view}
 use Rattle.ring_queue.specs.Queues.{IsRingSeat, permits_in}
-use Rattle.value_queue.specs.Telling.{told, left_by, shut_by}
+use Rattle.value_queue.specs.ValuesSeen.{told, left_by, shut_by}
 use Rattle.value_queue.specs.Runs.{CanRun-Runs, Runs-told, left_by-Runs, Matches-told, told-append, as_item}
 use Rattle.value_queue.specs.Matched.{length-own, permitted-Matches}
 use Rattle.value_queue.specs.Sound.{nil}
 use Rattle.value_queue.proofs.Closings.{count-Matches, popping-is}
 use Rattle.ring_values.specs.Carried.{carries_of}
-use Rattle.ring_values.specs.Telling.{seen_by, known_by}
+use Rattle.ring_values.specs.ValuesSeen.{seen_by, known_by}
 use Rattle.ring_values.specs.Sound.{seen_matches}
 
 module _ {A : Type 0} where

@@ -11,7 +11,7 @@ use Rattle.history.specs.Entries.{Leads}
 use Rattle.history.specs.Answers.{Adds, FoundEmpty, FoundShut, FoundShutEmpty, SeesMore, PushRefused, PopRefused}
 use Rattle.history.specs.Answers as numbers
 use Rattle.carriers.specs.Deeds.{Deed, did_push, did_pop, did_shut, doer_of, own_deeds, RunsTo, RunsToShut}
-use Rattle.carriers.specs.Matching.{Matches}
+use Rattle.carriers.specs.DeedsOfNumbers.{Matches}
 use Rattle.carriers.specs.Answers.{AddsDeed, FindsDone, SeesMoreOf, PushRefusedOf, PopRefusedOf, MeetsOf, DidShutOf}
 use Rattle.node_arena.specs.Deeds.{pushed, popped}
 use Rattle.node_arena.specs.Deeds as slots
@@ -21,12 +21,12 @@ use Rattle.ring_queue.specs.Causes.{ShutRefused}
 use Rattle.ring_queue.specs.Hands.{AddsOwn, PopsFront, MeetsValues}
 use Rattle.ring_queue.specs.Seats.{KeepsSlots, deeds_of, known_of, view}
 use Rattle.ring_queue.specs.Queues.{IsRingSeat}
-use Rattle.value_queue.specs.Telling.{told, left_by}
+use Rattle.value_queue.specs.ValuesSeen.{told, left_by}
 use Rattle.value_queue.specs.Runs.{told-append, left_by-Runs, as_item}
 use Rattle.value_queue.specs.Matched.{length-Matches, Matches-rest, ends_shut}
 use Rattle.value_queue.specs.Sound.{nil, RunsTo-Matches, RunsToShut-Matches}
 use Rattle.ring_values.specs.Carried.{carries_of}
-use Rattle.ring_values.specs.Telling.{GoesOn, seen_by, known_by}
+use Rattle.ring_values.specs.ValuesSeen.{GoesOn, seen_by, known_by}
 use Rattle.ring_values.specs.Sound.{seen_matches, seen_runs, length-mine}
 
 nat_eq-self : (n : ℕ) → nat_eq n n ≡ true

@@ -9,7 +9,7 @@ use Rattle.history.specs.declared.operations.Taken.{Taken}
 use Rattle.history.specs.Entries.{is_push, is_pop, Leads}
 use Rattle.carriers.specs.declared.items.ItemOf.{ItemOf}
 use Rattle.carriers.specs.Deeds.{Deed, is_pushing, is_popping, RunsTo, IsRun}
-use Rattle.carriers.specs.Matching.{Matches}
+use Rattle.carriers.specs.DeedsOfNumbers.{Matches}
 use Rattle.carriers.proofs.Running.{run-first}
 use Rattle.ring_queue.specs.declared.lengths.Emptiness.{Emptiness}
 use Rattle.ring_queue.specs.declared.lengths.Emptiness.TheVariants.{Empty, ShutEmpty, Holds, Moved, Unfilled}
@@ -26,7 +26,7 @@ use Rattle.value_queue.specs.Sound.{RunsTo-Matches, RunsToShut-Matches}
 use Rattle.value_queue.specs.Looks.{WasMeanwhileOf, RunsToSome}
 use Rattle.value_queue.proofs.Closings.{count-Matches, popping-is}
 use Rattle.ring_values.specs.Carried.{carries_of}
-use Rattle.ring_values.specs.Telling.{seen_by, known_by}
+use Rattle.ring_values.specs.ValuesSeen.{seen_by, known_by}
 use Rattle.ring_values.specs.Sound.{seen_matches, seen_runs}
 use Rattle.ring_values.specs.Looks.{FoundSoOf, WasSoLongOf, pushes_left_of, LeavesPushesOf}
 use Rattle.ring_values.proofs.Learned.{goes_on, seen-more, sees-deeds}

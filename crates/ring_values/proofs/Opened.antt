@@ -11,12 +11,12 @@ use Rattle.ring_queue.specs.declared.queue.RingQueue.{RingQueue}
 use Rattle.ring_queue.specs.declared.roles.Role.{Role}
 use Rattle.ring_queue.specs.declared.seats.Seat.{Seat}
 use Rattle.ring_queue.specs.Plans.{permit_of, permits_by}
-use Rattle.ring_queue.specs.Making.{IsDealt, IsMadeFor}
+use Rattle.ring_queue.specs.NewRings.{IsDealt, IsMadeFor}
 use Rattle.ring_queue.specs.Queues.{permits_in}
-use Rattle.value_queue.specs.Telling.{told}
+use Rattle.value_queue.specs.ValuesSeen.{told}
 use Rattle.value_queue.specs.Queues.{AreNewOf, newcomer}
 use Rattle.ring_values.specs.declared.queue.RingValues.{RingValues}
-use Rattle.ring_values.specs.Telling.{known_by}
+use Rattle.ring_values.specs.ValuesSeen.{known_by}
 use Rattle.ring_values.specs.Carried.{slots_in}
 use Rattle.ring_values.specs.Queues.{ring_of, IsQueueSeat}
 

@@ -13,10 +13,10 @@ use Rattle.ring_queue.specs.Hands.{HasValue, KeepsKnown, TakesSlot}
 use Rattle.ring_queue.specs.Seats.{HasNoSlot, known_of, view}
 use Rattle.ring_queue.specs.Queues.{IsRingSeat}
 use Rattle.ring_queue.proofs.Moved.{has_taken}
-use Rattle.value_queue.specs.Telling.{told}
+use Rattle.value_queue.specs.ValuesSeen.{told}
 use Rattle.value_queue.specs.Runs.{as_item}
 use Rattle.ring_values.specs.Carried.{carries_of}
-use Rattle.ring_values.specs.Telling.{known_by}
+use Rattle.ring_values.specs.ValuesSeen.{known_by}
 use Rattle.ring_values.specs.Pops.{TakesOut}
 use Rattle.ring_values.proofs.Learned.{pop-deed}
 use Rattle.ring_values.proofs.Pushed.{value_is}

@@ -16,15 +16,15 @@ use Rattle.ring_queue.specs.declared.queue.RingQueue.{RingQueue}
 use Rattle.ring_queue.specs.declared.seats.Seat.{Seat}
 use Rattle.ring_queue.specs.declared.slots.Got.{Got}
 use Rattle.ring_queue.specs.Causes as ring
-use Rattle.ring_queue.specs.Seeing.{SeatView}
-use Rattle.ring_queue.specs.Seeing as seeing
+use Rattle.ring_queue.specs.Knowledge.{SeatView}
+use Rattle.ring_queue.specs.Knowledge as seeing
 use Rattle.ring_queue.specs.Hands.{AddsOwn, HasSlot, KeepsKnown}
 use Rattle.ring_queue.specs.Plans.{Layout}
 use Rattle.ring_queue.specs.Seats.{HasNoSlot, KeepsName, KeepsSlots, deeds_of, known_of, view}
 use Rattle.ring_queue.specs.Steps.{IsFull, IsWorn}
 use Rattle.ring_queue.specs.Queues.{IsRingSeat}
 use Rattle.ring_values.specs.Carried.{carries_of}
-use Rattle.ring_values.specs.Telling.{GoesOn, known_by}
+use Rattle.ring_values.specs.ValuesSeen.{GoesOn, known_by}
 use Rattle.ring_values.specs.Pushes.{HasLoad, PutsSlot, PushRefused, AnswersPush}
 use Rattle.ring_values.proofs.Learned.{push-deed, push_refused-deeds}
 

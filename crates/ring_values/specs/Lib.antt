@@ -1,9 +1,9 @@
 pub mod Carried
-pub mod Telling
+pub mod ValuesSeen
 pub mod Queues
 pub mod Sound
 pub mod Pushes
 pub mod Pops
 pub mod Remains
-pub mod Closing
+pub mod Ends
 pub mod Looks

@@ -4,7 +4,7 @@ use Rattle.std.specs.List.{count_by}
 use mathlib.Core.List.{IsPrefix}
 use Rattle.carriers.specs.declared.items.ItemOf.{ItemOf}
 use Rattle.carriers.specs.Deeds.{Deed, is_pushing, is_popping, RunsTo, RunsToShut}
-use Rattle.carriers.specs.Matching.{Matches}
+use Rattle.carriers.specs.DeedsOfNumbers.{Matches}
 use Rattle.ring_queue.specs.declared.lengths.Emptiness.{Emptiness}
 use Rattle.ring_queue.specs.declared.lengths.Emptiness.TheVariants.{Empty, ShutEmpty, Holds, Moved, Unfilled}
 use Rattle.ring_queue.specs.declared.lengths.Len.{Len}
@@ -13,7 +13,7 @@ use Rattle.ring_queue.specs.Plans.{Layout, reserve}
 use Rattle.ring_queue.specs.Lengths.{FoundUnfilled, slack}
 use Rattle.ring_queue.specs.Seats.{known_of}
 use Rattle.value_queue.specs.Looks.{WasMeanwhileOf, RunsToSome, SawPopsOf}
-use Rattle.ring_values.specs.Telling.{seen_by, known_by}
+use Rattle.ring_values.specs.ValuesSeen.{seen_by, known_by}
 
 -- after some deeds no older than what the seat had seen the ring was shut, and the place at Head had been claimed; after some no
 -- older than those this place wasn't filled, and was still at Head: so by the entries of the numbers, with which these deeds go

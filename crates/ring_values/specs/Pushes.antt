@@ -13,7 +13,7 @@ use Rattle.ring_queue.specs.Causes as ring
 use Rattle.ring_queue.specs.Hands.{HasSlot, KeepsKnown, FailedTries, PushesFrom}
 use Rattle.ring_queue.specs.Seats.{HasNoSlot, KeepsName, known_of}
 use Rattle.ring_queue.specs.Queues.{IsRingSeat}
-use Rattle.ring_values.specs.Telling.{GoesOn, known_by}
+use Rattle.ring_values.specs.ValuesSeen.{GoesOn, known_by}
 
 -- a push has its value in a slot, after some failed tries at others, or each of so many tries failed and the value came back
 pub record HasLoad {T : Type 0} (r : RingQueue T) (s t : Seat T) (value : T) (turns : ℕ) (out : Result Got (Unpushed T)) : Type 0 where

@@ -4,7 +4,7 @@ use Rattle.history.specs.declared.rests.Rest.{Rest}
 use Rattle.history.specs.Rests.{left_of, taken_of, whole_of, was_shut_of}
 use Rattle.carriers.specs.declared.items.ItemOf.{ItemOf}
 use Rattle.node_arena.specs.Deeds.{Item, item}
-use Rattle.node_arena.specs.Lying.{values_of}
+use Rattle.node_arena.specs.ValuesLeft.{values_of}
 use Rattle.ring_values.specs.declared.remains.LeftValues.{LeftValues}
 
 module _ {T : Type 0} where

@@ -9,7 +9,7 @@ use Rattle.history.specs.declared.operations.Entry.{Entry}
 use Rattle.history.specs.Seats.{IsNoted}
 use Rattle.carriers.specs.Deeds.{Deed, own_deeds, IsRun}
 use Rattle.carriers.specs.Knowledge.{IsNotedOf, IsSoundOf}
-use Rattle.carriers.specs.Matching.{Matches}
+use Rattle.carriers.specs.DeedsOfNumbers.{Matches}
 use Rattle.carriers.proofs.Running.{run-first}
 use Rattle.ring_queue.specs.declared.queue.RingQueue.{RingQueue}
 use Rattle.ring_queue.specs.declared.seats.Seat.{Seat}
@@ -17,13 +17,13 @@ use Rattle.ring_queue.specs.Beside.{KnowsBy}
 use Rattle.ring_queue.specs.Seats.{deeds_of, view}
 use Rattle.ring_queue.specs.Queues.{IsRingSeat, permits_in}
 use Rattle.ring_queue.specs.OneProof.{IsReady-prop}
-use Rattle.value_queue.specs.Telling.{left_by, shut_by}
+use Rattle.value_queue.specs.ValuesSeen.{left_by, shut_by}
 use Rattle.value_queue.specs.Runs.{CanRun, CanRun-prop, Runs-told, CanRun-Runs, Matches-told}
 use Rattle.value_queue.specs.Matched.{Matches-prop, Matches-take, length-Matches, length-own, permitted-Matches}
 use Rattle.value_queue.specs.Sound.{RunsTo-Matches, RunsToShut-Matches}
 use Rattle.ring_values.specs.declared.queue.RingValues.{RingValues}
 use Rattle.ring_values.specs.Carried.{carries_of}
-use Rattle.ring_values.specs.Telling.{seen_by, known_by}
+use Rattle.ring_values.specs.ValuesSeen.{seen_by, known_by}
 use Rattle.ring_values.specs.Queues.{IsQueueSeat}
 
 module _ {A : Type 0} (es : List Entry) (ds : List (Deed A)) (m : Matches es ds) (run : IsRun ds) where

@@ -22,7 +22,7 @@ impl<T: Send> Carrier for RingValues<T> {
     ghost use Rattle.history.specs.Answers.{StopsPush, StopsPop, StopsShut};
     ghost use Rattle.carriers.specs.Answers.{PushedOf, PopAnswersOf, DidShutOf, PushRefusedOf, PopRefusedOf};
     ghost use Rattle.ring_queue.specs.Causes.{PopRefused, ShutRefused};
-    ghost use Rattle.ring_values.specs.Telling.{known_by};
+    ghost use Rattle.ring_values.specs.ValuesSeen.{known_by};
     ghost use Rattle.ring_values.specs.Queues.{plan_of, ring_of, permits_of, IsQueueSeat};
     ghost use Rattle.ring_values.specs.Pushes.{PushRefused};
     ghost use Rattle.ring_values.specs.Sound.{sound-seat, IsQueueSeat-prop};

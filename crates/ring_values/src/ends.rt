@@ -2,12 +2,12 @@
 ghost use Rattle.std.specs.Prelude.{◌≡◌, ◌≤◌, [], map, length, vec_capacity, IfOk, IfErr};
 ghost use Rattle.std.specs.List.{All};
 ghost use Rattle.history.specs.Rests.{taken_of, whole_of, was_shut_of};
-ghost use Rattle.carriers.specs.Closing.{ClosesOf};
+ghost use Rattle.carriers.specs.Ends.{ClosesOf};
 ghost use Rattle.carriers.specs.Rests.{left_in, taken_in, whole_in, was_shut_in};
-ghost use Rattle.ring_queue.specs.Closing.{HasRoomFor};
+ghost use Rattle.ring_queue.specs.Ends.{HasRoomFor};
 ghost use Rattle.value_queue.specs.Runs.{as_item};
 ghost use Rattle.ring_values.specs.Remains.{rest_in, values_in};
-ghost use Rattle.ring_values.specs.Telling.{known_by};
+ghost use Rattle.ring_values.specs.ValuesSeen.{known_by};
 
 use crate::queue::RingValues;
 use crate::remains::LeftValues;
@@ -43,7 +43,7 @@ fn rest_of<T: Drop>(mut left: LeftValues<T>, mut values: Vec<ItemOf<T>>) -> Rest
 }
 
 impl<T> RingValues<T> {
-    ghost use Rattle.ring_values.specs.Closing.{ClosesLeft};
+    ghost use Rattle.ring_values.specs.Ends.{ClosesLeft};
     ghost use Rattle.ring_values.specs.Queues.{plan_of, ring_of, permits_of, IsQueueSeat};
 
     /// Memory with which `close_values` ends the queue: for a number of each slot, and for what lies in it.
@@ -93,7 +93,7 @@ impl<T> RingValues<T> {
 }
 
 impl<T: Send + Drop> CloseCarrier for RingValues<T> {
-    ghost use Rattle.ring_values.specs.Closing.{HasRoom};
+    ghost use Rattle.ring_values.specs.Ends.{HasRoom};
     ghost use Rattle.ring_values.specs.Queues.{permits_of, IsQueueSeat};
 
     type Room = Room<T>;

@@ -2,10 +2,10 @@
 ghost use Rattle.std.specs.Prelude.{◌≡◌, ◌≤◌, ◌^◌, true, length, map, IfOk, IfErr};
 ghost use Rattle.std.specs.List.{All};
 ghost use Rattle.ring_queue.specs.Plans.{permits_by};
-ghost use Rattle.ring_queue.specs.Making.{IsMadeFor, NewRefused};
+ghost use Rattle.ring_queue.specs.NewRings.{IsMadeFor, NewRefused};
 ghost use Rattle.ring_queue.specs.Seats.{reserve_of};
 ghost use Rattle.value_queue.specs.Queues.{AreNewOf};
-ghost use Rattle.ring_values.specs.Telling.{known_by};
+ghost use Rattle.ring_values.specs.ValuesSeen.{known_by};
 ghost use Rattle.ring_values.specs.Carried.{carries_of, slots_in};
 
 use history::Refusal;

@@ -1,7 +1,7 @@
 //! The values left in a ring that was closed, each in the slot that a number left names.
 ghost use Rattle.std.specs.Prelude.{◌≡◌, IsTrue};
 ghost use Rattle.history.specs.Rests.{left_of, taken_of, whole_of, was_shut_of};
-ghost use Rattle.node_arena.specs.Lying.{all_lie};
+ghost use Rattle.node_arena.specs.ValuesLeft.{all_lie};
 
 use carriers::ItemOf;
 use history::Rest;

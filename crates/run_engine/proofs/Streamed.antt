@@ -8,7 +8,7 @@ use Rattle.history.specs.declared.refusals.Refusal.TheVariants.{Memory, Text, Re
 use Rattle.schedule_text.specs.EventStreams.{EventStream, IsStarted, GaveEvent, IsRefused, IsNext, IsRefusedNext, IsRefusedReading, HasRead, HasReadAll, schedule_with}
 use Rattle.schedule_text.specs.declared.event_stream.Stage.TheVariants.{Going}
 use Rattle.schedule_text.specs.Schedules.{Schedule, header_lines}
-use Rattle.schedule_text.specs.Streaming.{IsFirstFaultFrom}
+use Rattle.schedule_text.specs.SourceLines.{IsFirstFaultFrom}
 use Rattle.schedule_text.specs.Streams.{stream}
 use Rattle.schedule_text.specs.Texts.{version_due, schedule_text}
 use Rattle.schedule_text.specs.declared.readers.Header.{Header}

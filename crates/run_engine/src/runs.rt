@@ -7,7 +7,7 @@ ghost use Rattle.run_engine.specs.Starts.{IsBegun, WasBegun};
 ghost use Rattle.text_io.specs.Devices.{SourceState};
 ghost use Rattle.text_io.specs.Readings.{ReachesEnd};
 ghost use Rattle.schedule_text.specs.EventStreams.{HasRead, HasReadAll, IsRefused, schedule_with};
-ghost use Rattle.schedule_text.specs.Reading.{IsHeaderInRange};
+ghost use Rattle.schedule_text.specs.Readers.{IsHeaderInRange};
 ghost use Rattle.schedule_text.specs.Streams.{stream};
 ghost use Rattle.schedule_text.specs.Texts.{version_due};
 ghost use Rattle.schedule_text.specs.declared.event_stream.Stage.TheVariants.{Going};

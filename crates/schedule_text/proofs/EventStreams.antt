@@ -12,9 +12,9 @@ use Rattle.text_lines.specs.Lines.{line, spaced}
 use Rattle.schedule_text.specs.declared.readers.Header.{Header}
 use Rattle.schedule_text.specs.declared.schedules.Event.{Event}
 use Rattle.schedule_text.specs.EventStreams.{EventStream, IsRefused, IsStarted, GaveEvent, GaveAll, IsNext, IsRefusedNext, IsRefusedReading, lines_given, HasRead, HasReadAll, schedule_with}
-use Rattle.schedule_text.specs.Reading.{said_in}
+use Rattle.schedule_text.specs.Readers.{said_in}
 use Rattle.schedule_text.specs.Schedules.{Schedule}
-use Rattle.schedule_text.specs.Streaming.{GaveLines, GaveSaid, IsFirstFaultFrom}
+use Rattle.schedule_text.specs.SourceLines.{GaveLines, GaveSaid, IsFirstFaultFrom}
 use Rattle.text_io.specs.Devices.{SourceState}
 use Rattle.schedule_text.specs.Streams.{stream}
 use Rattle.schedule_text.specs.Texts.{Said, happens, Due, version_due, events_left, is_due, said_words, schedule_lines, schedule_text, IsEventOf, IsInRange}

@@ -1,7 +1,7 @@
 -- What is held of a line, byte by byte.
 use Rattle.std.proofs.Common.{◌≡◌, ◌≢◌, ℕ, suc, ◌-◌, ◌<◌, ◌⊎◌, inl, inr, List, [], ◌∷◌, ◌++◌, length, Bool, true, false, ◌∙◌, arith, length-append}
 use Rattle.std.proofs.lemmas.List.{append-nil}
-use Rattle.schedule_text.specs.Shortening.{IsDigit, Shortens, nothing, space, early, digit, other, Held, IsHeldBy, IsHeld, IsKept}
+use Rattle.schedule_text.specs.ShortLines.{IsDigit, Shortens, nothing, space, early, digit, other, Held, IsHeldBy, IsHeld, IsKept}
 use Rattle.schedule_text.proofs.Shortening.{Shortens-append, Shortens-byte}
 
 -- where there was no room for some bytes, there is none for further ones

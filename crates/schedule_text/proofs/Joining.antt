@@ -19,7 +19,7 @@ use Rattle.line_table.specs.declared.lines.Kind.{Kind}
 use Rattle.schedule_text.specs.Schedules.{IsBitsOf, header_lines}
 use Rattle.schedule_text.specs.Texts.{Said, version, queue, happens, Due, version_due, queue_due, number_due, events_left, is_due, due_after}
 use Rattle.schedule_text.specs.Texts.{due_after_queue, bits_said, sizes_said, schedule_lines, schedule_text, IsEventOf}
-use Rattle.schedule_text.specs.Reading.{AddsEvent, IsFront, IsRefusedAfter, IsRefusedText, said_in}
+use Rattle.schedule_text.specs.Readers.{AddsEvent, IsFront, IsRefusedAfter, IsRefusedText, said_in}
 use Rattle.schedule_text.specs.declared.readers.Header.{Header}
 
 -- the state after two lists of lines

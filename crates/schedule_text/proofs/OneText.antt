@@ -19,7 +19,7 @@ use Rattle.schedule_text.specs.Schedules.{Schedule, IsBitsOf}
 use Rattle.counted_ref.specs.Ref.{IsSplit}
 use Rattle.schedule_text.specs.Texts.{Said, version, queue, happens, Due, version_due, number_due, events_left, is_due, due_after, said_words}
 use Rattle.schedule_text.specs.Texts.{bits_said, sizes_said, header_by, said_by, schedule_lines, schedule_text, IsEventOf, IsInRange}
-use Rattle.schedule_text.specs.Reading.{IsRefusedText}
+use Rattle.schedule_text.specs.Readers.{IsRefusedText}
 use Rattle.schedule_text.proofs.Spelling.{AreWords, AreWords-said, words_of-said}
 use Rattle.schedule_text.proofs.Joining.{state_after-append, state_after-happens, state_after-header}
 use Rattle.schedule_text.proofs.Distinct.{said_same}

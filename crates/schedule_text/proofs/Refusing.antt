@@ -14,7 +14,7 @@ use Rattle.schedule_text.specs.declared.fields.Field.{Field}
 use Rattle.schedule_text.specs.declared.schedules.Version.{Version}
 use Rattle.schedule_text.specs.Texts.{Said, version, queue, number, happens, Due, version_due, queue_due, number_due, events_left, bits_of}
 use Rattle.schedule_text.specs.Texts.{said_words, is_due, Tells, MaySay, IsEventInRange, IsSaidInRange, schedule_lines}
-use Rattle.schedule_text.specs.Reading.{IsFront, IsRefusedAfter}
+use Rattle.schedule_text.specs.Readers.{IsFront, IsRefusedAfter}
 use Rattle.schedule_text.proofs.Spelling.{words_of-said, spaced-said}
 
 -- a line that is wrong by its words is wrong, where the line that is due says just such things

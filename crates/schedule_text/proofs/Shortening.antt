@@ -8,7 +8,7 @@ use Rattle.text_lines.specs.Lines.{words_of}
 use Rattle.text_lines.specs.Numerals.{numeral, IsPlain}
 use Rattle.text_lines.proofs.Numerals.{IsPlain-numeral}
 use Rattle.text_lines.proofs.Digits.{plain_or_number}
-use Rattle.schedule_text.specs.Shortening.{IsDigit, Shortens, nothing, space, early, digit, other}
+use Rattle.schedule_text.specs.ShortLines.{IsDigit, Shortens, nothing, space, early, digit, other}
 
 -- more bytes of a line
 pub Shortens-append : {r m q : ℕ} {s k t l : List ℕ} → Shortens r s k m → Shortens m t l q → Shortens r (s ++ t) (k ++ l) q

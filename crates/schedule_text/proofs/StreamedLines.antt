@@ -19,10 +19,10 @@ use Rattle.schedule_text.specs.Texts.{Said, version, queue, number, Due, version
 use Rattle.schedule_text.specs.Texts.{due_after, due_after_queue, bits_said, Tells, MaySay, IsEventInRange, IsSaidInRange, schedule_lines}
 use Rattle.schedule_text.specs.declared.schedules.Version.{Version}
 use Rattle.counted_ref.specs.Ref.{IsSplit}
-use Rattle.schedule_text.specs.Shortening.{Held, IsHeldBy, Shortens}
+use Rattle.schedule_text.specs.ShortLines.{Held, IsHeldBy, Shortens}
 use Rattle.text_io.specs.Devices.{SourceState}
 use Rattle.schedule_text.specs.Streams.{GaveByte, GaveLine, EndedInLine}
-use Rattle.schedule_text.specs.Streaming.{IsFaultOf, IsFirstFaultFrom, IsStopped, GaveSaid, GaveLines}
+use Rattle.schedule_text.specs.SourceLines.{IsFaultOf, IsFirstFaultFrom, IsStopped, GaveSaid, GaveLines}
 use Rattle.schedule_text.proofs.Spelling.{spaced-said}
 use Rattle.schedule_text.proofs.Joining.{AreDue-append, refused_behind, refused_later, state_after-bits, length-bits_said}
 use Rattle.schedule_text.proofs.Parts.{lines_of-append}

@@ -21,7 +21,7 @@ use Rattle.schedule_text.specs.declared.fields.Field.TheVariants.{Bits, Nodes, L
 use Rattle.schedule_text.specs.Texts.{Said, version, queue, number, happens, Due, said_words, call_words, event_words, field_name, greatest}
 use Rattle.schedule_text.specs.Texts.{IsCallInRange, IsEventInRange, IsSaidInRange, schedule_lines}
 use Rattle.counted_ref.specs.Ref.{IsSplit}
-use Rattle.schedule_text.specs.Shortening.{Shortens}
+use Rattle.schedule_text.specs.ShortLines.{Shortens}
 use Rattle.counted_ref.proofs.Words.{span_most, count_span_most}
 use Rattle.schedule_text.proofs.Distinct.{said_same}
 use Rattle.schedule_text.proofs.Spelling.{words_of-said, spaced-said}

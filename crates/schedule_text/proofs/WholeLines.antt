@@ -11,7 +11,7 @@ use Rattle.schedule_text.specs.declared.schedules.Version.{Version}
 use Rattle.schedule_text.specs.Texts.{happens, events_left, Tells, IsEventInRange}
 use Rattle.text_io.specs.Devices.{SourceState}
 use Rattle.schedule_text.specs.Streams.{stream}
-use Rattle.schedule_text.specs.Streaming.{IsFirstFaultFrom, IsStopped, GaveSaid}
+use Rattle.schedule_text.specs.SourceLines.{IsFirstFaultFrom, IsStopped, GaveSaid}
 use Rattle.schedule_text.proofs.Refusing.{refused_event}
 use Rattle.schedule_text.proofs.Spelling.{spaced-said}
 

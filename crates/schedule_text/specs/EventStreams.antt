@@ -6,12 +6,12 @@ use Rattle.schedule_text.specs.declared.event_stream.Stage.{Stage}
 use Rattle.schedule_text.specs.declared.event_stream.Stage.TheVariants.{Going, Ended, Refused}
 use Rattle.schedule_text.specs.declared.readers.Header.{Header}
 use Rattle.schedule_text.specs.declared.schedules.Event.{Event}
-use Rattle.schedule_text.specs.Reading.{IsHeaderInRange, said_in}
+use Rattle.schedule_text.specs.Readers.{IsHeaderInRange, said_in}
 use Rattle.schedule_text.specs.Schedules.{Schedule, header_lines}
 use Rattle.schedule_text.specs.Texts.{Due, happens, version_due, events_left, schedule_text, IsEventOf, IsInRange}
 use Rattle.text_io.specs.Devices.{SourceState}
 use Rattle.schedule_text.specs.Streams.{IsOver}
-use Rattle.schedule_text.specs.Streaming.{GaveLines, GaveSaid, IsFirstFaultFrom}
+use Rattle.schedule_text.specs.SourceLines.{GaveLines, GaveSaid, IsFirstFaultFrom}
 
 -- how far a schedule was read: the bytes read ahead, what its header says, how many events are left, and what further calls answer
 pub record EventStream : Type 0 where

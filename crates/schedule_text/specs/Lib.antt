@@ -1,7 +1,7 @@
 pub mod Schedules
 pub mod Texts
-pub mod Reading
-pub mod Shortening
+pub mod Readers
+pub mod ShortLines
 pub mod Streams
-pub mod Streaming
+pub mod SourceLines
 pub mod EventStreams

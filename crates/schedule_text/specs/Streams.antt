@@ -5,7 +5,7 @@ use Rattle.history.specs.declared.refusals.Refusal.{Refusal}
 use Rattle.history.specs.declared.refusals.Refusal.TheVariants.{Read}
 use Rattle.text_io.specs.Devices.{SourceState}
 use Rattle.text_lines.specs.Lines.{HasNo, line}
-use Rattle.schedule_text.specs.Shortening.{Held, IsHeld}
+use Rattle.schedule_text.specs.ShortLines.{Held, IsHeld}
 
 -- a source with these bytes read ahead: they are left before its own
 abbrev pub stream : (ahead : List ℕ) → SourceState → SourceState

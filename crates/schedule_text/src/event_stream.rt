@@ -2,7 +2,7 @@
 ghost use Rattle.std.specs.Prelude.{◌≡◌, ℕ, [], Option, IfOk, IfErr, None, Ok, Err};
 ghost use Rattle.text_io.specs.Devices.{SourceState};
 ghost use Rattle.schedule_text.specs.EventStreams.{IsNext, IsRefused, IsStarted};
-ghost use Rattle.schedule_text.specs.Streaming.{IsStopped};
+ghost use Rattle.schedule_text.specs.SourceLines.{IsStopped};
 ghost use Rattle.schedule_text.specs.Streams.{stream};
 ghost use Rattle.schedule_text.specs.Texts.{Due, version_due};
 

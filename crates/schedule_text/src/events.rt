@@ -3,7 +3,7 @@ ghost use Rattle.std.specs.Prelude.{◌≡◌, ◌≢◌, ℕ, [], ◌∷◌, If
 ghost use Rattle.text_lines.specs.Lines.{words_of};
 ghost use Rattle.text_lines.specs.Readings.{ReadsBack, Reads, ReadsLine, ReadsWords};
 ghost use Rattle.text_lines.specs.Numerals.{IsWithin};
-ghost use Rattle.text_lines.specs.Wording.{number_words};
+ghost use Rattle.text_lines.specs.WordsLeft.{number_words};
 ghost use Rattle.line_table.specs.Names.{name_of};
 ghost use Rattle.history.specs.declared.operations.Op.{Op};
 ghost use Rattle.schedule_text.specs.declared.schedules.Version.{Version};

@@ -1,6 +1,6 @@
 //! What is held of a line that comes byte by byte.
 ghost use Rattle.std.specs.Prelude.{◌≡◌, ◌++◌, ◌∷◌, [], ℕ, List, MatchOption, true, false};
-ghost use Rattle.schedule_text.specs.Shortening.{IsHeld, IsKept};
+ghost use Rattle.schedule_text.specs.ShortLines.{IsHeld, IsKept};
 
 use std::marker::Model;
 
@@ -27,7 +27,7 @@ pub struct HeldLine {
 
 impl Model for HeldLine {
     ghost use Rattle.std.specs.Prelude.{take, ◌≤◌};
-    ghost use Rattle.schedule_text.specs.Shortening.{Held};
+    ghost use Rattle.schedule_text.specs.ShortLines.{Held};
 
     ghost Value = { Held };
 

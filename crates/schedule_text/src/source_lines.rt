@@ -1,9 +1,9 @@
 //! The lines of a schedule, as they come from a source.
 ghost use Rattle.std.specs.Prelude.{◌≡◌, ◌-◌, ◌≤◌, ◌<◌, ℕ, IfOk, IfErr, MatchOption, OnOk, true};
 ghost use Rattle.schedule_text.specs.Streams.{stream, GaveLine, IsOver};
-ghost use Rattle.schedule_text.specs.Streaming.{GaveLines, GaveSaid, IsStopped};
+ghost use Rattle.schedule_text.specs.SourceLines.{GaveLines, GaveSaid, IsStopped};
 ghost use Rattle.schedule_text.specs.declared.fields.Field.TheVariants.{Nodes};
-ghost use Rattle.schedule_text.specs.Reading.{AreSizesInRange, IsHeaderInRange, said_in, sizes_in};
+ghost use Rattle.schedule_text.specs.Readers.{AreSizesInRange, IsHeaderInRange, said_in, sizes_in};
 ghost use Rattle.schedule_text.specs.Schedules.{IsBitsOf, header_lines};
 ghost use Rattle.counted_ref.specs.Ref.{IsSplit};
 ghost use Rattle.schedule_text.specs.Texts.{Due, version, queue, number, happens, version_due, queue_due, number_due, events_left, due_after_queue, bits_said, is_due, IsSaidInRange};

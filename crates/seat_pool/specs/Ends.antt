@@ -1,6 +1,6 @@
 -- The end of a pool.
 use Rattle.std.specs.Prelude.{◌≡◌, ℕ, ◌<◌, List, map}
-use Rattle.history.specs.Closing.{Closes}
+use Rattle.history.specs.Ends.{Closes}
 use Rattle.history.specs.Seats.{Permit, Known}
 use Rattle.history.specs.declared.rests.Rest.{Rest}
 use Rattle.seat_pool.specs.declared.pools.SeatPool.{SeatPool}

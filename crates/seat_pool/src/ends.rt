@@ -99,7 +99,7 @@ impl<Q: Fifo + Drop> Store<Q> {
 
 impl<Q: Close + Drop> SeatPool<Q> {
     ghost use Rattle.seat_pool.specs.Pools.{store_of, queue_in, numbers_of, IsFrom};
-    ghost use Rattle.history.specs.Closing.{IsAskedOf};
+    ghost use Rattle.history.specs.Ends.{IsAskedOf};
     ghost use Rattle.seat_pool.specs.Ends.{ClosesPool, GivesPoolBack};
 
     /// Ends the pool and its queue by all its seats: what is left, as `Close::close_with` says, with the queue's end.

@@ -7,7 +7,7 @@ use Rattle.std.proofs.lemmas.List.Elements.{All-from_get_or}
 use Rattle.std.proofs.lemmas.List.Folds.{list_any_at, list_any_none}
 use Rattle.history.specs.declared.operations.Stamped.{Stamped}
 use Rattle.show_engine.specs.Pictures.{is_at, points_of, takes_effect, with_point}
-use Rattle.show_engine.specs.Showing.{is_among}
+use Rattle.show_engine.specs.PicturesWritten.{is_among}
 
 -- a number is among these and another one, if there is one, where it is that one or among these
 with_point-among : (at : Option ℕ) (points : List ℕ) (k : ℕ) → is_among (with_point at points) k ≡ (is_at k at || is_among points k)

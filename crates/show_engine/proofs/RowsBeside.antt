@@ -7,7 +7,7 @@ use Rattle.std.proofs.lemmas.Option.{slice_get_past}
 use Rattle.history.specs.declared.operations.Stamped.{Stamped}
 use Rattle.show_engine.specs.declared.scales.Scale.{Scale}
 use Rattle.show_engine.specs.Reasons.{earliest, least_of, operation_at, row_beside, rows_beside}
-use Rattle.show_engine.specs.Showing.{is_among}
+use Rattle.show_engine.specs.PicturesWritten.{is_among}
 
 -- the operation at a place where there is one
 pub operation_at-there : (ops : List Stamped) (place : ℕ) (o : Stamped) → slice_get ops (place - 1) ≡ Some o → operation_at ops place ≡ o ∷ []

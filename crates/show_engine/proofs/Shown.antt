@@ -11,16 +11,16 @@ use Rattle.schedule_text.specs.Schedules.{Schedule}
 use Rattle.step_machine.specs.Machine.{World}
 use Rattle.trace_engine.specs.declared.counts.Counted.{Counted as Run}
 use Rattle.trace_engine.specs.Pieces.{actors_text, rest_text}
-use Rattle.trace_engine.specs.Stopping.{IsCountOf as IsRunOf, StopsAt}
+use Rattle.trace_engine.specs.Extents.{IsCountOf as IsRunOf, StopsAt}
 use Rattle.trace_engine.proofs.Answered.{IsDue}
 use Rattle.show_engine.specs.declared.counts.Counted.{Counted}
 use Rattle.show_engine.specs.declared.frames.Frame.{Frame}
 use Rattle.show_engine.specs.declared.frames.View.{View}
 use Rattle.show_engine.specs.Frames.{frame_of}
 use Rattle.show_engine.specs.Pictures.{events_text, framed_text, picture_pieces, takes_effect}
-use Rattle.show_engine.specs.Showing.{AreEffects, IsCountOf, is_among, the_picture}
-use Rattle.show_engine.specs.Standing.{shown_stand}
-use Rattle.show_engine.specs.Stopping.{due_text}
+use Rattle.show_engine.specs.PicturesWritten.{AreEffects, IsCountOf, is_among, the_picture}
+use Rattle.show_engine.specs.StandRows.{shown_stand}
+use Rattle.show_engine.specs.RefusedPictures.{due_text}
 
 -- events lead to one world alone
 pub led_to_one : (start w v : World) (events : List Event) → EventsLead start events w → EventsLead start events v → v ≡ w

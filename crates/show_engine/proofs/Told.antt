@@ -8,7 +8,7 @@ use Rattle.text_io.specs.Blocks.{TakesPrefix}
 use Rattle.text_io.specs.Devices.{SinkState}
 use Rattle.show_engine.specs.declared.frames.View.{View}
 use Rattle.show_engine.specs.Timelines.{timeline_text}
-use Rattle.show_engine.specs.Telling.{BeginsTimeline}
+use Rattle.show_engine.specs.TimelinesWritten.{BeginsTimeline}
 
 -- where writing fails, a prefix of the timeline of what was read was written
 pub begins_timeline : {A : Type 0} (view : View) (given : Option (List ℕ)) (ops : List Stamped) (a b : SinkState) (result : Result A Refusal) → IsTextOf given ops

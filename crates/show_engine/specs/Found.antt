@@ -11,7 +11,7 @@ use Rattle.text_io.specs.Blocks.{TakesPrefix}
 use Rattle.text_io.specs.Devices.{SinkState}
 use Rattle.show_engine.specs.declared.frames.View.{View}
 use Rattle.show_engine.specs.Reasons.{found_picture}
-use Rattle.show_engine.specs.Showing.{is_among}
+use Rattle.show_engine.specs.PicturesWritten.{is_among}
 
 -- these are the same numbers, by rising number
 pub record AreRising (numbers rising : List ℕ) : Type 0 where

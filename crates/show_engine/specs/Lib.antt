@@ -4,11 +4,11 @@ pub mod Cells
 pub mod Chains
 pub mod Legends
 pub mod Pictures
-pub mod Standing
-pub mod Showing
-pub mod Stopping
+pub mod StandRows
+pub mod PicturesWritten
+pub mod RefusedPictures
 pub mod Scales
 pub mod Timelines
-pub mod Telling
+pub mod TimelinesWritten
 pub mod Reasons
 pub mod Found

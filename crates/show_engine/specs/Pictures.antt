@@ -21,7 +21,7 @@ use Rattle.show_engine.specs.Rows.{names_row, number_text, queue_text, row_text,
 use Rattle.show_engine.specs.Cells.{cell_text, gives_text, touch_text}
 use Rattle.show_engine.specs.Chains.{side_text, state_text}
 use Rattle.show_engine.specs.Legends.{legend_text, lines_in}
-use Rattle.show_engine.specs.Standing.{shown_stand}
+use Rattle.show_engine.specs.StandRows.{shown_stand}
 
 -- these numbers, behind another one, if there is one
 abbrev pub with_point : Option ℕ → List ℕ → List ℕ

@@ -13,7 +13,7 @@ use Rattle.show_engine.specs.declared.frames.View.{View}
 use Rattle.show_engine.specs.Frames.{width_of}
 use Rattle.show_engine.specs.declared.scales.Scale.{Scale}
 use Rattle.show_engine.specs.Scales.{end_of_history, is_shown}
-use Rattle.show_engine.specs.Showing.{is_among}
+use Rattle.show_engine.specs.PicturesWritten.{is_among}
 use Rattle.show_engine.specs.Timelines.{bar_text}
 
 -- the operation at a place of a list, from 1; none where there is none

@@ -2,7 +2,7 @@
 ghost use Rattle.std.specs.Prelude.{◌≡◌, ◌+◌, ◌≤◌, ◌++◌, codes, length, decimal};
 ghost use Rattle.history_text.specs.HistoryText.{call_text};
 ghost use Rattle.step_machine.specs.Accesses.{word_named};
-ghost use Rattle.trace_engine.specs.Standing.{at_text};
+ghost use Rattle.trace_engine.specs.Stands.{at_text};
 ghost use Rattle.show_engine.specs.Cells.{access_text, answer_text, cell_text, change_text, exchanges, gives_text, held_text, mark_text, name_text, named_reply, place_text};
 
 use history::{Op, Refusal, Reply};

@@ -3,7 +3,7 @@ ghost use Rattle.std.specs.Prelude.{◌≡◌, ◌≤◌, IfOk, IfErr, length, t
 ghost use Rattle.history.specs.declared.refusals.Refusal.TheVariants.{Memory};
 ghost use Rattle.run_engine.specs.Runs.{opening_of, EventsLead};
 ghost use Rattle.schedule_text.specs.Texts.{IsInRange};
-ghost use Rattle.show_engine.specs.Showing.{AreEffects, IsCountOf};
+ghost use Rattle.show_engine.specs.PicturesWritten.{AreEffects, IsCountOf};
 
 use crate::effects::effects_of;
 use history::Refusal;

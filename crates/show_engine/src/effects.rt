@@ -3,7 +3,7 @@ ghost use Rattle.std.specs.Prelude.{◌≡◌, IfOk, IfErr};
 ghost use Rattle.std.specs.List.Sorted.{IsNonDecreasing};
 ghost use Rattle.history.specs.declared.refusals.Refusal.TheVariants.{Memory};
 ghost use Rattle.show_engine.specs.Pictures.{points_of};
-ghost use Rattle.show_engine.specs.Showing.{AreEffects, is_among};
+ghost use Rattle.show_engine.specs.PicturesWritten.{AreEffects, is_among};
 
 use history::{Refusal, Stamped};
 use std::alloc::Global;

@@ -3,8 +3,8 @@ ghost use Rattle.std.specs.Prelude.{◌≡◌, ◌≢◌, ◌⊎◌, None, IfErr
 ghost use Rattle.run_engine.specs.Runs.{EndsReading, IsRunFault, RunRefused, TellsFaultyLine};
 ghost use Rattle.schedule_text.specs.Texts.{IsInRange};
 ghost use Rattle.text_io.specs.Blocks.{GivesUp};
-ghost use Rattle.show_engine.specs.Showing.{WritesPicture};
-ghost use Rattle.show_engine.specs.Stopping.{BeginsPicture, Draws, WritesStop};
+ghost use Rattle.show_engine.specs.PicturesWritten.{WritesPicture};
+ghost use Rattle.show_engine.specs.RefusedPictures.{BeginsPicture, Draws, WritesStop};
 
 use crate::counts::count;
 use crate::pictures::draw;

@@ -9,7 +9,7 @@ ghost use Rattle.show_engine.specs.Chains.{side_text, state_text};
 ghost use Rattle.show_engine.specs.Frames.{IsFitting};
 ghost use Rattle.show_engine.specs.Pictures.{drawn_text, told_row};
 ghost use Rattle.show_engine.specs.Rows.{number_text, row_text};
-ghost use Rattle.show_engine.specs.Showing.{is_among};
+ghost use Rattle.show_engine.specs.PicturesWritten.{is_among};
 
 use crate::cells::{begin_cell, give_cell, step_cell};
 use crate::chains::{side_line, state_line};

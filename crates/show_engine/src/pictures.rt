@@ -3,10 +3,10 @@ ghost use Rattle.std.specs.Prelude.{◌≡◌, [], take};
 ghost use Rattle.run_engine.specs.Runs.{EventsLead, opening_of};
 ghost use Rattle.schedule_text.specs.Texts.{IsInRange};
 ghost use Rattle.step_machine.specs.Machine.{World};
-ghost use Rattle.trace_engine.specs.Answering.{Tells};
+ghost use Rattle.trace_engine.specs.Answers.{Tells};
 ghost use Rattle.show_engine.specs.Frames.{IsFitting};
-ghost use Rattle.show_engine.specs.Showing.{IsCountOf};
-ghost use Rattle.show_engine.specs.Stopping.{due_text};
+ghost use Rattle.show_engine.specs.PicturesWritten.{IsCountOf};
+ghost use Rattle.show_engine.specs.RefusedPictures.{due_text};
 
 use crate::counts::Counted;
 use crate::frames::{Frame, Meaning};
@@ -33,7 +33,7 @@ impl<'a, const B: u32> RunPrinter<B> for Rows<'a> {
     ghost use Rattle.std.specs.List.Sorted.{IsNonDecreasing};
     ghost use Rattle.show_engine.specs.Frames.{IsFitting};
     ghost use Rattle.show_engine.specs.Pictures.{picture_pieces};
-    ghost use Rattle.show_engine.specs.Showing.{is_among};
+    ghost use Rattle.show_engine.specs.PicturesWritten.{is_among};
 
     ghost can_print = { λ rows. IsFitting rows.frame × IsNonDecreasing rows.effects.now };
 

@@ -3,7 +3,7 @@ ghost use Rattle.std.specs.Prelude.{◌≡◌, Some, IsSome};
 ghost use Rattle.step_machine.specs.Accesses.{touched_by, word_named};
 ghost use Rattle.step_machine.specs.Machine.{actor_of};
 ghost use Rattle.show_engine.specs.Frames.{IsFitting};
-ghost use Rattle.show_engine.specs.Standing.{shown_stand, stand_row};
+ghost use Rattle.show_engine.specs.StandRows.{shown_stand, stand_row};
 
 use crate::cells::stand_cell;
 use crate::frames::Frame;

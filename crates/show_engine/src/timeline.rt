@@ -6,7 +6,7 @@ ghost use Rattle.text_io.specs.Readings.{EndsReadingFor};
 ghost use Rattle.check_engine.specs.Checks.{TellsFirstFault};
 ghost use Rattle.show_engine.specs.Scales.{IsFitting};
 ghost use Rattle.show_engine.specs.Timelines.{scaled_text};
-ghost use Rattle.show_engine.specs.Telling.{BeginsTimeline, WritesTimeline};
+ghost use Rattle.show_engine.specs.TimelinesWritten.{BeginsTimeline, WritesTimeline};
 
 use crate::bars::{count_shown, shown_row, span_line};
 use crate::frames::View;

@@ -10,7 +10,7 @@ use Rattle.line_steps.specs.Actors.{Actor}
 use Rattle.line_steps.specs.Outcomes.{Outcome}
 use Rattle.line_steps.specs.Memory.{Shared, found, performed}
 use Rattle.line_steps.specs.Lines.{action, outcome}
-use Rattle.line_steps.specs.Calling.{begun}
+use Rattle.line_steps.specs.Calls.{begun}
 use Rattle.step_machine.specs.declared.actors.Move.TheVariants.{Begin, Step, Give}
 use Rattle.step_machine.specs.Machine.{World, opening, actor_of, rested, with_actor, last_of, with_outcome, after_outcome, new_operation, AnyMove, made, Rest, run}
 use Rattle.step_machine.specs.Stamps.{makers, numbered_by, IsBy, HasNoEffect, EndedBefore}

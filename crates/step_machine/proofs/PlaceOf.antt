@@ -7,7 +7,7 @@ use Rattle.step_machine.specs.declared.places.Place.TheVariants.{Untouched, Queu
 use Rattle.step_machine.specs.declared.places.Place.{Place}
 use Rattle.step_machine.specs.Machine.{World, IsReached, IsMade}
 use Rattle.step_machine.specs.Places.{IsEnd, IsQueueChain, one_if, times, held, set_aside, IsQueued, IsFree, Places}
-use Rattle.step_machine.specs.Placing.{IsAt, TellsWhetherThere, TellsOfChain}
+use Rattle.step_machine.specs.NodePlaces.{IsAt, TellsWhetherThere, TellsOfChain}
 use Rattle.step_machine.specs.EachQueue.{HasItsPlaces}
 use Rattle.step_machine.proofs.Reached.{made_reached}
 use Rattle.step_machine.proofs.Chains.{next_in, one_if_tells, one_if_same, one_if_other, ends_apart, chain_same, chain_some, null_times}

@@ -17,7 +17,7 @@ use Rattle.line_steps.specs.declared.actors.Held.{Held}
 use Rattle.line_steps.specs.Outcomes.{Outcome}
 use Rattle.line_steps.specs.Memory.{Shared, found, performed}
 use Rattle.line_steps.specs.Lines.{action, outcome, gives_up}
-use Rattle.line_steps.specs.Calling.{from_pocket, begun}
+use Rattle.line_steps.specs.Calls.{from_pocket, begun}
 use Rattle.step_machine.specs.declared.actors.Move.{Move}
 use Rattle.step_machine.specs.declared.actors.Move.TheVariants.{Begin, Step, Give}
 use Rattle.step_machine.specs.declared.actors.Stepped.{Stepped}
@@ -26,7 +26,7 @@ use Rattle.step_machine.specs.Machine.{World, opening, actor_of, rested, with_ac
 use Rattle.step_machine.specs.Calls.{giving_up, giving_up_at, stepped_at, line_of, step_answer, reply_of, ended_at, move_answer}
 use Rattle.step_machine.specs.Stamps.{makers, numbered_by}
 use Rattle.step_machine.specs.TakingEffect.{OfOperations}
-use Rattle.step_machine.specs.Recording.{maker, IsFirstOfCall, AreOfCallsBegun, IsEnd, EndAsTold, Ending, TellTheirEnds}
+use Rattle.step_machine.specs.Recorded.{maker, IsFirstOfCall, AreOfCallsBegun, IsEnd, EndAsTold, Ending, TellTheirEnds}
 use Rattle.step_machine.proofs.StampsInvariants.{actor_stands}
 use Rattle.step_machine.proofs.StampsMoves.{idle_got}
 use Rattle.step_machine.proofs.AnyMoves.{AfterEach}

@@ -17,12 +17,12 @@ use Rattle.line_steps.specs.declared.actors.Held.{Held}
 use Rattle.line_steps.specs.Outcomes.{Outcome}
 use Rattle.line_steps.specs.Memory.{Shared, found, performed}
 use Rattle.line_steps.specs.Lines.{action, gives_up}
-use Rattle.line_steps.specs.Calling.{from_pocket, begun}
+use Rattle.line_steps.specs.Calls.{from_pocket, begun}
 use Rattle.step_machine.specs.declared.actors.Move.TheVariants.{Begin, Step, Give}
 use Rattle.step_machine.specs.Machine.{World, opening, actor_of, rested, with_actor, last_of, latest_point, with_outcome, entry_or, after_outcome, AnyMove, made, Rest, run}
 use Rattle.step_machine.specs.Stamps.{makers, IsBy, AfterMoves}
 use Rattle.step_machine.specs.TakingEffect.{OfOperations}
-use Rattle.step_machine.specs.Recording.{IsRefusedAtItsEnd, looks, IsLook, IsLastLook, AreEmptyAtTheirLastLook}
+use Rattle.step_machine.specs.Recorded.{IsRefusedAtItsEnd, looks, IsLook, IsLastLook, AreEmptyAtTheirLastLook}
 use Rattle.step_machine.proofs.Reached.{some_of}
 use Rattle.step_machine.proofs.StampsLists.{by_within}
 use Rattle.step_machine.proofs.StampsInvariants.{StampsInvariant, actor_stands}

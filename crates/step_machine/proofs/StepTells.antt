@@ -17,7 +17,7 @@ use Rattle.line_steps.specs.Outcomes.{Outcome}
 use Rattle.line_steps.specs.Memory.{Found}
 use Rattle.line_steps.specs.Lines.{action, outcome, goes, ends, effect, sets_aside, empties_hand, to_pocket, freed, unlocked, left, left_with_node, busy_or, gives_up}
 use Rattle.step_machine.specs.TakingEffect.{IsByEffect}
-use Rattle.step_machine.specs.Recording.{looks}
+use Rattle.step_machine.specs.Recorded.{looks}
 use Rattle.step_machine.proofs.StampsLines.{PointFits, PointLeft, PointAt}
 
 -- what an outcome at a line tells; `looked` is whether the line looks for a node

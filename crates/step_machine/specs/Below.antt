@@ -31,6 +31,6 @@ pub use Rattle.line_steps.specs.Outcomes.{Outcome, settled, with_told}
 pub use Rattle.line_steps.specs.Steps.{memory_after}
 pub use Rattle.line_steps.specs.Memory.{found, Shared, node_at, nobody, performed, blank, word, Word, Fresh, Free, Head, Tail, Tail_lock, Head_lock, Next, Value_of, Content, content, put, Action, load, store, clear, exchange, Found, same}
 pub use Rattle.line_steps.specs.Lines.{action, outcome, gives_up, to_pocket, raised, raised_end, goes, ends, effect, empties_hand, sets_aside, with_node, dequeues, shuts, closed, left, left_with_node, freed, unlocked, busy_or, fills_hand}
-pub use Rattle.line_steps.specs.Calling.{is_call, begun, from_pocket}
+pub use Rattle.line_steps.specs.Calls.{is_call, begun, from_pocket}
 pub use Rattle.line_steps.specs.Rooms.{first_words, aside_after, first_memory, room_after}
 pub use Rattle.line_steps.specs.Ready.{RegistersFit, ReadsFit}

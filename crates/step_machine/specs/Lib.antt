@@ -18,12 +18,12 @@ pub mod ProgramCounters
 pub mod Lag
 pub mod NonBlocking
 pub mod Histories
-pub mod Placing
+pub mod NodePlaces
 pub mod Solo
 pub mod Prices
 pub mod Amounts
 pub mod Pairs
 pub mod TakingEffect
 pub mod Locks
-pub mod Recording
+pub mod Recorded
 pub mod Spans

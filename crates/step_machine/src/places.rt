@@ -2,7 +2,7 @@
 ghost use Rattle.std.specs.Prelude.{◌≡◌, ◌+◌, ◌<◌, length};
 ghost use Rattle.counted_ref.specs.Ref.{IsSplit, reserved_node};
 ghost use Rattle.step_machine.specs.Places.{in_hand, in_pocket, held};
-ghost use Rattle.step_machine.specs.Placing.{TellsWhetherThere, TellsOfChain};
+ghost use Rattle.step_machine.specs.NodePlaces.{TellsWhetherThere, TellsOfChain};
 
 use counted_ref::shut_node;
 use line_steps::{ActorOf, MemoryOf};

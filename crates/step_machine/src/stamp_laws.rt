@@ -3,8 +3,8 @@ ghost use Rattle.std.specs.Prelude.{◌≡◌, length, AllPairs};
 ghost use Rattle.std.specs.List.{AllByRecursion};
 ghost use Rattle.history.specs.History.{Placement};
 ghost use Rattle.step_machine.specs.TakingEffect.{OfOperations, OfOperationsOfCalls};
-ghost use Rattle.step_machine.specs.Recording.{IsRefusedAtItsEnd, AreEmptyAtTheirLastLook};
-ghost use Rattle.step_machine.specs.Recording.{AreOfCallsBegun, EndAsTold, TellTheirEnds};
+ghost use Rattle.step_machine.specs.Recorded.{IsRefusedAtItsEnd, AreEmptyAtTheirLastLook};
+ghost use Rattle.step_machine.specs.Recorded.{AreOfCallsBegun, EndAsTold, TellTheirEnds};
 ghost use Rattle.step_machine.specs.Spans.{NumbersLieInOne, NumbersLieInOneBeforeNext};
 ghost use Rattle.step_machine.specs.Stamps.{makers, IsStamped, BeginsBefore, DoNotOverlap, DoNotOverlapOrRest, AfterMoves, AfterCalls};
 

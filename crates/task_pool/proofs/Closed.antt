@@ -7,7 +7,7 @@ use Rattle.std.proofs.lemmas.List.Elements.{All-cons}
 use Rattle.history.specs.Seats.{Permit}
 use Rattle.carriers.specs.declared.rests.RestOf.{RestOf}
 use Rattle.carriers.specs.Knowledge.{KnownOf}
-use Rattle.carriers.specs.Closing.{ClosesOf, AsksSoMany}
+use Rattle.carriers.specs.Ends.{ClosesOf, AsksSoMany}
 use Rattle.carriers.specs.Rests.{left_in}
 use Rattle.tasks.specs.declared.answers.Done.{Done}
 use Rattle.tasks.specs.declared.answers.Outcome.{Outcome}

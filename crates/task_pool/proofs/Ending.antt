@@ -13,7 +13,7 @@ use Rattle.carriers.specs.declared.rests.RestOf.{RestOf}
 use Rattle.carriers.specs.Deeds.{Deed, did_push, did_pop, did_shut}
 use Rattle.carriers.specs.Knowledge.{KnownOf}
 use Rattle.carriers.specs.Rests.{left_in, was_shut_in}
-use Rattle.carriers.specs.Closing.{IsOfOneOf, AreAllOf, ClosesOf}
+use Rattle.carriers.specs.Ends.{IsOfOneOf, AreAllOf, ClosesOf}
 use Rattle.tasks.specs.declared.answers.Done.{Done}
 use Rattle.tasks.specs.declared.answers.Outcome.{Outcome}
 use Rattle.tasks.specs.declared.runs.Numbered.{Numbered}

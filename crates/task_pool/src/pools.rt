@@ -1,7 +1,7 @@
 //! Tasks that are run by a pool: what became of each.
 ghost use Rattle.std.specs.Prelude.{◌≡◌, ◌+◌, ◌++◌, length, map, Some, IfOk, IfErr};
 ghost use Rattle.std.specs.List.{All, Any};
-ghost use Rattle.carriers.specs.Closing.{AsksSoMany};
+ghost use Rattle.carriers.specs.Ends.{AsksSoMany};
 ghost use Rattle.carriers.specs.Rests.{left_in};
 ghost use Rattle.tasks.specs.Tasks.{AreTold};
 ghost use Rattle.tasks.specs.Gathers.{slots_in, fills};

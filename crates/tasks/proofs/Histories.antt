@@ -5,7 +5,7 @@ use Rattle.carriers.specs.declared.items.ItemOf.{ItemOf}
 use Rattle.carriers.specs.Deeds.{Deed, did_push, did_pop, did_shut, item, doer_of, own_deeds, RunsTo}
 use Rattle.carriers.specs.Values.{value_pushed, value_popped, values_pushed, values_popped}
 use Rattle.carriers.specs.Knowledge.{KnownOf}
-use Rattle.carriers.specs.Closing.{IsOfOneOf}
+use Rattle.carriers.specs.Ends.{IsOfOneOf}
 use Rattle.carriers.proofs.Running.{pushed-RunsTo}
 use Rattle.tasks.proofs.Lying.{Lies, lies-left, lies-right, lies-cases, lies-all, lies-at, lies-filter, filter-lies, lies-map, map-lies, lies-flat, flat-lies, zip-left, zip-right}
 

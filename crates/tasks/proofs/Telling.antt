@@ -5,7 +5,7 @@ use Rattle.std.proofs.lemmas.List.{length-replicate}
 use Rattle.carriers.specs.declared.items.ItemOf.{ItemOf}
 use Rattle.carriers.specs.Deeds.{Deed, own_deeds, RunsTo}
 use Rattle.carriers.specs.Knowledge.{KnownOf}
-use Rattle.carriers.specs.Closing.{IsOfOneOf}
+use Rattle.carriers.specs.Ends.{IsOfOneOf}
 use Rattle.tasks.specs.declared.answers.Done.{Done}
 use Rattle.tasks.specs.declared.answers.Outcome.{Outcome}
 use Rattle.tasks.specs.declared.runs.Numbered.{Numbered}

@@ -2,6 +2,6 @@ pub mod Lines
 pub mod Numerals
 pub mod Readings
 pub mod Grammars
-pub mod Wording
+pub mod WordsLeft
 pub mod Listings
 pub mod Printable

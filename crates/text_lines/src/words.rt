@@ -3,7 +3,7 @@ ghost use Rattle.std.specs.Prelude.{◌≡◌, ◌≢◌, ℕ, List, [], ◌∷�
 ghost use Rattle.text_lines.specs.Lines.{words_of};
 ghost use Rattle.text_lines.specs.Numerals.{IsWithin};
 ghost use Rattle.text_lines.specs.Readings.{ReadsWords};
-ghost use Rattle.text_lines.specs.Wording.{number_words};
+ghost use Rattle.text_lines.specs.WordsLeft.{number_words};
 
 use crate::numbers::number_in;
 use crate::line_splits::split_once;
@@ -21,7 +21,7 @@ pub struct Words<'a> {
 
 impl<'a> Model for Words<'a> {
     ghost use Rattle.std.specs.Prelude.{ℕ, List, option_map};
-    ghost use Rattle.text_lines.specs.Wording.{words_left};
+    ghost use Rattle.text_lines.specs.WordsLeft.{words_left};
 
     ghost Value = { List (List ℕ) };
 

@@ -15,8 +15,8 @@ use Rattle.text_io.specs.Blocks.{Sends, TakesPrefix}
 use Rattle.text_io.specs.Devices.{SinkState}
 use Rattle.text_io.proofs.Sends.{Appends-Sends}
 use Rattle.trace_engine.specs.declared.counts.Counted.{Counted}
-use Rattle.trace_engine.specs.Answering.{Answers, HasBegun, IsDueOf, IsStopOf, IsTracingFault, IsWholeOf, RunText, StopsTelling, Tells}
-use Rattle.trace_engine.specs.Stopping.{EndsAsCounted, IsCountOf}
+use Rattle.trace_engine.specs.Answers.{Answers, HasBegun, IsDueOf, IsStopOf, IsTracingFault, IsWholeOf, RunText, StopsTelling, Tells}
+use Rattle.trace_engine.specs.Extents.{EndsAsCounted, IsCountOf}
 use Rattle.trace_engine.proofs.Stops.{events_refused, is_refused, stops_at}
 
 -- what the moves of an event may be refused, with its line, an engine may be

@@ -14,7 +14,7 @@ use Rattle.text_io.proofs.Sends.{Sends-none, Sends-trans, Sends-all, TakesPrefix
 use Rattle.run_engine.specs.Runs.{world_after}
 use Rattle.run_engine.proofs.Moves.{world_after_both, world_after_one}
 use Rattle.trace_engine.specs.Pieces.{moves_text}
-use Rattle.trace_engine.specs.Answering.{StopsTelling, Tells}
+use Rattle.trace_engine.specs.Answers.{StopsTelling, Tells}
 use Rattle.trace_engine.proofs.Texts.{moves_text-append, first_moves, later_moves, moves_of-drop, replicate-first}
 
 -- of these moves from a world on, those were made and told that led to another, and the others are left

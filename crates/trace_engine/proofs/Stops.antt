@@ -11,7 +11,7 @@ use Rattle.schedule_text.specs.declared.schedules.Event.{Event}
 use Rattle.schedule_text.specs.Schedules.{Schedule, header_lines, moves_of}
 use Rattle.step_machine.specs.Machine.{World}
 use Rattle.trace_engine.specs.declared.counts.Counted.{Counted}
-use Rattle.trace_engine.specs.Stopping.{IsCount, IsCountOf, StopsAt}
+use Rattle.trace_engine.specs.Extents.{IsCount, IsCountOf, StopsAt}
 use Rattle.trace_engine.proofs.HasCounted.{HasCounted}
 
 module _ (start : World) (events : List Event) where

@@ -10,10 +10,10 @@ use Rattle.schedule_text.specs.Schedules.{Schedule, moves_of}
 use Rattle.step_machine.specs.Machine.{World}
 use Rattle.text_io.specs.Devices.{SinkState}
 use Rattle.trace_engine.specs.declared.counts.Counted.{Counted}
-use Rattle.trace_engine.specs.Answering.{Tells}
+use Rattle.trace_engine.specs.Answers.{Tells}
 use Rattle.trace_engine.specs.Pieces.{moves_text, run_text}
 use Rattle.trace_engine.specs.Steps.{header_text, move_text}
-use Rattle.trace_engine.specs.Tracing.{due_text, the_trace, trace_pieces}
+use Rattle.trace_engine.specs.TracesWritten.{due_text, the_trace, trace_pieces}
 use Rattle.trace_engine.proofs.Answered.{IsDue}
 
 -- it is due

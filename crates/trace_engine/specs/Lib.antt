@@ -1,6 +1,6 @@
 pub mod Pieces
 pub mod Steps
-pub mod Standing
-pub mod Answering
-pub mod Stopping
-pub mod Tracing
+pub mod Stands
+pub mod Answers
+pub mod Extents
+pub mod TracesWritten

@@ -3,7 +3,7 @@ ghost use Rattle.std.specs.Prelude.{◌≡◌, ◌≤◌, None, All, IfOk, IfErr
 ghost use Rattle.history.specs.declared.refusals.Refusal.TheVariants.{Memory};
 ghost use Rattle.run_engine.specs.Runs.{EventsLead, opening_of};
 ghost use Rattle.schedule_text.specs.Texts.{IsEventInRange, IsInRange};
-ghost use Rattle.trace_engine.specs.Stopping.{EndsAsCounted, IsCount, IsCountOf};
+ghost use Rattle.trace_engine.specs.Extents.{EndsAsCounted, IsCount, IsCountOf};
 
 use engine_faults::Fault;
 use history::Refusal;

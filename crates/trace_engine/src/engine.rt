@@ -3,7 +3,7 @@ ghost use Rattle.std.specs.Prelude.{◌≡◌, ◌≢◌, ◌⊎◌, None, IfErr
 ghost use Rattle.run_engine.specs.Runs.{EndsReading, IsRunFault, RunRefused, TellsFaultyLine};
 ghost use Rattle.schedule_text.specs.Texts.{IsInRange};
 ghost use Rattle.text_io.specs.Blocks.{GivesUp};
-ghost use Rattle.trace_engine.specs.Tracing.{BeginsTrace, Traces, WritesStop, WritesTrace};
+ghost use Rattle.trace_engine.specs.TracesWritten.{BeginsTrace, Traces, WritesStop, WritesTrace};
 
 use crate::counts::{count_steps, refuse_at};
 use crate::traces::write_trace;

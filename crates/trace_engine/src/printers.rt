@@ -2,7 +2,7 @@
 ghost use Rattle.std.specs.Prelude.{◌≡◌, ◌+◌, ◌<◌, ◌≤◌, ◌^◌, ◌++◌, ◌∷◌, [], Some, IsSome, OnOk};
 ghost use Rattle.step_machine.specs.Machine.{next};
 ghost use Rattle.text_io.specs.Blocks.{Puts};
-ghost use Rattle.trace_engine.specs.Answering.{Tells};
+ghost use Rattle.trace_engine.specs.Answers.{Tells};
 ghost use Rattle.trace_engine.specs.Pieces.{Pieces, moves_text};
 
 use history::Refusal;

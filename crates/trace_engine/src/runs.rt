@@ -6,9 +6,9 @@ ghost use Rattle.schedule_text.specs.Schedules.{moves_of, moves_of_event};
 ghost use Rattle.schedule_text.specs.Texts.{IsEventInRange, IsInRange};
 ghost use Rattle.step_machine.specs.Machine.{World};
 ghost use Rattle.text_io.specs.Blocks.{Puts};
-ghost use Rattle.trace_engine.specs.Answering.{Tells};
+ghost use Rattle.trace_engine.specs.Answers.{Tells};
 ghost use Rattle.trace_engine.specs.Pieces.{actors_text, moves_text, rest_text, run_text, stop_text};
-ghost use Rattle.trace_engine.specs.Stopping.{IsCountOf};
+ghost use Rattle.trace_engine.specs.Extents.{IsCountOf};
 
 use crate::counts::{Counted, first_events, opening_world};
 use crate::printers::RunPrinter;

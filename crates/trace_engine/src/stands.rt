@@ -3,7 +3,7 @@ ghost use Rattle.std.specs.Prelude.{◌≡◌, ◌+◌, ◌<◌, ◌≤◌, ◌^
 ghost use Rattle.step_machine.specs.Accesses.{touched_by, word_named};
 ghost use Rattle.step_machine.specs.Calls.{line_of};
 ghost use Rattle.step_machine.specs.Machine.{actor_of};
-ghost use Rattle.trace_engine.specs.Standing.{actor_in, alone_text, at_text, count_text, stand_text, standing_text, steps_alone};
+ghost use Rattle.trace_engine.specs.Stands.{actor_in, alone_text, at_text, count_text, stand_text, standing_text, steps_alone};
 
 use crate::lines::{push_contents, push_short, push_word};
 use history::Reply;

@@ -3,9 +3,9 @@ ghost use Rattle.std.specs.Prelude.{◌≡◌, [], take};
 ghost use Rattle.run_engine.specs.Runs.{EventsLead, opening_of};
 ghost use Rattle.schedule_text.specs.Texts.{IsInRange};
 ghost use Rattle.step_machine.specs.Machine.{World};
-ghost use Rattle.trace_engine.specs.Answering.{Tells};
-ghost use Rattle.trace_engine.specs.Stopping.{IsCountOf};
-ghost use Rattle.trace_engine.specs.Tracing.{due_text};
+ghost use Rattle.trace_engine.specs.Answers.{Tells};
+ghost use Rattle.trace_engine.specs.Extents.{IsCountOf};
+ghost use Rattle.trace_engine.specs.TracesWritten.{due_text};
 
 use crate::counts::Counted;
 use crate::printers::RunPrinter;
@@ -25,7 +25,7 @@ struct Trace {
 }
 
 impl<const B: u32> RunPrinter<B> for Trace {
-    ghost use Rattle.trace_engine.specs.Tracing.{trace_pieces};
+    ghost use Rattle.trace_engine.specs.TracesWritten.{trace_pieces};
 
     ghost can_print = { λ trace. Unit {0} };
 

@@ -16,8 +16,8 @@ use Rattle.history.specs.Rests.{taken_of, whole_of, was_shut_of, left_of}
 use Rattle.carriers.specs.declared.items.ItemOf.{ItemOf}
 use Rattle.carriers.specs.Deeds.{Deed, did_push, did_pop, did_shut, doer_of, own_deeds, is_pushing, is_popping, is_shutting, Runs}
 use Rattle.carriers.specs.Knowledge.{KnownOf}
-use Rattle.carriers.specs.Closing.{IsOfOneOf, ClosesWith}
-use Rattle.carriers.specs.Matching.{Matches}
+use Rattle.carriers.specs.Ends.{IsOfOneOf, ClosesWith}
+use Rattle.carriers.specs.DeedsOfNumbers.{Matches}
 use Rattle.node_arena.specs.declared.leftovers.LeftValues.{LeftValues}
 use Rattle.node_arena.specs.declared.seats.Seat.{Seat}
 use Rattle.node_arena.specs.Arenas.{Arena}
@@ -28,7 +28,7 @@ use Rattle.node_arena.specs.Seats.{IsReady, carries_of, deeds_of, known_of, perm
 use Rattle.node_arena.specs.AsMany.{pushers, pushers_of}
 use Rattle.node_arena.proofs.AsMany.{as_many}
 use Rattle.node_arena.proofs.Seens.{sound_of}
-use Rattle.value_queue.specs.Telling.{told, left_by, shut_by, seen_by, known_by}
+use Rattle.value_queue.specs.ValuesSeen.{told, left_by, shut_by, seen_by, known_by}
 use Rattle.value_queue.specs.Runs.{CanRun-Runs, Runs-told, left_by-Runs, Matches-told, told-append, as_item}
 use Rattle.value_queue.specs.Matched.{length-own, permitted-Matches}
 use Rattle.value_queue.specs.Sound.{nil, seen_matches}

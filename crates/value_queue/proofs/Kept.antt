@@ -6,7 +6,7 @@ use Rattle.history.specs.declared.refusals.WornWord.{WornWord}
 use Rattle.node_arena.specs.Machine.{Held}
 use Rattle.node_arena.specs.Arenas.{Arena}
 use Rattle.node_arena.specs.declared.seats.Seat.{Seat}
-use Rattle.node_arena.specs.Seeing.{SeatView}
+use Rattle.node_arena.specs.Knowledge.{SeatView}
 use Rattle.node_arena.specs.Hands.{KeepsKnown}
 use Rattle.node_arena.specs.Seats.{KeepsName, SeesMoreDeeds, view}
 use Rattle.node_arena.specs.Paths.{ExtendsPath, FindsShut, StopsAPush, FailedAt, EndedAt, IsRefusedAt, MetCause, added}

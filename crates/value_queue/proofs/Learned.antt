@@ -10,7 +10,7 @@ use Rattle.history.specs.declared.refusals.Refusal.TheVariants.{Closed}
 use Rattle.history.specs.Entries.{Leads}
 use Rattle.history.specs.Answers.{Adds, FoundEmpty, FoundShut, FoundShutEmpty, SeesMore, PushRefused, PopRefused}
 use Rattle.carriers.specs.Deeds.{Deed, did_push, did_pop, did_shut, doer_of, own_deeds, RunsTo, RunsToShut}
-use Rattle.carriers.specs.Matching.{Matches}
+use Rattle.carriers.specs.DeedsOfNumbers.{Matches}
 use Rattle.carriers.specs.Answers.{AddsDeed, FindsDone, SeesMoreOf, PushRefusedOf, PopRefusedOf, MeetsOf, DidShutOf}
 use Rattle.node_arena.specs.declared.seats.Seat.{Seat}
 use Rattle.node_arena.specs.Arenas.{Arena}
@@ -19,11 +19,11 @@ use Rattle.node_arena.specs.Deeds as slots
 use Rattle.node_arena.specs.Hands.{AddsOwn}
 use Rattle.node_arena.specs.Loads.{PopsFront}
 use Rattle.node_arena.specs.Beside.{slots_in}
-use Rattle.node_arena.specs.Seeing.{SeatView}
+use Rattle.node_arena.specs.Knowledge.{SeatView}
 use Rattle.node_arena.specs.Seats.{IsSeat, IsReady, Sees, SeesMoreDeeds, Meets, HasNoSlot, carries_of, deeds_of, known_of, view}
 use Rattle.arena_queue.specs.Answers.{AnswersShut}
 use Rattle.arena_queue.proofs.Pushes.{learns}
-use Rattle.value_queue.specs.Telling.{told, left_by, seen_by, known_by}
+use Rattle.value_queue.specs.ValuesSeen.{told, left_by, seen_by, known_by}
 use Rattle.value_queue.specs.Runs.{told-append, left_by-Runs, as_item}
 use Rattle.value_queue.specs.Matched.{length-Matches, Matches-rest, ends_shut}
 use Rattle.value_queue.specs.Sound.{nil, RunsTo-Matches, RunsToShut-Matches, seen_matches, seen_runs, length-mine}

@@ -7,7 +7,7 @@ use Rattle.history.specs.declared.operations.Entry.{Entry}
 use Rattle.history.specs.Entries.{is_pop}
 use Rattle.carriers.specs.declared.items.ItemOf.{ItemOf}
 use Rattle.carriers.specs.Deeds.{Deed, is_popping, RunsTo, IsRun}
-use Rattle.carriers.specs.Matching.{Matches}
+use Rattle.carriers.specs.DeedsOfNumbers.{Matches}
 use Rattle.carriers.proofs.Running.{run-first}
 use Rattle.node_arena.specs.declared.emptiness.Emptiness.{Emptiness}
 use Rattle.node_arena.specs.declared.emptiness.Emptiness.TheVariants.{Empty, ShutEmpty, Holds, Moved}
@@ -16,7 +16,7 @@ use Rattle.node_arena.specs.declared.seats.Seat.{Seat}
 use Rattle.node_arena.specs.Arenas.{Arena}
 use Rattle.node_arena.specs.Looks.{WasMeanwhile, LeadsToSome, FoundSo, WasSoLong}
 use Rattle.node_arena.specs.Seats.{IsSeat, SeesMoreDeeds, carries_of, known_of, view}
-use Rattle.value_queue.specs.Telling.{seen_by, known_by}
+use Rattle.value_queue.specs.ValuesSeen.{seen_by, known_by}
 use Rattle.value_queue.specs.Matched.{length-Matches, Matches-take, left-Matches}
 use Rattle.value_queue.specs.Sound.{RunsTo-Matches, seen_matches, seen_runs}
 use Rattle.value_queue.specs.Looks.{WasMeanwhileOf, RunsToSome, FoundSoOf, WasSoLongOf}

@@ -9,10 +9,10 @@ use Rattle.carriers.specs.Knowledge.{KnownOf}
 use Rattle.node_arena.specs.Arenas.{Arena}
 use Rattle.node_arena.specs.declared.seats.Seat.{Seat}
 use Rattle.node_arena.specs.Plans.{Layout, permit_of}
-use Rattle.node_arena.specs.Making.{IsMade, IsNewSeat}
+use Rattle.node_arena.specs.NewArenas.{IsMade, IsNewSeat}
 use Rattle.node_arena.specs.Seats.{IsReady, HasNoSlot, permits_of}
 use Rattle.node_arena.proofs.Openings.{made_permits}
-use Rattle.value_queue.specs.Telling.{told, known_by}
+use Rattle.value_queue.specs.ValuesSeen.{told, known_by}
 use Rattle.value_queue.specs.Queues.{AreNewOf, newcomer}
 
 -- what holds at each place of a list holds of all

@@ -20,7 +20,7 @@ use Rattle.node_arena.proofs.Moved.{one_value}
 use Rattle.node_arena.proofs.Loads.{took_slot}
 use Rattle.arena_queue.specs.Answers.{Draws}
 use Rattle.arena_queue.proofs.Pops.{draws_late, whole}
-use Rattle.value_queue.specs.Telling.{told, known_by}
+use Rattle.value_queue.specs.ValuesSeen.{told, known_by}
 use Rattle.value_queue.specs.Runs.{as_item}
 use Rattle.value_queue.specs.Pops.{TakesOut, AnswersPop}
 use Rattle.value_queue.proofs.Learned.{pop-deed, empty-deeds, pop_refused-deeds}

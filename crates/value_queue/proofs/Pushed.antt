@@ -13,8 +13,8 @@ use Rattle.node_arena.specs.Machine.{Held}
 use Rattle.node_arena.specs.Arenas.{Arena}
 use Rattle.node_arena.specs.declared.seats.Seat.{Seat}
 use Rattle.node_arena.specs.declared.slots.Got.{Got}
-use Rattle.node_arena.specs.Seeing.{SeatView}
-use Rattle.node_arena.specs.Seeing as seeing
+use Rattle.node_arena.specs.Knowledge.{SeatView}
+use Rattle.node_arena.specs.Knowledge as seeing
 use Rattle.node_arena.specs.Deeds.{Deed, pushed}
 use Rattle.node_arena.specs.Beside.{slots_in}
 use Rattle.node_arena.specs.Hands.{HasSlot, KeepsKnown, AddsOwn, FailedTries}
@@ -25,7 +25,7 @@ use Rattle.node_arena.proofs.Paths.{no_walk, sees_on}
 use Rattle.free_list.specs.Takes.{TakeRefused}
 use Rattle.arena_queue.specs.Answers.{PutRefused, PutsAnd, PutMoves, Puts}
 use Rattle.arena_queue.proofs.Pushes.{put_behind, learns, learns_of_take}
-use Rattle.value_queue.specs.Telling.{known_by}
+use Rattle.value_queue.specs.ValuesSeen.{known_by}
 use Rattle.value_queue.specs.Pushes.{HasNode, TakesBack, MissedSlots, PushRefused, AnswersPush, back_with}
 use Rattle.value_queue.proofs.Learned.{push-deed, push_refused-deeds}
 use Rattle.value_queue.proofs.Kept.{added_still, name_still, more_still, stops_still, cause_still}

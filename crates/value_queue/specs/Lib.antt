@@ -1,9 +1,9 @@
-pub mod Telling
+pub mod ValuesSeen
 pub mod Runs
 pub mod Matched
 pub mod Sound
 pub mod Queues
 pub mod Pushes
 pub mod Pops
-pub mod Closing
+pub mod Ends
 pub mod Looks

@@ -16,7 +16,7 @@ use Rattle.history.specs.Seats.{Permit, IsPermitted}
 use Rattle.carriers.specs.declared.items.ItemOf.{ItemOf}
 use Rattle.carriers.specs.Deeds.{Deed, did_push, did_pop, did_shut, own_deeds, Runs}
 use Rattle.carriers.specs.Knowledge.{IsPermittedDeed}
-use Rattle.carriers.specs.Matching.{Matches}
+use Rattle.carriers.specs.DeedsOfNumbers.{Matches}
 
 -- lists of one more element or none
 length-cond : {X Y : Type 0} (b c : Bool) (x : X) (y : Y) (xs : List X) (ys : List Y) → b ≡ c → length xs ≡ length ys → length (cond b (x ∷ xs) xs) ≡ length (cond c (y ∷ ys) ys)

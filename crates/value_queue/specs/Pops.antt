@@ -12,7 +12,7 @@ use Rattle.node_arena.specs.declared.seats.Seat.{Seat}
 use Rattle.node_arena.specs.Hands.{HasSlot, KeepsKnown}
 use Rattle.node_arena.specs.Seats.{IsReady, KeepsName, HasNoSlot, pocket_of, keeps_of}
 use Rattle.arena_queue.specs.Answers.{FailsFew, FreesItsNode, PopRefused}
-use Rattle.value_queue.specs.Telling.{known_by}
+use Rattle.value_queue.specs.ValuesSeen.{known_by}
 
 -- the value of what was popped came out of its slot, which was given back
 pub record TakesOut {T : Type 0} (r : Arena) (s t : Seat T) (taken : Taken) (front : ItemOf T) : Type 0 where

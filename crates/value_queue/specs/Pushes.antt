@@ -16,7 +16,7 @@ use Rattle.node_arena.specs.Paths.{HadNoEffect, EndsFailed, added}
 use Rattle.free_list.specs.Takes.{TakeRefused}
 use Rattle.arena_queue.specs.Answers.{FailsFewer}
 use Rattle.arena_queue.specs.Answers as numbers
-use Rattle.value_queue.specs.Telling.{known_by}
+use Rattle.value_queue.specs.ValuesSeen.{known_by}
 
 -- a push has a node in its seat's pocket, after so many failed turns, or there was none
 pub record HasNode {T : Type 0} (r : Arena) (s t : Seat T) (turns : ℕ) (out : Result (Held × ℕ) Refusal) : Type 0 where

@@ -8,7 +8,7 @@ use Rattle.node_arena.specs.Arenas.{Arena}
 use Rattle.node_arena.specs.declared.seats.Seat.{Seat}
 use Rattle.node_arena.specs.Seats as seats
 use Rattle.node_arena.specs.Seats.{IsReady, HasNoSlot}
-use Rattle.node_arena.specs.Making.{value_plan, IsMade}
+use Rattle.node_arena.specs.NewArenas.{value_plan, IsMade}
 use Rattle.arena_queue.specs.declared.algorithms.Algorithm.{Ghosts}
 use Rattle.value_queue.specs.declared.queue.QueueOf.{QueueOf}
 

@@ -7,10 +7,10 @@ use Rattle.history.specs.declared.operations.Entry.{Entry}
 use Rattle.history.specs.declared.operations.Entry.TheVariants.{Push, Pop, Shut}
 use Rattle.carriers.specs.declared.items.ItemOf.{ItemOf}
 use Rattle.carriers.specs.Deeds.{did_push, did_pop, did_shut, item, Runs}
-use Rattle.carriers.specs.Matching.{Matches}
+use Rattle.carriers.specs.DeedsOfNumbers.{Matches}
 use Rattle.node_arena.specs.Deeds.{Item, pushed, popped, closed}
 use Rattle.node_arena.specs.Deeds as slots
-use Rattle.value_queue.specs.Telling.{told, left_by, shut_by}
+use Rattle.value_queue.specs.ValuesSeen.{told, left_by, shut_by}
 
 module _ {T : Type 0} where
   -- some deeds, and then others

@@ -11,7 +11,7 @@ use Rattle.history.specs.Seats.{IsNoted, IsSound}
 use Rattle.carriers.specs.declared.items.ItemOf.{ItemOf}
 use Rattle.carriers.specs.Deeds.{Deed, own_deeds, RunsTo, RunsToShut, IsRun}
 use Rattle.carriers.specs.Knowledge.{IsNotedOf, IsSoundOf}
-use Rattle.carriers.specs.Matching.{Matches}
+use Rattle.carriers.specs.DeedsOfNumbers.{Matches}
 use Rattle.carriers.proofs.Running.{run-first}
 use Rattle.node_arena.specs.declared.seats.Seat.{Seat}
 use Rattle.node_arena.specs.Arenas.{Arena}
@@ -19,7 +19,7 @@ use Rattle.node_arena.specs.Beside.{KnowsBy, slots_in}
 use Rattle.node_arena.specs.Seats.{IsSeat, IsReady, HasNoSlot, carries_of, deeds_of, known_of, permits_of, view}
 use Rattle.node_arena.proofs.OneProof.{IsReady-prop}
 use Rattle.node_arena.proofs.Seens.{sound_of}
-use Rattle.value_queue.specs.Telling.{left_by, shut_by, seen_by, known_by}
+use Rattle.value_queue.specs.ValuesSeen.{left_by, shut_by, seen_by, known_by}
 use Rattle.value_queue.specs.Runs.{CanRun, CanRun-prop, Runs-told, CanRun-Runs, Matches-told}
 use Rattle.value_queue.specs.Matched.{Matches-prop, Matches-take, length-Matches, length-own, permitted-Matches, left-Matches}
 

@@ -25,7 +25,7 @@ impl<T: Send, A: Algorithm<B>, const B: u32> Carrier for QueueOf<T, A, B> {
     ghost use Rattle.carriers.specs.Answers.{PushedOf, PopAnswersOf, DidShutOf, PushRefusedOf, PopRefusedOf};
     ghost use Rattle.node_arena.specs.Seats.{pocket_of, keeps_of};
     ghost use Rattle.arena_queue.specs.Answers.{FailsFewer, FailsFew, FreesItsNode, PopRefused, ShutRefused};
-    ghost use Rattle.value_queue.specs.Telling.{known_by};
+    ghost use Rattle.value_queue.specs.ValuesSeen.{known_by};
     ghost use Rattle.value_queue.specs.Queues.{arena_of, permits_of, IsQueueSeat};
     ghost use Rattle.value_queue.specs.Pushes.{PushRefused};
     ghost use Rattle.value_queue.specs.Pops.{KeepsItsNode};

@@ -2,12 +2,12 @@
 ghost use Rattle.std.specs.Prelude.{◌≡◌, ◌≤◌, [], map, length, vec_capacity, IfOk, IfErr};
 ghost use Rattle.std.specs.List.{All};
 ghost use Rattle.history.specs.Rests.{left_of, taken_of, whole_of, was_shut_of};
-ghost use Rattle.carriers.specs.Closing.{ClosesOf};
+ghost use Rattle.carriers.specs.Ends.{ClosesOf};
 ghost use Rattle.carriers.specs.Rests.{left_in, taken_in, whole_in, was_shut_in};
 ghost use Rattle.node_arena.specs.Ended.{HasRoomFor, Leaves};
 ghost use Rattle.node_arena.specs.AsMany.{pushers, pushers_of};
 ghost use Rattle.node_arena.specs.Leftovers.{rest_in, values_in};
-ghost use Rattle.value_queue.specs.Telling.{known_by};
+ghost use Rattle.value_queue.specs.ValuesSeen.{known_by};
 ghost use Rattle.value_queue.specs.Runs.{as_item};
 
 use crate::queue::QueueOf;
@@ -48,7 +48,7 @@ fn rest_of<T: Drop>(mut left: LeftValues<T>, mut values: Vec<ItemOf<T>>) -> Rest
 }
 
 impl<T, A: Algorithm<B>, const B: u32> QueueOf<T, A, B> {
-    ghost use Rattle.value_queue.specs.Closing.{ClosesLeft};
+    ghost use Rattle.value_queue.specs.Ends.{ClosesLeft};
     ghost use Rattle.value_queue.specs.Queues.{arena_of, permits_of, IsQueueSeat};
 
     /// Ends a queue whose values need not be `Drop`, and the seats handed in, as `CloseCarrier::close_with` does: the values
@@ -81,7 +81,7 @@ impl<T, A: Algorithm<B>, const B: u32> QueueOf<T, A, B> {
 }
 
 impl<T: Send + Drop, A: Algorithm<B>, const B: u32> CloseCarrier for QueueOf<T, A, B> {
-    ghost use Rattle.value_queue.specs.Closing.{HasRoom, LeavesValues};
+    ghost use Rattle.value_queue.specs.Ends.{HasRoom, LeavesValues};
     ghost use Rattle.value_queue.specs.Queues.{arena_of, permits_of, IsQueueSeat};
 
     type Room = Room<T>;

@@ -1,7 +1,7 @@
 //! What a seat can see of its queue without taking anything.
 ghost use Rattle.std.specs.Prelude.{◌≡◌};
 ghost use Rattle.line_table.specs.declared.lines.Kind.TheVariants.{NonBlocking};
-ghost use Rattle.value_queue.specs.Telling.{known_by};
+ghost use Rattle.value_queue.specs.ValuesSeen.{known_by};
 ghost use Rattle.value_queue.specs.Looks.{FoundSoOf, WasSoLongOf};
 
 use crate::queue::QueueOf;

@@ -3,7 +3,7 @@ ghost use Rattle.std.specs.Prelude.{◌≡◌, true, IfOk, IfErr, OnOk};
 ghost use Rattle.counted_ref.specs.Ref.{IsSplit};
 ghost use Rattle.node_arena.specs.Plans.{IsPlanned};
 ghost use Rattle.node_arena.specs.Seats.{carries_of};
-ghost use Rattle.node_arena.specs.Making.{value_plan, NewRefused};
+ghost use Rattle.node_arena.specs.NewArenas.{value_plan, NewRefused};
 ghost use Rattle.arena_queue.specs.Answers.{IsOfKind};
 
 use arena_queue::Algorithm;
@@ -45,7 +45,7 @@ impl<T, A: Algorithm<B>, const B: u32> QueueOf<T, A, B> {
     ghost use Rattle.std.specs.Prelude.{map};
     ghost use Rattle.std.specs.List.{All};
     ghost use Rattle.node_arena.specs.Plans.{permits_by};
-    ghost use Rattle.value_queue.specs.Telling.{known_by};
+    ghost use Rattle.value_queue.specs.ValuesSeen.{known_by};
     ghost use Rattle.value_queue.specs.Queues.{permits_of, AreNewOf, IsQueueSeat, IsQueueMade};
 
     /// A queue with so many nodes and slots, from 2 to the `most_node` of the split, the greatest count `limit`, from 1 to

@@ -1,6 +1,6 @@
 //! Rounds of pushes and pops in threads, of which each value is looked at.
 ghost use Rattle.std.specs.Thread.{IsSync};
-ghost use Rattle.carriers.specs.Closing.{AsksSoMany};
+ghost use Rattle.carriers.specs.Ends.{AsksSoMany};
 ghost use Rattle.value_stress.specs.Seated.{MayCall, AreTwo, AreFour};
 
 use crate::loads::Load;

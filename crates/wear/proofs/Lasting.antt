@@ -15,7 +15,7 @@ use Rattle.node_arena.specs.Traces.{Traced, IsTraced}
 use Rattle.node_arena.proofs.Tracing.{traced_reached}
 use Rattle.node_arena.proofs.Histories.{history_plays, counts_pops}
 use Rattle.node_arena.proofs.Rooms.{history_few}
-use Rattle.wear.specs.Lasting.{pushes_left, GoesOn, TakesFewer, Leaves, EachLasts}
+use Rattle.wear.specs.PushesLeft.{pushes_left, GoesOn, TakesFewer, Leaves, EachLasts}
 use Rattle.wear.proofs.FreeCounts.{free_counts}
 use Rattle.wear.proofs.TailCounts.{tail_counts}
 use Rattle.wear.proofs.FreeList.{FreeList, free_list}

@@ -1,7 +1,7 @@
 //! Laws of what the counts of a queue's words count, over all traced worlds; Head's count is the number of pops, by a law of
 //! node_arena. Each is the contract of a function that does nothing.
 ghost use Rattle.wear.specs.Counts.{OfTraces, FreeCountsNodes, TailCountsPushes};
-ghost use Rattle.wear.specs.Lasting.{pushes_left, EachLasts};
+ghost use Rattle.wear.specs.PushesLeft.{pushes_left, EachLasts};
 
 /// Free's count is twice the number of the nodes that all seats took from the free list, and the number of those that are in
 /// it.

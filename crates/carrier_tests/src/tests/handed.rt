@@ -1,6 +1,6 @@
 //! Values that go through the queues of values, and come back where they don't.
 ghost use Rattle.std.specs.List.{All};
-ghost use Rattle.carriers.specs.Closing.{AsksSoMany};
+ghost use Rattle.carriers.specs.Ends.{AsksSoMany};
 ghost use Rattle.value_queue.specs.Queues.{IsQueueSeat};
 
 use super::calls::{last, pop, push, same, shut};

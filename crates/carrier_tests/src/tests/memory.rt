@@ -1,7 +1,7 @@
 //! A queue of values where memory is refused: what comes back, and that each value is dropped once.
 ghost use Rattle.std.specs.Prelude.{IfOk};
 ghost use Rattle.std.specs.List.{All};
-ghost use Rattle.carriers.specs.Closing.{AsksAny};
+ghost use Rattle.carriers.specs.Ends.{AsksAny};
 ghost use Rattle.value_queue.specs.Queues.{IsQueueSeat};
 
 use super::calls::{last, push, same};

@@ -1,6 +1,6 @@
 //! How runs of `dispatch` end: by a shut, or without one where it is refused.
 ghost use Rattle.std.specs.List.{All};
-ghost use Rattle.history.specs.Closing.{AsksAny};
+ghost use Rattle.history.specs.Ends.{AsksAny};
 
 use super::comparisons::same;
 use super::gates::Open;

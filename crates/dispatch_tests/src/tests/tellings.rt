@@ -1,6 +1,6 @@
 //! What a run of jobs tells, also where some are lost.
 ghost use Rattle.std.specs.List.{All};
-ghost use Rattle.history.specs.Closing.{AsksAny};
+ghost use Rattle.history.specs.Ends.{AsksAny};
 
 use super::comparisons::same;
 use super::gates::Open;

@@ -2,7 +2,7 @@
 ghost use Rattle.std.specs.List.{All};
 ghost use Rattle.mailbox.specs.Openings.{CanSend, CanReceive};
 ghost use Rattle.mailbox.specs.Offices.{IsSender, IsReceiver};
-ghost use Rattle.mailbox.specs.Posting.{IsTask};
+ghost use Rattle.mailbox.specs.Posts.{IsTask};
 
 use super::comparisons::same;
 use super::letters::{TURNS, last, sends};

@@ -1,7 +1,7 @@
 //! Runs of any queue: what its calls answer, and what it leaves.
 ghost use Rattle.std.specs.Prelude.{IfOk};
 ghost use Rattle.std.specs.List.{All};
-ghost use Rattle.history.specs.Closing.{AsksAny};
+ghost use Rattle.history.specs.Ends.{AsksAny};
 
 use super::calls::{parts, pop, push, shut};
 use super::comparisons::same;

@@ -1,7 +1,7 @@
 //! Two threads that push and pop on one queue.
 ghost use Rattle.std.specs.Prelude.{IfOk, IfSome};
 ghost use Rattle.std.specs.List.{All};
-ghost use Rattle.history.specs.Closing.{AsksAny};
+ghost use Rattle.history.specs.Ends.{AsksAny};
 ghost use Rattle.history.specs.Seats.{MayPush, MayPop};
 ghost use Rattle.queue_tests.specs.Rounds.{MayBegin};
 

@@ -1,6 +1,6 @@
 //! Where a node of a world is.
 ghost use Rattle.std.specs.Prelude.{◌≡◌, ◌≤◌};
-ghost use Rattle.step_machine.specs.Placing.{IsAt};
+ghost use Rattle.step_machine.specs.NodePlaces.{IsAt};
 
 use crate::places::{Place, is_held, is_in_chain};
 use crate::world::WorldOf;

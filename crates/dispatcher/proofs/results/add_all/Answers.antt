@@ -1,7 +1,7 @@
 use Rattle.std.proofs.Common.{◌∙◌, ◌+◌, inl, inr, sym, refl, subst, map, [], ◌∷◌}
 use Rattle.std.specs.List.{All, Contains}
 use Rattle.std.proofs.lemmas.List.Elements.{All-head, All-tail, Contains-append_left, Contains-append_right, Contains-append_cases}
-use Rattle.job_results.specs.Gathering.{IsListed}
+use Rattle.job_results.specs.GatheredResults.{IsListed}
 use Rattle.job_results.specs.Gathers.{jobs_in}
 use Rattle.job_results.specs.Results.{number_in}
 use Rattle.dispatcher.proofs.Adding.{added_one, filled_one}

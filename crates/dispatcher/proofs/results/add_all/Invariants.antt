@@ -1,6 +1,6 @@
 use Rattle.std.specs.Prelude.{◌≡◌, ◌⊎◌, ◌+◌, ℕ, map}
 use Rattle.std.specs.List.{All, Contains}
-use Rattle.job_results.specs.Gathering.{IsListed}
+use Rattle.job_results.specs.GatheredResults.{IsListed}
 use Rattle.job_results.specs.Gathers.{jobs_in, found_in}
 use Rattle.job_results.specs.Results.{number_in}
 use Rattle.dispatcher.specs.Goings.{IsFilled, OnlyAdds}

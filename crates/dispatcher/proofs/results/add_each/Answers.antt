@@ -1,7 +1,7 @@
 use Rattle.std.proofs.Common.{◌∙◌, ◌+◌, ◌++◌, inl, inr, sym, refl, ap, subst, [], ◌∷◌, length, append_assoc, arith}
 use Rattle.std.specs.List.{All, Contains}
 use Rattle.std.proofs.lemmas.List.Elements.{All-head, All-tail, Contains-append_left, Contains-append_right, Contains-append_cases}
-use Rattle.job_results.specs.Gathering.{IsListed}
+use Rattle.job_results.specs.GatheredResults.{IsListed}
 use Rattle.job_results.specs.Gathers.{jobs_in}
 use Rattle.dispatcher.specs.Goings.{AreListed, numbers_of, numbers_in, seats_in}
 use Rattle.dispatcher.proofs.results.add_each.Goals as goal

@@ -1,7 +1,7 @@
 use Rattle.std.proofs.Common.{◌≡◌, ◌∙◌, ap}
 use Rattle.node_arena.specs.Plans.{permits_by}
 use Rattle.value_queue.specs.Queues.{IsQueueSeat, permits_of}
-use Rattle.value_queue.specs.Telling.{known_by}
+use Rattle.value_queue.specs.ValuesSeen.{known_by}
 use Rattle.executor.specs.Roles.{pool_roles}
 use Rattle.executor.proofs.Crews.{many, crew_of}
 use Rattle.executor.proofs.new_queues.pool_queue.Goals as goal

@@ -5,7 +5,7 @@ use Rattle.std.proofs.lemmas.List.{length-append}
 use Rattle.std.proofs.lemmas.List.Elements.{All-pop}
 use Rattle.blocking_carrier.specs.Queues.{queue_of}
 use Rattle.tasks.proofs.Lying.{zip-push}
-use Rattle.fed_pool.specs.Serving.{IsPost, IsServed}
+use Rattle.fed_pool.specs.Workers.{IsPost, IsServed}
 use Rattle.fed_pool.specs.Crews.{HasRoomFor}
 use Rattle.fed_pool.proofs.Closing.{as_many}
 use Rattle.fed_pool.proofs.crews.+crew.Goals as goal

@@ -1,7 +1,7 @@
 use Rattle.std.proofs.Common.{refl, sym, subst, []}
 use Rattle.std.specs.List.{AllZip}
 use Rattle.blocking_carrier.specs.Queues.{queue_of}
-use Rattle.fed_pool.specs.Serving.{IsServed}
+use Rattle.fed_pool.specs.Workers.{IsServed}
 use Rattle.fed_pool.proofs.crews.lead_team.Goals as goal
 
 pub returns-clause-crew : goal.returns-clause-crew

@@ -1,6 +1,6 @@
 use Rattle.std.proofs.Common.{◌≡◌}
 use Rattle.blocking_carrier.specs.Queues.{queue_of}
-use Rattle.fed_pool.specs.Leading.{GoesOn}
+use Rattle.fed_pool.specs.Leaders.{GoesOn}
 use Rattle.fed_pool.proofs.leader.lead_on.Given as goal
 
 abbrev pub invariant-loop : goal.invariant-loop

@@ -1,7 +1,7 @@
 use Rattle.std.proofs.Common.{◌≡◌, ◌∙◌, ◌+◌, ◌<◌, ap, arith}
 use Rattle.node_arena.specs.Plans.{permits_by}
 use Rattle.value_queue.specs.Queues.{IsQueueSeat, permits_of}
-use Rattle.value_queue.specs.Telling.{known_by}
+use Rattle.value_queue.specs.ValuesSeen.{known_by}
 use Rattle.fed_pool.specs.Roles.{line_roles}
 use Rattle.fed_pool.proofs.Seats as made_by
 use Rattle.fed_pool.proofs.new_pools.line.Goals as goal

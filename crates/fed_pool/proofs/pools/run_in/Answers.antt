@@ -1,6 +1,6 @@
 use Rattle.std.proofs.Common.{sym, subst, arith, ◌∙◌}
 use denote.Param.Send.{sendable}
-use Rattle.carriers.specs.Closing.{AsksSoMany}
+use Rattle.carriers.specs.Ends.{AsksSoMany}
 use Rattle.fed_pool.specs.Pools.{IsNew}
 use Rattle.fed_pool.proofs.Posts.{on}
 use Rattle.fed_pool.proofs.Starting.{new_posts, new_leader, new_ended, new_many}

@@ -1,5 +1,5 @@
 use Rattle.std.proofs.Common.{◌∙◌, ◌++◌, refl, sym, ap}
-use Rattle.fed_pool.specs.Serving.{unsent_in}
+use Rattle.fed_pool.specs.Workers.{unsent_in}
 use Rattle.fed_pool.specs.Pools.{unsent_of}
 use Rattle.fed_pool.proofs.Telling.{told_none, told_one, not_empty}
 use Rattle.fed_pool.proofs.pools.tell_unsent.Goals as goal

@@ -1,6 +1,6 @@
 use Rattle.std.specs.Prelude.{◌≡◌, None}
 use Rattle.blocking_carrier.specs.Queues.{queue_of}
-use Rattle.fed_pool.specs.Serving.{IsPost, ServesSo}
+use Rattle.fed_pool.specs.Workers.{IsPost, ServesSo}
 use Rattle.fed_pool.proofs.worker.serve.Given as goal
 
 abbrev pub invariant-loop : goal.invariant-loop

@@ -1,9 +1,9 @@
 -- The one waiter comes back to the list that it was taken from; and what is left of it is what it sent.
 use Rattle.std.proofs.Common.{◌∙◌, ◌++◌, ◌∷◌, [], refl, ap, subst}
-use Rattle.carriers.specs.Closing.{ClosesOf}
+use Rattle.carriers.specs.Ends.{ClosesOf}
 use Rattle.channels.specs.Handles.{sender_queue, sender_seat, receiver_seat}
 use Rattle.value_queue.specs.Queues.{newcomer}
-use Rattle.value_queue.specs.Telling.{known_by}
+use Rattle.value_queue.specs.ValuesSeen.{known_by}
 use Rattle.picked_values.specs.Queues.{permits_of}
 use Rattle.post_office.specs.Offices.{office_queue, office_seat}
 use Rattle.first_letters.proofs.Left.{alone, put_back, known_three, first_left}

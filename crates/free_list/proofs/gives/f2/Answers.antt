@@ -1,7 +1,7 @@
 use Rattle.std.proofs.Common.{◌^◌, ◌<◌, ap, sym, ◌∙◌, subst, lit≤, arith, rules}
 use Rattle.counted_ref.specs.Ref.{reserved_node, count_bits}
 use Rattle.node_arena.specs.Machine.{Setup}
-use Rattle.free_list.specs.Running.{Running}
+use Rattle.free_list.specs.Registers.{Running}
 use Rattle.free_list.proofs.Steps.{mark_f2, top_f2}
 use Rattle.node_arena.specs.Prologues.{continues}
 use Rattle.free_list.proofs.GiveBack.{after_f2}

@@ -1,7 +1,7 @@
 use Rattle.std.proofs.Common.{◌^◌, ◌<◌, ap, sym, subst, lit≤, arith}
 use Rattle.counted_ref.specs.Ref.{reserved_node, count_bits}
 use Rattle.node_arena.specs.Machine.{Setup}
-use Rattle.free_list.specs.Running.{Running}
+use Rattle.free_list.specs.Registers.{Running}
 use Rattle.free_list.proofs.Steps.{room_f3, node_f3}
 use Rattle.free_list.proofs.gives.f3.Goals as goal
 

@@ -1,7 +1,7 @@
 use Rattle.std.proofs.Common.{◌^◌, ◌<◌, ap, sym, subst, lit≤, arith}
 use Rattle.counted_ref.specs.Ref.{count_bits}
 use Rattle.node_arena.specs.Machine.{Setup}
-use Rattle.free_list.specs.Running.{Running}
+use Rattle.free_list.specs.Registers.{Running}
 use Rattle.free_list.proofs.Steps.{room_n4}
 use Rattle.free_list.proofs.takes.n4.Goals as goal
 

@@ -1,7 +1,7 @@
 use Rattle.std.proofs.Common.{ap, arith}
 use Rattle.node_arena.specs.Prologues.{continues}
 use Rattle.counted_ref.proofs.Words.{span_most}
-use Rattle.free_list.specs.Running.{Running}
+use Rattle.free_list.specs.Registers.{Running}
 use Rattle.free_list.proofs.Steps.{left_n5, taken_small}
 use Rattle.free_list.proofs.takes.n5.Goals as goal
 

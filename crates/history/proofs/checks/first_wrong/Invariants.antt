@@ -1,7 +1,7 @@
 use Rattle.std.proofs.Common.{◌≡◌, map}
 use Rattle.history.specs.Queue.{empty}
 use Rattle.history.specs.History as rule
-use Rattle.history.specs.Checking.{listed, queue_of}
+use Rattle.history.specs.Tables.{listed, queue_of}
 use Rattle.history.proofs.checks.first_wrong.Given as goal
 
 abbrev pub invariant-loop-operation : goal.invariant-loop-operation

@@ -1,7 +1,7 @@
 use Rattle.std.proofs.Common.{◌-◌, ◌^◌, ◌∙◌, refl, ap, subst, sym}
 use Rattle.std.proofs.lemmas.Result.{IfOk-weaker}
 use Rattle.ring_queue.specs.declared.roles.Role.TheVariants.{Giver, Taker}
-use Rattle.ring_queue.specs.Making.{IsMade}
+use Rattle.ring_queue.specs.NewRings.{IsMade}
 use Rattle.ring_queue.specs.Plans.{permit_of, permits_by}
 use Rattle.ring_queue.specs.Queues.{IsQueueSeat, permits_in}
 use Rattle.ring_queue.specs.Seats.{known_of}

@@ -2,7 +2,7 @@ use Rattle.std.proofs.Common.{arith, ◌≡◌, ◌+◌, ◌-◌, ◌^◌, lengt
 use Rattle.std.proofs.lemmas.List.{length-map}
 use Rattle.counted_ref.specs.Ref.{count_bits}
 use Rattle.mail_text.specs.MailTexts.{said_letter, said_letters}
-use Rattle.node_arena.specs.Making.{plan}
+use Rattle.node_arena.specs.NewArenas.{plan}
 use Rattle.node_arena.specs.Seats.{plan_of}
 use Rattle.arena_queue.specs.Queues.{arena_of}
 use Rattle.mail_engine.specs.Rows.{giver_and_taker_roles}

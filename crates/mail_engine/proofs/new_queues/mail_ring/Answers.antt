@@ -1,7 +1,7 @@
 use Rattle.std.proofs.Common.{arith, ◌≡◌, ◌∙◌, ◌-◌, ◌^◌, ap, subst, ◌∷◌, ◌++◌, []}
 use Rattle.std.proofs.lemmas.Grind.{common_steps}
 use Rattle.ring_queue.specs.Plans.{permits_by}
-use Rattle.ring_queue.specs.Making.{IsMade}
+use Rattle.ring_queue.specs.NewRings.{IsMade}
 use Rattle.ring_queue.specs.Queues.{IsQueueSeat, permits_in}
 use Rattle.ring_queue.specs.Seats.{known_of}
 use Rattle.mail_engine.specs.Rows.{givers_and_taker, IsMailRing}

@@ -1,6 +1,6 @@
 use Rattle.std.proofs.Common.{◌≡◌, ◌++◌, [], map}
 use Rattle.std.specs.List.{All}
-use Rattle.mailbox.specs.Posting.{letters_of}
+use Rattle.mailbox.specs.Posts.{letters_of}
 use Rattle.mail_engine.proofs.tasks.idle_tasks.Given as goal
 
 abbrev pub invariant-loop-sender : goal.invariant-loop-sender

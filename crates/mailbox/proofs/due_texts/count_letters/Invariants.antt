@@ -1,5 +1,5 @@
 use Rattle.std.specs.Prelude.{◌≡◌, take}
-use Rattle.mailbox.specs.Posting.{letters_of}
+use Rattle.mailbox.specs.Posts.{letters_of}
 use Rattle.mailbox.proofs.due_texts.count_letters.Given as goal
 
 abbrev pub invariant-loop-task : goal.invariant-loop-task

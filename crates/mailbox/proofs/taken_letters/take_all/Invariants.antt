@@ -1,7 +1,7 @@
 use Rattle.std.specs.Prelude.{◌≤◌, length, vec_capacity}
 use Rattle.mailbox.specs.Deliveries.{InOrder}
 use Rattle.mailbox.specs.Offices.{IsReceiver}
-use Rattle.mailbox.specs.Posting.{Delivered}
+use Rattle.mailbox.specs.Posts.{Delivered}
 use Rattle.mailbox.proofs.Counting.{AreCountedIn}
 use Rattle.mailbox.proofs.taken_letters.take_all.Given as goal
 

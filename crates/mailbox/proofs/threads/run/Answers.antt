@@ -1,5 +1,5 @@
 use Rattle.std.proofs.Common.{arith, ◌<◌, sym, ap, subst, inr, length}
-use Rattle.mailbox.specs.Posting.{letters_of}
+use Rattle.mailbox.specs.Posts.{letters_of}
 use Rattle.mailbox.specs.Refusals.{EndsPost}
 use Rattle.mailbox.proofs.Order.{in_order}
 use Rattle.mailbox.proofs.Plans.{due_of-tasks}

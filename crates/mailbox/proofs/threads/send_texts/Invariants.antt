@@ -1,7 +1,7 @@
 use Rattle.std.specs.Prelude.{◌≡◌, ◌+◌, length}
 use Rattle.mailbox.specs.Plans.{AreDue}
 use Rattle.mailbox.specs.Offices.{IsSender, marks}
-use Rattle.mailbox.specs.Posting.{AddsEntries}
+use Rattle.mailbox.specs.Posts.{AddsEntries}
 use Rattle.mailbox.proofs.threads.send_texts.Given as goal
 
 abbrev pub invariant-loop-text : goal.invariant-loop-text

@@ -1,5 +1,5 @@
 use Rattle.std.proofs.Common.{map, ap, ◌∙◌, subst}
-use Rattle.node_arena.specs.Making.{IsMade}
+use Rattle.node_arena.specs.NewArenas.{IsMade}
 use Rattle.any_queue.specs.Splits.{limited_plan}
 use Rattle.any_queue.specs.Picked.{picked_arena_of}
 use Rattle.msq_c.specs.Made.{role_number}

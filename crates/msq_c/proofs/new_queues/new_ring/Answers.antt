@@ -1,5 +1,5 @@
 use Rattle.std.proofs.Common.{map, ap, ◌∙◌, subst}
-use Rattle.ring_queue.specs.Making.{IsMade}
+use Rattle.ring_queue.specs.NewRings.{IsMade}
 use Rattle.msq_c.specs.Made.{reserve, ring_role_number}
 use Rattle.msq_c.proofs.Made.{ring_new, ring_unused}
 use Rattle.msq_c.proofs.new_queues.new_ring.Goals as goal

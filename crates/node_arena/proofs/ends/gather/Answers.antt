@@ -1,6 +1,6 @@
 use Rattle.std.proofs.Common.{All, subst}
 use Rattle.std.proofs.lemmas.List.Elements.{All-head, All-rest, All-same}
-use Rattle.node_arena.specs.Closing.{HasToken}
+use Rattle.node_arena.specs.Ends.{HasToken}
 use Rattle.node_arena.proofs.Lifts.{none_held}
 use Rattle.node_arena.proofs.Gathers.{gathers_token, took_in}
 use Rattle.node_arena.proofs.ends.gather.Goals as goal

@@ -1,5 +1,5 @@
 use Rattle.std.proofs.Common.{All}
-use Rattle.node_arena.specs.Closing.{HasToken, HasGathered}
+use Rattle.node_arena.specs.Ends.{HasToken, HasGathered}
 use Rattle.node_arena.proofs.ends.gather.Given as goal
 
 abbrev pub invariant-loop-seat : goal.invariant-loop-seat

@@ -1,5 +1,5 @@
 use Rattle.std.proofs.Common.{nat_lt, map, ap, ◌∙◌}
-use Rattle.history.specs.Closing.{pushes_of, pops_of, shuts_of}
+use Rattle.history.specs.Ends.{pushes_of, pops_of, shuts_of}
 use Rattle.node_arena.specs.Seats.{known_of}
 use Rattle.node_arena.proofs.Gathers.{enters_beside, took_none}
 use Rattle.node_arena.proofs.ends.gathered.Goals as goal

@@ -1,5 +1,5 @@
 use Rattle.std.proofs.Common.{◌∙◌, ap, refl}
-use Rattle.node_arena.specs.Making.{first_memory_words}
+use Rattle.node_arena.specs.NewArenas.{first_memory_words}
 use Rattle.node_arena.specs.Places.{shared_words}
 use Rattle.node_arena.proofs.Deals.{none_follow, opens_alone, laid, new_seats}
 use Rattle.node_arena.proofs.new_arenas.built.Goals as goal

@@ -1,6 +1,6 @@
 use Rattle.std.proofs.Common.{◌-◌, ◌<◌, length, ap, ◌∙◌, arith}
 use Rattle.std.proofs.lemmas.Option.{slice_get_within}
-use Rattle.node_arena.specs.Seeing.{dealt_left, dealt_right}
+use Rattle.node_arena.specs.Knowledge.{dealt_left, dealt_right}
 use Rattle.node_arena.specs.Beside.{slots_in}
 use Rattle.node_arena.proofs.Deals.{deals_at, dealt}
 use Rattle.node_arena.proofs.new_seats.deal.Goals as goal

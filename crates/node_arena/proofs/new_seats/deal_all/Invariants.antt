@@ -1,5 +1,5 @@
 use Rattle.std.proofs.Common.{◌≡◌, ◌+◌, ◌≤◌, length, vec_capacity}
-use Rattle.node_arena.specs.Making.{IsKeeper, AreDealt}
+use Rattle.node_arena.specs.NewArenas.{IsKeeper, AreDealt}
 use Rattle.node_arena.proofs.new_seats.deal_all.Given as goal
 
 abbrev pub invariant-loop-i : goal.invariant-loop-i

@@ -2,7 +2,7 @@ use Rattle.std.proofs.Common.{ℕ, Option, None, replicate, ap, refl, sym, subst
 use Rattle.atomic_table.specs.Table.{opening}
 use Rattle.node_arena.specs.Plans.{Layout}
 use Rattle.node_arena.specs.Beside.{HoldsFor, first_beside}
-use Rattle.node_arena.specs.Making.{LieFirst}
+use Rattle.node_arena.specs.NewArenas.{LieFirst}
 use Rattle.node_arena.proofs.Deals.{opens_vacant, laid_with_slots, new_seats}
 use Rattle.node_arena.proofs.valued.built_with_slots.Goals as goal
 

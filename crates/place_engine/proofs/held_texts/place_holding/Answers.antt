@@ -1,6 +1,6 @@
 use Rattle.std.proofs.Common.{map}
 use Rattle.recording_text.specs.RecordingReading.{bytes_of}
-use Rattle.place_engine.specs.Holding.{FindsHolding}
+use Rattle.place_engine.specs.HeldTexts.{FindsHolding}
 use Rattle.place_engine.proofs.OfHolding.{says-holding}
 use Rattle.place_engine.proofs.held_texts.place_holding.Goals as goal
 

@@ -1,5 +1,5 @@
 -- Each lemma is a clause of the law.
-use Rattle.recording_text.specs.Holding.{longer}
+use Rattle.recording_text.specs.HeldTexts.{longer}
 use Rattle.place_engine.proofs.Behind.{points-behind}
 use Rattle.place_engine.proofs.HeldReasons.{reason-given}
 use Rattle.place_engine.proofs.OfHolding.{holding-as_longer}

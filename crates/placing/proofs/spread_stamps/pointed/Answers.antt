@@ -1,7 +1,7 @@
 use Rattle.std.proofs.Common.{inl, ◌+◌, take, take_all, sym, subst}
 use Rattle.std.specs.List.{AllZip}
 use Rattle.std.proofs.lemmas.List.Elements.{all_zip_more}
-use Rattle.placing.specs.Spreading.{IsPointed}
+use Rattle.placing.specs.SpreadStamps.{IsPointed}
 use Rattle.placing.proofs.spread_stamps.pointed.Goals as goal
 
 pub loop-index-preserved : goal.loop-index-preserved

@@ -1,6 +1,6 @@
 use Rattle.std.proofs.Common.{arith, take_all, subst}
 use Rattle.std.specs.List.{All}
-use Rattle.placing.specs.Spreading.{IsOfNumbers}
+use Rattle.placing.specs.SpreadStamps.{IsOfNumbers}
 use Rattle.placing.proofs.Ranks.{used_more}
 use Rattle.placing.proofs.spread_stamps.used.Goals as goal
 

@@ -1,5 +1,5 @@
 use Rattle.std.proofs.Common.{◌≤◌, ◌*◌, All, length, take}
-use Rattle.placing.specs.Spreading.{IsOfNumbers}
+use Rattle.placing.specs.SpreadStamps.{IsOfNumbers}
 use Rattle.placing.proofs.spread_stamps.used.Given as goal
 
 abbrev pub invariant-loop-operation : goal.invariant-loop-operation

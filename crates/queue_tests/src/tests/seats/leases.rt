@@ -1,6 +1,6 @@
 //! Leased seats: that a dropped lease gives its seat back, and that a pool with a lease isn't closed.
 ghost use Rattle.std.specs.Prelude.{◌≡◌, length, IfOk};
-ghost use Rattle.history.specs.Closing.{IsAskedOf};
+ghost use Rattle.history.specs.Ends.{IsAskedOf};
 ghost use Rattle.ring_queue.specs.Queues.{permits_in};
 ghost use Rattle.ring_queue.specs.Seats.{known_of};
 ghost use Rattle.seat_pool.specs.Pools.{store_of, queue_in, numbers_of};

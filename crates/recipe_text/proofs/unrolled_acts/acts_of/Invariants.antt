@@ -1,5 +1,5 @@
 use Rattle.std.proofs.Common.{◌≡◌, ◌+◌, ◌++◌, None, drop}
-use Rattle.recipe_text.specs.Unrolling.{open_of, unrolled}
+use Rattle.recipe_text.specs.UnrolledActs.{open_of, unrolled}
 use Rattle.recipe_text.proofs.unrolled_acts.acts_of.Given as goal
 
 abbrev pub invariant-loop-index : goal.invariant-loop-index

@@ -1,5 +1,5 @@
 use Rattle.std.proofs.Common.{◌≡◌, ◌++◌}
-use Rattle.recipe_text.specs.Unrolling.{repeated}
+use Rattle.recipe_text.specs.UnrolledActs.{repeated}
 use Rattle.recipe_text.proofs.unrolled_acts.push_repeated.Given as goal
 
 abbrev pub invariant-loop : goal.invariant-loop

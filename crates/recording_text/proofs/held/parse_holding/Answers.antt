@@ -1,9 +1,9 @@
 use Rattle.std.proofs.Common.{◌≡◌, ◌++◌, [], ap, arith, length, map, subst, sym}
 use Rattle.std.proofs.lemmas.List.{length-map}
 use Rattle.std.proofs.lemmas.Result.{err_from_is_err_and}
-use Rattle.recording_text.specs.Numbering.{with_texts}
+use Rattle.recording_text.specs.Numbers.{with_texts}
 use Rattle.recording_text.specs.RecordingReading.{bytes_of, known_by}
-use Rattle.recording_text.specs.Holding.{IsBeyondIn, stamped_later}
+use Rattle.recording_text.specs.HeldTexts.{IsBeyondIn, stamped_later}
 use Rattle.recording_text.proofs.Known.{length-with_texts}
 use Rattle.recording_text.proofs.HeldTexts.{stands-holding, beyond-holding}
 use Rattle.recording_text.proofs.held.parse_holding.Goals as goal

@@ -1,5 +1,5 @@
 use Rattle.std.proofs.Common.{◌<◌, ◌∙◌, ap, length, rules, subst}
-use Rattle.recording_text.specs.Holding.{StampsFit, stamped_later}
+use Rattle.recording_text.specs.HeldTexts.{StampsFit, stamped_later}
 use Rattle.recording_text.proofs.HeldTexts.{added-more, fit-more}
 use Rattle.recording_text.proofs.held.push_later.Goals as goal
 

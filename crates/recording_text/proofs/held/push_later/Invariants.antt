@@ -1,5 +1,5 @@
 use Rattle.std.proofs.Common.{◌≡◌, ◌++◌, All, map, take}
-use Rattle.recording_text.specs.Holding.{StampsFit, stamped_later}
+use Rattle.recording_text.specs.HeldTexts.{StampsFit, stamped_later}
 use Rattle.recording_text.proofs.held.push_later.Given as goal
 
 abbrev pub invariant-loop-index : goal.invariant-loop-index

@@ -1,6 +1,6 @@
 use Rattle.std.proofs.Common.{◌≡◌, map, arith, sym, ap, ◌∙◌, bytes_eq}
 use Rattle.std.specs.List.{position_or_len}
-use Rattle.recording_text.specs.Numbering.{with_text}
+use Rattle.recording_text.specs.Numbers.{with_text}
 use Rattle.recording_text.specs.RecordingReading.{bytes_of, known_by}
 use Rattle.recording_text.proofs.Known.{number-learnt}
 use Rattle.recording_text.proofs.KnownSets.{position-bytes, insert-learns}

@@ -1,6 +1,6 @@
 use Rattle.std.proofs.Common.{◌∙◌}
 use Rattle.std.proofs.lemmas.Result.{err_from_is_err_and}
-use Rattle.history.specs.Checking.{shown}
+use Rattle.history.specs.Tables.{shown}
 use Rattle.text_io.proofs.Sends.{Puts-refused}
 use Rattle.report.specs.HistoryTable.{row_text}
 use Rattle.report.proofs.TableRows.{rows_from}

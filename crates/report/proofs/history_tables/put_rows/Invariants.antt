@@ -1,6 +1,6 @@
 use Rattle.std.proofs.Common.{◌≡◌, ◌++◌, map, drop}
 use Rattle.std.specs.List.{flat_map}
-use Rattle.history.specs.Checking.{shown}
+use Rattle.history.specs.Tables.{shown}
 use Rattle.report.specs.HistoryTable.{row_text}
 use Rattle.report.proofs.UnderWay.{IsUnderWay}
 use Rattle.report.proofs.history_tables.put_rows.Given as goal

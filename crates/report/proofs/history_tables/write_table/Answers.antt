@@ -1,7 +1,7 @@
 use Rattle.std.proofs.Common.{map, codes, refl, ◌∙◌}
 use Rattle.std.specs.List.{flat_map}
 use Rattle.std.proofs.lemmas.Result.{err_from_is_err_and}
-use Rattle.history.specs.Checking.{shown}
+use Rattle.history.specs.Tables.{shown}
 use Rattle.text_io.proofs.Sends.{Writes-held, Writes-refused}
 use Rattle.report.specs.HistoryTable.{row_text, count_text}
 use Rattle.report.proofs.UnderWay.{pieces_stop_at_first, pieces_stop_at_second, pieces_stop_at_third, pieces_done}

@@ -1,5 +1,5 @@
 use Rattle.std.proofs.Common.{◌≡◌, filter, map, is_some, take}
-use Rattle.history.specs.Checking.{shown, numbered}
+use Rattle.history.specs.Tables.{shown, numbered}
 use Rattle.report.proofs.place_order.placed_of.Given as goal
 
 abbrev pub invariant-loop-operation : goal.invariant-loop-operation

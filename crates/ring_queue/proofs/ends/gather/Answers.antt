@@ -1,6 +1,6 @@
 use Rattle.std.proofs.Common.{All, subst}
 use Rattle.std.proofs.lemmas.List.Elements.{All-head, All-rest, All-same}
-use Rattle.ring_queue.specs.Closing.{HasToken}
+use Rattle.ring_queue.specs.Ends.{HasToken}
 use Rattle.node_arena.proofs.Lifts.{none_held}
 use Rattle.ring_queue.proofs.Tokens.{gathers_token, took_in}
 use Rattle.ring_queue.proofs.ends.gather.Goals as goal

@@ -1,5 +1,5 @@
 use Rattle.std.proofs.Common.{All}
-use Rattle.ring_queue.specs.Closing.{HasToken, HasGathered}
+use Rattle.ring_queue.specs.Ends.{HasToken, HasGathered}
 use Rattle.ring_queue.proofs.ends.gather.Given as goal
 
 abbrev pub invariant-loop-seat : goal.invariant-loop-seat

@@ -1,6 +1,6 @@
 use Rattle.std.proofs.Common.{◌≡◌, ℕ, ◌+◌, ◌*◌, length, ◌∙◌, subst}
 use Rattle.ring_queue.specs.Plans.{Layout}
-use Rattle.ring_queue.specs.Making.{AreDealt, IsLeastPower}
+use Rattle.ring_queue.specs.NewRings.{AreDealt, IsLeastPower}
 use Rattle.ring_queue.proofs.Deals.{made}
 use Rattle.ring_queue.proofs.new_rings.made.Goals as goal
 

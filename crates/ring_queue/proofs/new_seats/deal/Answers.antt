@@ -1,7 +1,7 @@
 use Rattle.std.proofs.Common.{length, ap, ◌∙◌, arith}
 use Rattle.node_arena.specs.Beside.{slots_in}
 use Rattle.ring_queue.specs.Plans.{Layout}
-use Rattle.ring_queue.specs.Seeing.{dealt_left, dealt_right}
+use Rattle.ring_queue.specs.Knowledge.{dealt_left, dealt_right}
 use Rattle.ring_queue.proofs.Tokens.{deals_at, dealt}
 use Rattle.ring_queue.proofs.new_seats.deal.Goals as goal
 

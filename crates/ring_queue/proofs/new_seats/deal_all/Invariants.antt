@@ -1,5 +1,5 @@
 use Rattle.std.proofs.Common.{◌≡◌, ◌+◌, ◌≤◌, length, vec_capacity}
-use Rattle.ring_queue.specs.Making.{IsKeeper, AreDealt}
+use Rattle.ring_queue.specs.NewRings.{IsKeeper, AreDealt}
 use Rattle.ring_queue.proofs.new_seats.deal_all.Given as goal
 
 abbrev pub invariant-loop-i : goal.invariant-loop-i

@@ -3,7 +3,7 @@ use Rattle.std.proofs.Common.{◌+◌, ◌++◌, ◌∙◌, ap, sym, drop, map, 
 use Rattle.std.proofs.lemmas.List.{at_drop_all}
 use Rattle.recording_text.specs.RecordingReading.{bytes_of}
 use Rattle.show_engine.specs.Reasons.{row_beside, rows_beside}
-use Rattle.show_engine.specs.Showing.{is_among}
+use Rattle.show_engine.specs.PicturesWritten.{is_among}
 use Rattle.show_engine.proofs.RowsBeside.{rows_beside-drop}
 use Rattle.show_engine.proofs.beside.push_rows.Goals as goal
 

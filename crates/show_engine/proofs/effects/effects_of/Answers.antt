@@ -2,7 +2,7 @@ use Rattle.std.proofs.Common.{◌∙◌, ap, sym, List, ℕ}
 use Rattle.std.specs.Prelude.{nat_eq}
 use Rattle.std.proofs.lemmas.List.Sorted.{IsNonDecreasingBy-from_sort, list_any-IsPermutation}
 use Rattle.show_engine.proofs.Lookups.{points_of-among}
-use Rattle.show_engine.specs.Showing.{is_among}
+use Rattle.show_engine.specs.PicturesWritten.{is_among}
 use Rattle.show_engine.proofs.effects.effects_of.Goals as goal
 
 pub returns-clause-ok : goal.returns-clause-ok

@@ -1,6 +1,6 @@
 use Rattle.std.proofs.Common.{subst}
 use Rattle.std.specs.List.{All}
-use Rattle.value_queue.specs.Closing.{HasRoom}
+use Rattle.value_queue.specs.Ends.{HasRoom}
 use Rattle.any_values.specs.declared.any.AnyValues.{AnyValues}
 use Rattle.any_values.specs.Any.{arena_of, IsQueueSeat}
 use Rattle.any_values.proofs.any_calls.AnyValuesCloseCarrier.close_with.Goals as goal

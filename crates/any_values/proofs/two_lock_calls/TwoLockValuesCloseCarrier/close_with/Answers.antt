@@ -1,6 +1,6 @@
 use Rattle.std.proofs.Common.{lit≤, subst}
 use Rattle.std.specs.List.{All}
-use Rattle.value_queue.specs.Closing.{HasRoom}
+use Rattle.value_queue.specs.Ends.{HasRoom}
 use Rattle.any_values.specs.declared.two_lock_queue.TwoLockValues.{TwoLockValues}
 use Rattle.any_values.specs.TwoLocks.{arena_of, IsQueueSeat}
 use Rattle.any_values.proofs.two_lock_calls.TwoLockValuesCloseCarrier.close_with.Goals as goal

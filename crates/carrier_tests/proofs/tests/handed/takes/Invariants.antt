@@ -1,5 +1,5 @@
 use Rattle.history.specs.Seats.{MayPop}
-use Rattle.value_queue.specs.Telling.{known_by}
+use Rattle.value_queue.specs.ValuesSeen.{known_by}
 use Rattle.value_queue.specs.Queues.{permits_of, IsQueueSeat}
 use Rattle.carrier_tests.proofs.tests.handed.takes.Given as goal
 

@@ -4,7 +4,7 @@ use Rattle.std.specs.Option.{IsSomeAnd}
 use Rattle.std.proofs.lemmas.Option.{slice_get_read}
 use Rattle.job_results.specs.Jobs.{same_job}
 use Rattle.job_results.specs.Results.{number_in, job_in}
-use Rattle.job_results.specs.Gathering.{Names}
+use Rattle.job_results.specs.GatheredResults.{Names}
 use Rattle.job_results.proofs.Found.{are_found-set, none-there}
 use Rattle.job_results.proofs.gathers.Gather.add.Goals as goal
 

@@ -1,7 +1,7 @@
 use Rattle.std.proofs.Common.{◌≡◌, ◌∙◌, sym, subst, ap, true, Some, map}
 use Rattle.std.specs.List.{filter_map, list_any}
 use Rattle.std.specs.Option.{is_none}
-use Rattle.job_results.specs.Gathering.{are_found}
+use Rattle.job_results.specs.GatheredResults.{are_found}
 use Rattle.job_results.proofs.Found.{rows_of-found, jobs_of-found, all-there}
 use Rattle.job_results.proofs.gathers.Gather.finish.Goals as goal
 

@@ -1,5 +1,5 @@
 use Rattle.std.proofs.Common.{◌≡◌, sym, true, subst}
-use Rattle.job_results.specs.Gathering.{are_found}
+use Rattle.job_results.specs.GatheredResults.{are_found}
 use Rattle.job_results.proofs.Found.{are_found-none}
 use Rattle.job_results.proofs.gathers.Gather.new.Goals as goal
 

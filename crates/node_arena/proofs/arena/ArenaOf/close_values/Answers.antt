@@ -3,7 +3,7 @@ use Rattle.std.specs.List.{All}
 use Rattle.std.specs.Slots.{slots_items}
 use Rattle.node_arena.specs.Arenas.{Arena, arena_of}
 use Rattle.node_arena.specs.Places.{shared_words}
-use Rattle.node_arena.specs.Closing.{HasToken}
+use Rattle.node_arena.specs.Ends.{HasToken}
 use Rattle.node_arena.specs.Leftovers.{ClosesValues}
 use Rattle.node_arena.specs.Remains.{IsQueue}
 use Rattle.node_arena.proofs.ArenaEnds.{Rests, have_tokens, count_own, queue_as, rests_as}

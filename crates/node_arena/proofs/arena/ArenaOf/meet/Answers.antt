@@ -1,5 +1,5 @@
 use Rattle.std.proofs.Common.{◌≡◌, length, refl, sym, subst, ap, ◌∙◌, arith}
-use Rattle.node_arena.specs.Seeing.{new_seat}
+use Rattle.node_arena.specs.Knowledge.{new_seat}
 use Rattle.node_arena.specs.Plans.{Layout}
 use Rattle.node_arena.specs.Beside.{Beside, slots_in, KnowsNow, GrowsBy, both_beside}
 use Rattle.node_arena.specs.Arenas.{arena_of}

@@ -1,11 +1,11 @@
 use Rattle.std.proofs.Common.{map, sym, subst, ap, ◌∙◌, vec_capacity, arith}
 use Rattle.std.specs.List.{All}
 use Rattle.std.specs.Slots.{slots_items, slots_counts}
-use Rattle.history.specs.Closing.{Closes}
+use Rattle.history.specs.Ends.{Closes}
 use Rattle.node_arena.specs.Arenas.{Arena, arena_of}
 use Rattle.node_arena.specs.Places.{shared_words}
 use Rattle.node_arena.specs.Ended.{closed_of}
-use Rattle.node_arena.specs.Closing.{HasToken}
+use Rattle.node_arena.specs.Ends.{HasToken}
 use Rattle.node_arena.specs.Remains.{IsQueue}
 use Rattle.node_arena.specs.Seats.{known_of, permits_of}
 use Rattle.node_arena.proofs.Numbers.{have_none}

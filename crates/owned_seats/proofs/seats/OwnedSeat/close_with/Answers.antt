@@ -1,5 +1,5 @@
 use Rattle.std.proofs.Common.{subst, map, sym}
-use Rattle.history.specs.Closing.{Closes}
+use Rattle.history.specs.Ends.{Closes}
 use Rattle.owned_seats.specs.Owned.{queue_of}
 use Rattle.owned_seats.proofs.SeatShares.{all_known}
 use Rattle.owned_seats.proofs.seats.OwnedSeat.close_with.Goals as goal

@@ -1,5 +1,5 @@
 use Rattle.std.proofs.Common.{subst, map, ap, sym}
-use Rattle.carriers.specs.Closing.{ClosesOf}
+use Rattle.carriers.specs.Ends.{ClosesOf}
 use Rattle.owned_values.specs.Owned.{queue_of}
 use Rattle.owned_values.proofs.SeatShares.{all_sit, all_known}
 use Rattle.owned_values.proofs.seats.ValueSeat.close_with.Goals as goal

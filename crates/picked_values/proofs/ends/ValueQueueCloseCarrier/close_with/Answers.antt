@@ -1,6 +1,6 @@
 use Rattle.std.proofs.Common.{lit≤, subst}
 use Rattle.std.specs.List.{All}
-use Rattle.value_queue.specs.Closing.{HasRoom}
+use Rattle.value_queue.specs.Ends.{HasRoom}
 use Rattle.picked_values.specs.declared.queue.ValueQueue.{ValueQueue}
 use Rattle.picked_values.specs.Queues.{arena_of, IsQueueSeat}
 use Rattle.picked_values.proofs.ends.ValueQueueCloseCarrier.close_with.Goals as goal

@@ -2,7 +2,7 @@ use Rattle.std.proofs.Common.{◌+◌, ◌∙◌, ap, take, take_all, sym, subst
 use Rattle.std.specs.Option.{option_flatten}
 use Rattle.std.specs.List.{AllZip}
 use Rattle.std.proofs.lemmas.List.Elements.{all_zip_more}
-use Rattle.placing.specs.Spreading.{IsSpreadFrom}
+use Rattle.placing.specs.SpreadStamps.{IsSpreadFrom}
 use Rattle.placing.proofs.Putting.{lent_at, points_more}
 use Rattle.placing.proofs.spread_stamps.Spread.history.Goals as goal
 

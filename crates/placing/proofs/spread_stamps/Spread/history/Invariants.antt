@@ -1,6 +1,6 @@
 use Rattle.std.proofs.Common.{◌≡◌, map, take}
 use Rattle.std.specs.List.{AllZip}
-use Rattle.placing.specs.Spreading.{IsSpreadFrom}
+use Rattle.placing.specs.SpreadStamps.{IsSpreadFrom}
 use Rattle.placing.proofs.spread_stamps.Spread.history.Given as goal
 
 abbrev pub invariant-loop-index : goal.invariant-loop-index

@@ -4,7 +4,7 @@ use mathlib.Core.List.{map-map}
 use Rattle.std.proofs.lemmas.Result.{IfOk-weaker}
 use Rattle.std.specs.Prelude.{max}
 use Rattle.history.specs.Seats.{MayPop}
-use Rattle.ring_values.specs.Telling.{known_by}
+use Rattle.ring_values.specs.ValuesSeen.{known_by}
 use Rattle.ring_values.specs.Queues.{plan_of, permits_of, IsQueueSeat}
 use Rattle.channels.specs.Handles.{sender_seat, receiver_seat}
 use Rattle.post_office.specs.Offices.{office_queue, AreOf}

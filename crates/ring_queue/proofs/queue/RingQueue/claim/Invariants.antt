@@ -1,4 +1,4 @@
-use Rattle.ring_queue.specs.Seeing.{knows}
+use Rattle.ring_queue.specs.Knowledge.{knows}
 use Rattle.ring_queue.specs.Beside.{TellsBeside}
 use Rattle.ring_queue.specs.Steps.{pushes, PlacesClaimed}
 use Rattle.ring_queue.proofs.queue.RingQueue.claim.Given as goal

@@ -1,6 +1,6 @@
 use Rattle.std.proofs.Common.{◌≡◌, ◌+◌, drop, ap, ◌∙◌, arith}
 use Rattle.ring_queue.specs.Words.{payload}
-use Rattle.ring_queue.specs.Seeing.{standing}
+use Rattle.ring_queue.specs.Knowledge.{standing}
 use Rattle.ring_queue.specs.Steps.{next_stage, content, contents}
 use Rattle.ring_queue.specs.Seats.{known_of}
 use Rattle.ring_queue.proofs.Fillings.{fillings_at, number_small}

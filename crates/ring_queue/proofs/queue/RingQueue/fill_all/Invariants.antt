@@ -1,5 +1,5 @@
 use Rattle.std.proofs.Common.{◌≡◌, ◌+◌, drop}
-use Rattle.ring_queue.specs.Seeing.{standing}
+use Rattle.ring_queue.specs.Knowledge.{standing}
 use Rattle.ring_queue.specs.Steps.{contents}
 use Rattle.ring_queue.specs.Seats.{Sits, KeepsName, known_of, reserve_of, view}
 use Rattle.ring_queue.proofs.queue.RingQueue.fill_all.Given as goal

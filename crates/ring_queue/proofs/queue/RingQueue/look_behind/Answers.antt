@@ -1,6 +1,6 @@
 use Rattle.std.proofs.Common.{subst, ◌≡◌, ◌≢◌, ◌%◌, ◌^◌, ◌∙◌, arith}
 use Rattle.ring_queue.specs.Plans.{Layout}
-use Rattle.ring_queue.specs.Seeing.{knows}
+use Rattle.ring_queue.specs.Knowledge.{knows}
 use Rattle.ring_queue.specs.Steps.{HeadFound}
 use Rattle.ring_queue.specs.Seats.{view}
 use Rattle.ring_queue.proofs.Lines.{reads_head}

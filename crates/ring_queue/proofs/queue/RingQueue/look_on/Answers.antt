@@ -1,7 +1,7 @@
 use Rattle.std.proofs.Common.{ap, sym, ◌∙◌, arith}
 use Rattle.std.proofs.lemmas.List.{length-set}
 use Rattle.history.proofs.Learning.{sees_then}
-use Rattle.ring_queue.specs.Seeing.{found}
+use Rattle.ring_queue.specs.Knowledge.{found}
 use Rattle.ring_queue.proofs.Batching.{take_set, values_more}
 use Rattle.ring_queue.proofs.queue.RingQueue.look_on.Goals as goal
 

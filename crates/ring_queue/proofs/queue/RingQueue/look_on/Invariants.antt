@@ -1,7 +1,7 @@
 use Rattle.std.proofs.Common.{◌≡◌, ◌-◌, ◌≤◌, length, take}
 use Rattle.history.specs.Answers.{SeesMore}
 use Rattle.ring_queue.specs.Seats.{IsReady, KeepsName, known_of, view}
-use Rattle.ring_queue.specs.Seeing.{found}
+use Rattle.ring_queue.specs.Knowledge.{found}
 use Rattle.ring_queue.specs.Steps.{AreValues}
 use Rattle.ring_queue.proofs.queue.RingQueue.look_on.Given as goal
 

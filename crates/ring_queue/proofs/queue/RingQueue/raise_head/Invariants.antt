@@ -1,4 +1,4 @@
-use Rattle.ring_queue.specs.Seeing.{knows}
+use Rattle.ring_queue.specs.Knowledge.{knows}
 use Rattle.ring_queue.specs.Beside.{TellsBeside}
 use Rattle.ring_queue.specs.Steps.{pops, FrontsTaken}
 use Rattle.ring_queue.proofs.queue.RingQueue.raise_head.Given as goal

@@ -1,8 +1,8 @@
 use Rattle.std.proofs.Common.{ℕ, Bool, List, map, sym, subst, ◌∙◌, arith}
 use Rattle.std.proofs.lemmas.List.{length-map}
 use Rattle.carriers.specs.declared.items.ItemOf.{ItemOf}
-use Rattle.carriers.specs.Closing.{ClosesWith}
-use Rattle.ring_values.specs.Telling.{known_by}
+use Rattle.carriers.specs.Ends.{ClosesWith}
+use Rattle.ring_values.specs.ValuesSeen.{known_by}
 use Rattle.ring_values.specs.Queues.{permits_of}
 use Rattle.ring_values.proofs.ends.RingValuesCloseCarrier.close_with.Goals as goal
 

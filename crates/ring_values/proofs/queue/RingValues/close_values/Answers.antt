@@ -2,12 +2,12 @@ use Rattle.std.proofs.Common.{◌≤◌, List, Option, map, length, sym, subst}
 use Rattle.std.proofs.lemmas.List.Elements.{All-weaker}
 use Rattle.history.specs.declared.rests.Rest.{Rest}
 use Rattle.history.specs.Rests.{left_of, taken_of, whole_of, was_shut_of}
-use Rattle.carriers.specs.Closing.{ClosesWith}
-use Rattle.node_arena.specs.Lying.{values_of}
+use Rattle.carriers.specs.Ends.{ClosesWith}
+use Rattle.node_arena.specs.ValuesLeft.{values_of}
 use Rattle.ring_queue.specs.Queues.{IsRingSeat}
 use Rattle.ring_queue.specs.Seats.{HasNoSlot}
 use Rattle.value_queue.specs.Runs.{as_item}
-use Rattle.ring_values.specs.Telling.{known_by}
+use Rattle.ring_values.specs.ValuesSeen.{known_by}
 use Rattle.ring_values.specs.Queues.{plan_of, ring_of, permits_of, IsQueueSeat}
 use Rattle.ring_values.proofs.Closings.{closes-values, many-values}
 use Rattle.ring_values.proofs.queue.RingValues.close_values.Goals as goal

@@ -1,5 +1,5 @@
 use Rattle.std.proofs.Common.{◌≡◌, ℕ, ◌-◌, ◌++◌, ◌∷◌, [], sym, ap, subst, ◌∙◌, arith}
-use Rattle.schedule_text.specs.Shortening.{Held, IsHeldBy}
+use Rattle.schedule_text.specs.ShortLines.{Held, IsHeldBy}
 use Rattle.schedule_text.proofs.Holding.{held_space, held_early, held_other, held_digit, not_digit}
 use Rattle.schedule_text.proofs.held.HeldLine.push.Goals as goal
 

@@ -1,7 +1,7 @@
 use Rattle.std.proofs.Common.{map, ap, sym, subst, ◌∙◌}
 use Rattle.std.specs.List.{All}
 use mathlib.Core.List.{map-map}
-use Rattle.history.specs.Closing.{Closes}
+use Rattle.history.specs.Ends.{Closes}
 use Rattle.seat_pool.specs.Pools.{IsFrom}
 use Rattle.seat_pool.proofs.Kept.{all_sit}
 use Rattle.seat_pool.proofs.pools.SeatPool.close_by.Goals as goal

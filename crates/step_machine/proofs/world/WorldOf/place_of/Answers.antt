@@ -4,7 +4,7 @@ use Rattle.step_machine.specs.Below.{IsSplit, reserved_node}
 use Rattle.step_machine.specs.declared.places.Place.{Place}
 use Rattle.step_machine.specs.declared.places.Place.TheVariants.{Untouched, Queue, Free, Held, SetAside}
 use Rattle.step_machine.specs.Places.{one_if, set_aside}
-use Rattle.step_machine.specs.Placing.{IsAt}
+use Rattle.step_machine.specs.NodePlaces.{IsAt}
 use Rattle.step_machine.specs.Stored.{world}
 use Rattle.step_machine.proofs.PlaceOf.{told_in, only_place, queue_place, free_place}
 use Rattle.step_machine.proofs.Reached.{made_reached, made_in_range, few_nodes}

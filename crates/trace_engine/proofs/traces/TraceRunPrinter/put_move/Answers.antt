@@ -1,7 +1,7 @@
 use Rattle.std.proofs.Common.{◌++◌, List, sym, subst}
 use Rattle.std.specs.Prelude.{ℕ}
 use Rattle.std.proofs.lemmas.Result.{err_from_is_err_and}
-use Rattle.trace_engine.specs.Answering.{Tells}
+use Rattle.trace_engine.specs.Answers.{Tells}
 use Rattle.trace_engine.specs.Steps.{move_text}
 use Rattle.trace_engine.proofs.HasTold.{StopsTelling-memory, TakesPrefix-none, Tells-put, Tells-refused}
 use Rattle.trace_engine.proofs.Texts.{moves_text-one}

@@ -1,11 +1,11 @@
 use Rattle.std.proofs.Common.{ℕ, Bool, List, map, sym, subst, ap, ◌∙◌, arith}
 use Rattle.history.specs.Rests.{left_of}
 use Rattle.carriers.specs.declared.items.ItemOf.{ItemOf}
-use Rattle.carriers.specs.Closing.{ClosesWith}
+use Rattle.carriers.specs.Ends.{ClosesWith}
 use Rattle.node_arena.specs.Ended.{last_words}
 use Rattle.node_arena.specs.Leftovers.{rest_in, values_in}
 use Rattle.node_arena.specs.Remains.{AreLeft}
-use Rattle.value_queue.specs.Telling.{known_by}
+use Rattle.value_queue.specs.ValuesSeen.{known_by}
 use Rattle.value_queue.specs.Queues.{arena_of, permits_of}
 use Rattle.value_queue.proofs.Closings.{pushers-items}
 use Rattle.value_queue.proofs.ends.QueueOfCloseCarrier.close_with.Goals as goal

@@ -3,8 +3,8 @@ use Rattle.std.specs.Prelude.{List, map}
 use Rattle.history.specs.Seats.{Permit}
 use Rattle.history.specs.Rests.{taken_of, whole_of, was_shut_of}
 use Rattle.carriers.specs.Knowledge.{KnownOf}
-use Rattle.carriers.specs.Closing.{ClosesWith}
-use Rattle.ring_queue.specs.Closing.{HasRoomFor}
+use Rattle.carriers.specs.Ends.{ClosesWith}
+use Rattle.ring_queue.specs.Ends.{HasRoomFor}
 use Rattle.value_queue.specs.Runs.{as_item}
 use Rattle.ring_values.specs.declared.ends.Room.{Room}
 use Rattle.ring_values.specs.declared.queue.RingValues.{RingValues}

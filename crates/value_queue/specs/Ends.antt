@@ -5,7 +5,7 @@ use Rattle.history.specs.Seats.{Permit}
 use Rattle.history.specs.Rests.{taken_of, whole_of, was_shut_of}
 use Rattle.carriers.specs.declared.rests.RestOf.{RestOf}
 use Rattle.carriers.specs.Knowledge.{KnownOf}
-use Rattle.carriers.specs.Closing.{ClosesWith}
+use Rattle.carriers.specs.Ends.{ClosesWith}
 use Rattle.carriers.specs.Rests.{left_in, taken_in, was_shut_in}
 use Rattle.node_arena.specs.declared.ended.Ended.{Ended}
 use Rattle.node_arena.specs.declared.leftovers.LeftValues.{LeftValues}

@@ -7,9 +7,9 @@ use Rattle.schedule_text.specs.declared.schedules.Event.{Event}
 use Rattle.schedule_text.specs.Schedules.{Schedule}
 use Rattle.step_machine.specs.Machine.{World}
 use Rattle.text_io.specs.Devices.{SinkState}
-use Rattle.trace_engine.specs.Answering.{Answers, HasBegun, HasStopped, HasWritten, IsWholeOf, OfSchedule, RunText}
+use Rattle.trace_engine.specs.Answers.{Answers, HasBegun, HasStopped, HasWritten, IsWholeOf, OfSchedule, RunText}
 use Rattle.trace_engine.specs.Pieces.{Pieces, run_text}
-use Rattle.trace_engine.specs.Standing.{alone_told, standing_text}
+use Rattle.trace_engine.specs.Stands.{alone_told, standing_text}
 use Rattle.trace_engine.specs.Steps.{header_text, move_text, trace_text}
 
 -- what a trace has of a run, where so many bits hold a node and the header tells so many steps

@@ -6,7 +6,7 @@ use Rattle.step_machine.specs.Machine.{AnyMove}
 use Rattle.step_machine.specs.EachQueue.{IsWornOut}
 use Rattle.node_arena.specs.Traces.{Traced, trace, IsTraced}
 use Rattle.node_arena.specs.Plans.{Layout}
-use Rattle.wear.specs.Lasting.{Leaves}
+use Rattle.wear.specs.PushesLeft.{Leaves}
 use Rattle.arena_queue.specs.Lefts.{HasLeft}
 use Rattle.arena_queue.specs.declared.left.Left.{Left}
 use Rattle.begun_pushes.specs.Begun.{pushes_begun, under_way}

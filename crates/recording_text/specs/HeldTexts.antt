@@ -9,7 +9,7 @@ use Rattle.history.specs.declared.refusals.Refusal.TheVariants.{Memory, Text}
 use Rattle.history.specs.declared.operations.Stamped.{Stamped}
 use Rattle.recording_text.specs.Recordings.{Push, Done, Recorded}
 use Rattle.recording_text.specs.RecordingLines.{recording_text, IsRecordingInRange, IsText, IsShortText, HasFirstFault}
-use Rattle.recording_text.specs.Numbering.{history_of}
+use Rattle.recording_text.specs.Numbers.{history_of}
 use Rattle.recording_text.specs.TextQueues.{TextQueue, AnsweredOperation, operations_of, IsPending, TellsRecordedReply, KeepsTime, IsRun}
 
 -- a queue that holds these texts, the front first, and isn't shut

@@ -5,7 +5,7 @@ use Rattle.carriers.specs.Knowledge.{KnownOf}
 use Rattle.node_arena.specs.Deeds as slots
 use Rattle.ring_queue.specs.declared.seats.Seat.{Seat}
 use Rattle.ring_queue.specs.Seats.{deeds_of, view}
-use Rattle.value_queue.specs.Telling.{told}
+use Rattle.value_queue.specs.ValuesSeen.{told}
 
 module _ {T : Type 0} where
   -- the history of values that a seat has seen

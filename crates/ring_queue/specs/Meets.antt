@@ -4,7 +4,7 @@ use Rattle.atomic_table.specs.Table.{Me}
 use Rattle.history.specs.declared.operations.Entry.{Entry}
 use Rattle.history.specs.Answers.{SeesMore}
 use Rattle.ring_queue.specs.Plans.{Layout}
-use Rattle.ring_queue.specs.Seeing.{SeatView, View, paired, known_by}
+use Rattle.ring_queue.specs.Knowledge.{SeatView, View, paired, known_by}
 use Rattle.ring_queue.specs.Steps.{Learns}
 
 -- what a seat knows, once it has seen the whole history

@@ -7,14 +7,14 @@ use Rattle.atomic_table.specs.Seated.{TableId}
 use Rattle.atomic_table.specs.declared.shared.Seat.{Seat as Token}
 use Rattle.history.specs.declared.rests.Rest.{Rest}
 use Rattle.history.specs.Rests.{left_of, was_shut_of}
-use Rattle.history.specs.Closing.{Closes}
+use Rattle.history.specs.Ends.{Closes}
 use Rattle.node_arena.specs.Beside.{AllBegin}
 use Rattle.node_arena.specs.Deeds.{Deed, Runs, Matches}
-use Rattle.node_arena.specs.Lying.{values_of, all_lie}
+use Rattle.node_arena.specs.ValuesLeft.{values_of, all_lie}
 use Rattle.ring_queue.specs.declared.queue.RingQueue.{RingQueue}
 use Rattle.ring_queue.specs.declared.seats.Seat.{Seat}
 use Rattle.ring_queue.specs.Beside.{Beside, HasNone}
-use Rattle.ring_queue.specs.Seeing.{gathered, seated}
+use Rattle.ring_queue.specs.Knowledge.{gathered, seated}
 use Rattle.ring_queue.specs.Seats.{deeds_of, known_of, view}
 use Rattle.ring_queue.specs.Queues.{permits_in}
 

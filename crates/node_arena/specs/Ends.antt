@@ -8,7 +8,7 @@ use Rattle.history.specs.Entries.{is_push, is_pop, is_shut}
 use Rattle.node_arena.specs.Beside.{Beside, HasNone, AllBegin}
 use Rattle.node_arena.specs.Deeds.{Deed}
 use Rattle.node_arena.specs.declared.seats.Seat.{Seat}
-use Rattle.node_arena.specs.Seeing.{gathered, seated}
+use Rattle.node_arena.specs.Knowledge.{gathered, seated}
 use Rattle.node_arena.specs.Seats.{view, deeds_of}
 
 -- a seat's token is one of a table, and knows what its seat knows

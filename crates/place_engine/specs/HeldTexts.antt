@@ -12,11 +12,11 @@ use Rattle.history.specs.History.{Placement, IsSequentialRun, by_point}
 use Rattle.placing.specs.declared.answers.Placed.{Placed}
 use Rattle.placing.specs.declared.answers.Placed.TheVariants.{History, Impossible, Open}
 use Rattle.placing.specs.Answers.{IsAnswer, HasCause}
-use Rattle.placing.specs.Spreading.{IsSpread}
+use Rattle.placing.specs.SpreadStamps.{IsSpread}
 use Rattle.recording_text.specs.Recordings.{Recorded}
 use Rattle.recording_text.specs.RecordingLines.{recording_text, IsRecordingInRange, HasFirstFault}
-use Rattle.recording_text.specs.Numbering.{known_in, value_by, stamped_by, history_of}
-use Rattle.recording_text.specs.Holding.{holding, longer, IsLinearizableFrom, IsBeyond}
+use Rattle.recording_text.specs.Numbers.{known_in, value_by, stamped_by, history_of}
+use Rattle.recording_text.specs.HeldTexts.{holding, longer, IsLinearizableFrom, IsBeyond}
 use Rattle.place_engine.specs.OfTexts.{IsRecordedCall}
 use Rattle.place_engine.specs.GivenParts.{given_part}
 use Rattle.place_engine.specs.WhyTexts.{answer_text}

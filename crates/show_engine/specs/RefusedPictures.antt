@@ -6,7 +6,7 @@ use Rattle.history.specs.declared.refusals.Refusal.{Refusal}
 use Rattle.schedule_text.specs.Schedules.{Schedule}
 use Rattle.step_machine.specs.Machine.{World}
 use Rattle.text_io.specs.Devices.{SinkState}
-use Rattle.trace_engine.specs.Answering.{Answers, HasBegun, HasStopped, OfSchedule}
+use Rattle.trace_engine.specs.Answers.{Answers, HasBegun, HasStopped, OfSchedule}
 use Rattle.trace_engine.specs.Pieces.{Pieces, run_text}
 use Rattle.show_engine.specs.declared.counts.Counted.{Counted}
 use Rattle.show_engine.specs.declared.frames.Frame.{Frame}
@@ -15,7 +15,7 @@ use Rattle.show_engine.specs.declared.frames.Meaning.{Meaning}
 use Rattle.show_engine.specs.Legends.{legend_text, lines_in}
 use Rattle.show_engine.specs.Pictures.{picture_pieces}
 use Rattle.show_engine.specs.Rows.{shown_text}
-use Rattle.show_engine.specs.Showing.{is_among, the_picture}
+use Rattle.show_engine.specs.PicturesWritten.{is_among, the_picture}
 
 -- what a picture in a frame has of a run, by what one before has left, where so many bits hold a node
 abbrev pub pieces_left : Frame → (bits : ℕ) → Counted → Pieces

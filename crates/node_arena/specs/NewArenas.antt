@@ -11,7 +11,7 @@ use Rattle.node_arena.specs.declared.roles.Role.{Role}
 use Rattle.node_arena.specs.Beside.{Beside}
 use Rattle.node_arena.specs.Arenas.{Arena}
 use Rattle.node_arena.specs.declared.seats.Seat.{Seat}
-use Rattle.node_arena.specs.Seeing.{keeper, new_seat}
+use Rattle.node_arena.specs.Knowledge.{keeper, new_seat}
 use Rattle.node_arena.specs.Plans.{Layout}
 use Rattle.node_arena.specs.Places.{shared_words}
 use Rattle.node_arena.specs.Seats.{IsReady, Sits, HasNoSlot, view, pocket_of, keeps_of, plan_of}

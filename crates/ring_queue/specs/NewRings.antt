@@ -10,7 +10,7 @@ use Rattle.ring_queue.specs.declared.seats.Seat.{Seat}
 use Rattle.ring_queue.specs.Beside.{Beside}
 use Rattle.ring_queue.specs.Words.{slot_word}
 use Rattle.ring_queue.specs.Plans.{Layout}
-use Rattle.ring_queue.specs.Seeing.{keeper, new_seat}
+use Rattle.ring_queue.specs.Knowledge.{keeper, new_seat}
 use Rattle.ring_queue.specs.Seats.{IsReady, HasNoSlot, deeds_of, view}
 use Rattle.ring_queue.specs.Queues.{IsQueueSeat}
 
