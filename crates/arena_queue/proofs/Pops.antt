@@ -24,7 +24,7 @@ use Rattle.node_arena.specs.Paths.{ExtendsPath, FindsShutEmpty, StopsAPop, Acts,
 use Rattle.node_arena.proofs.Paths.{walk_then, then_slots, then_shut_empty, act_then, sees_on, added_is, added_path, last_held, ends_failed, met_behind, failed-append, failed_behind, kept_seat}
 use Rattle.node_arena.proofs.Loads.{kept_slots, kept_takes, then_takes, takes_then}
 use Rattle.free_list.specs.Gives.{GiveAnswers}
-use Rattle.arena_queue.specs.Answers.{EmptiesPocket, DrawRefused, DrawMoves, Draws, AnswersPop}
+use Rattle.arena_queue.specs.Answers.{EmptiesPocket, PopWithoutNodeCaused, PopMoves, PopsWithoutNode, AnswersPop}
 use Rattle.arena_queue.proofs.Queues.{same_number}
 
 -- an actor that took a value stands before F1, with the node that comes free in its hand
@@ -44,7 +44,7 @@ module _ (worn : WornWord → Type 0) where
     late_stop e Closed h = subst (FindsShutEmpty (view s) (view x)) (sym e) (then_shut_empty (view s) (view u) (view x) es (added u x) w h)
     late_stop e _ h = subst (ExtendsPath (view s) (view x)) (sym e) (walk_then (view s) (view u) (view x) es (added u x) w h)
 
-    late_cause : (e : added s x ≡ es ++ added u x) (refusal : Refusal) → DrawRefused worn r u x before turns refusal → DrawRefused worn r s x spent turns refusal
+    late_cause : (e : added s x ≡ es ++ added u x) (refusal : Refusal) → PopWithoutNodeCaused worn r u x before turns refusal → PopWithoutNodeCaused worn r s x spent turns refusal
     late_cause e Busy f = (
       (let c = ap failed_turns e in let n = f.0 in omega (arith, failed-append es (added u x), c, n, more)),
       ends_failed s x (es ++ added u x) e (failed_behind es (added u x) f.1),
@@ -53,7 +53,7 @@ module _ (worn : WornWord → Type 0) where
     late_cause e Closed f = met_behind r s u x es Closed w e f
     late_cause e _ f = absurd f
 
-    pub draws_late : (out : Result (Option Taken) Refusal) → KeepsName s u → KeepsSlots s u → Draws worn r u x before turns out → Draws worn r s x spent turns out
+    pub draws_late : (out : Result (Option Taken) Refusal) → KeepsName s u → KeepsSlots s u → PopsWithoutNode worn r u x before turns out → PopsWithoutNode worn r s x spent turns out
     draws_late out name slots d =
         let e = late d.path in
         record {
@@ -68,25 +68,25 @@ module _ (worn : WornWord → Type 0) where
           refused = refused_by out e d;
         }
       where
-        moves : (o : Result (Option Taken) Refusal) → DrawMoves r u x o → DrawMoves r s x o
+        moves : (o : Result (Option Taken) Refusal) → PopMoves r u x o → PopMoves r s x o
         moves (Ok (Some v)) y = then_takes r v s u x slots y
         moves (Ok None) y = then_slots s u x slots y
         moves (Err refusal) y = then_slots s u x slots y
 
-        answered : (o : Result (Option Taken) Refusal) → Draws worn r u x before turns o → IfOk o (λ v. PopAnswers (known_of s) v (known_of x))
+        answered : (o : Result (Option Taken) Refusal) → PopsWithoutNode worn r u x before turns o → IfOk o (λ v. PopAnswers (known_of s) v (known_of x))
         answered (Ok v) d = answers_then (known_of s) (known_of u) (known_of x) v (sees_on (view s) (view u) es w) d.answer
         answered (Err refusal) d = tt
 
-        fewer : (o : Result (Option Taken) Refusal) → added s x ≡ es ++ added u x → Draws worn r u x before turns o → OnOk o (spent + failed_turns (added s x) ≤ turns)
+        fewer : (o : Result (Option Taken) Refusal) → added s x ≡ es ++ added u x → PopsWithoutNode worn r u x before turns o → OnOk o (spent + failed_turns (added s x) ≤ turns)
         fewer (Ok v) e d = let c = ap failed_turns e in let n = d.few in omega (arith, failed-append es (added u x), c, n, more)
         fewer (Err refusal) e d = tt
 
-        freed_of : (o : Result (Option Taken) Refusal) → added s x ≡ es ++ added u x → Draws worn r u x before turns o → keeps_of u ≡ false → OnOk o (EmptiesPocket s x spent turns)
+        freed_of : (o : Result (Option Taken) Refusal) → added s x ≡ es ++ added u x → PopsWithoutNode worn r u x before turns o → keeps_of u ≡ false → OnOk o (EmptiesPocket s x spent turns)
         freed_of (Ok v) e d off = ⊎_elim (λ none. inl none) (λ all. inr (let c = ap failed_turns e in omega (arith, failed-append es (added u x), c, all, more))) (d.freed off)
         freed_of (Err refusal) e d off = tt
 
-        refused_by : (o : Result (Option Taken) Refusal) → added s x ≡ es ++ added u x → Draws worn r u x before turns o
-            → IfErr o (λ refusal. StopsAPop s x refusal × DrawRefused worn r s x spent turns refusal)
+        refused_by : (o : Result (Option Taken) Refusal) → added s x ≡ es ++ added u x → PopsWithoutNode worn r u x before turns o
+            → IfErr o (λ refusal. StopsAPop s x refusal × PopWithoutNodeCaused worn r s x spent turns refusal)
         refused_by (Ok v) e d = tt
         refused_by (Err refusal) e d = (late_stop e refusal d.refused.0, late_cause e refusal d.refused.1)
 
@@ -94,7 +94,7 @@ module _ (worn : WornWord → Type 0) where
   pub draws_worn : {T : Type 0} (r : Arena) (s t : Seat T) (refusal : Refusal) (word : WornWord) (failed turns : ℕ) (es : List Event) → IsSeat r t
       → (view t).actor.line ≡ None → (view t).actor.pocket ≡ None → KeepsStored s t → KeepsSlots s t → ExtendsPath (view s) (view t) es
       → refusal ≡ WornOut word → EndedAt r s es (IsRefusedAt r.plan.setup (view s).number (WornOut word)) → worn word
-      → Draws worn r s (keeping t None failed) failed turns (Err refusal)
+      → PopsWithoutNode worn r s (keeping t None failed) failed turns (Err refusal)
   draws_worn r s t refusal word failed turns es seat over empty stored slots w is cause so =
       let e : added s t ≡ es = added_is s t es w in
       let rest : at_rest (view t).actor ≡ (view t).actor = ap (out_of (view t).actor) over in
@@ -107,7 +107,7 @@ module _ (worn : WornWord → Type 0) where
         few = tt;
         freed = λ off. tt;
         kept = λ on. tt;
-        refused = subst (λ y. StopsAPop s (keeping t None failed) y × DrawRefused worn r s (keeping t None failed) failed turns y) (sym is) (
+        refused = subst (λ y. StopsAPop s (keeping t None failed) y × PopWithoutNodeCaused worn r s (keeping t None failed) failed turns y) (sym is) (
           subst (ExtendsPath (view s) (view t)) (sym e) w,
           (last_held r s (keeping t None failed) es _ e cause, so),
         );
@@ -116,7 +116,7 @@ module _ (worn : WornWord → Type 0) where
   -- the queue was found shut and empty, and the call is over
   pub draws_shut : {T : Type 0} (r : Arena) (s t : Seat T) (failed turns : ℕ) (es : List Event) → IsSeat r t → (view t).actor.line ≡ None
       → (view t).actor.pocket ≡ None → KeepsStored s t → KeepsSlots s t → FindsShutEmpty (view s) (view t) es
-      → EndedAt r s es (IsRefusedAt r.plan.setup (view s).number Closed) → Draws worn r s (keeping t None failed) failed turns (Err Closed)
+      → EndedAt r s es (IsRefusedAt r.plan.setup (view s).number Closed) → PopsWithoutNode worn r s (keeping t None failed) failed turns (Err Closed)
   draws_shut r s t failed turns es seat over empty stored slots finds cause =
       let e : added s t ≡ es = added_path s t es finds.path in
       let rest : at_rest (view t).actor ≡ (view t).actor = ap (out_of (view t).actor) over in
@@ -136,7 +136,7 @@ module _ (worn : WornWord → Type 0) where
   pub draws_taken : {T : Type 0} (r : Arena) (s t x : Seat T) (word : ℕ) (h : Held) (failed turns : ℕ) (out : Result (Unit {0}) Refusal)
       (es : List Event) → keeps_of s ≡ false → failed < turns → IsSeat r t → KeepsStored s t → TakesSlot r (value_of word) s t
       → Acts (view s) (view t) (Pop (view s).number (value_of word)) es → failed_turns es ≡ 0
-      → GiveAnswers r (keeping t (Some h) failed) x (turns - failed) out → Draws worn r s x failed turns (Ok (Some (value_of word)))
+      → GiveAnswers r (keeping t (Some h) failed) x (turns - failed) out → PopsWithoutNode worn r s x failed turns (Ok (Some (value_of word)))
   draws_taken r s t x word h failed turns out es keeps less seat stored takes took never g =
       let acts : Acts (view s) (view x) (Pop (view s).number (value_of word)) (es ++ added t x) =
       act_then (view s) (view t) (view x) (Pop (view s).number (value_of word)) es (added t x) took (record { walks = g.lines; same = g.seen }) in
@@ -173,7 +173,7 @@ module _ (worn : WornWord → Type 0) where
   pub draws_kept : {T : Type 0} (r : Arena) (s t : Seat T) (word : ℕ) (h : Held) (failed turns : ℕ) (es : List Event) → keeps_of s ≡ true
       → failed < turns → IsSeat r t → KeepsStored s t → TakesSlot r (value_of word) s t → IsFreeing (view t).actor word h
       → Acts (view s) (view t) (Pop (view s).number (value_of word)) es → failed_turns es ≡ 0
-      → Draws worn r s (keeping t (Some h) failed) failed turns (Ok (Some (value_of word)))
+      → PopsWithoutNode worn r s (keeping t (Some h) failed) failed turns (Ok (Some (value_of word)))
   draws_kept r s t word h failed turns es keeps less seat stored takes frees took never =
       let e : added s t ≡ es = added_path s t es took.path in
       let rest : at_rest (view t).actor ≡ record (to_pocket (view t).actor) { line = None } =
@@ -198,7 +198,7 @@ module _ (worn : WornWord → Type 0) where
   -- the queue was found empty
   pub draws_empty : {T : Type 0} (r : Arena) (s t : Seat T) (failed turns : ℕ) (es : List Event) → failed < turns → IsSeat r t
       → (view t).actor.line ≡ None → (view t).actor.pocket ≡ None → KeepsStored s t → KeepsSlots s t → (view t).path ≡ (view s).path ++ es
-      → failed_turns es ≡ 0 → FoundEmpty (known_by (view s)) (known_by (view t)) → Draws worn r s (keeping t None failed) failed turns (Ok None)
+      → failed_turns es ≡ 0 → FoundEmpty (known_by (view s)) (known_by (view t)) → PopsWithoutNode worn r s (keeping t None failed) failed turns (Ok None)
   draws_empty r s t failed turns es less seat over empty stored slots path never found =
       let e : added s t ≡ es = added_path s t es path in
       let rest : at_rest (view t).actor ≡ (view t).actor = ap (out_of (view t).actor) over in
@@ -215,7 +215,7 @@ module _ (worn : WornWord → Type 0) where
       }
 
   -- a pop with no line of its call before it
-  pub whole : {T : Type 0} (r : Arena) (s x : Seat T) (turns : ℕ) (out : Result (Option Taken) Refusal) → IsReady r s → Draws worn r s x 0 turns out → AnswersPop worn r s x turns out
+  pub whole : {T : Type 0} (r : Arena) (s x : Seat T) (turns : ℕ) (out : Result (Option Taken) Refusal) → IsReady r s → PopsWithoutNode worn r s x 0 turns out → AnswersPop worn r s x turns out
   whole r s x turns (Ok v) h d =
       record {
         ready = d.ready;
@@ -243,7 +243,7 @@ module _ (worn : WornWord → Type 0) where
         caused = d.refused.1;
       }
     where
-      stops : (refusal : Refusal) → DrawRefused worn r s x 0 turns refusal → StopsPop refusal
+      stops : (refusal : Refusal) → PopWithoutNodeCaused worn r s x 0 turns refusal → StopsPop refusal
       stops Busy f = tt
       stops (WornOut word) f = tt
       stops Closed f = tt
@@ -255,13 +255,13 @@ module _ (worn : WornWord → Type 0) where
 
   -- the pop of a seat whose pocket was empty
   pub drawn_at_once : {T : Type 0} (r : Arena) (s v x : Seat T) (n turns : ℕ) (out : Result (Option Taken) Refusal) → IsReady r s → v ≡ s → n ≡ 0
-      → Draws worn r v x n turns out → AnswersPop worn r s x turns out
-  drawn_at_once r s v x n turns out h e f d = whole r s x turns out h (subst (λ u. Draws worn r u x 0 turns out) e (subst (λ m. Draws worn r v x m turns out) f d))
+      → PopsWithoutNode worn r v x n turns out → AnswersPop worn r s x turns out
+  drawn_at_once r s v x n turns out h e f d = whole r s x turns out h (subst (λ u. PopsWithoutNode worn r u x 0 turns out) e (subst (λ m. PopsWithoutNode worn r v x m turns out) f d))
 
   -- the pop of a seat that first gave its node back
   pub drawn_after_give : {T : Type 0} (r : Arena) (s u v x : Seat T) (spent n turns : ℕ) (out : Result (Option Taken) Refusal) → IsReady r s → v ≡ u
-      → n ≡ spent → KeepsName s u → KeepsSlots s u → HadNoEffect s u → spent ≡ failed_turns (added s u) → Draws worn r v x n turns out
+      → n ≡ spent → KeepsName s u → KeepsSlots s u → HadNoEffect s u → spent ≡ failed_turns (added s u) → PopsWithoutNode worn r v x n turns out
       → AnswersPop worn r s x turns out
   drawn_after_give r s u v x spent n turns out h e f name slots w g d =
-      let k : Draws worn r u x spent turns out = subst (λ y. Draws worn r y x spent turns out) e (subst (λ m. Draws worn r v x m turns out) f d) in
+      let k : PopsWithoutNode worn r u x spent turns out = subst (λ y. PopsWithoutNode worn r y x spent turns out) e (subst (λ m. PopsWithoutNode worn r v x m turns out) f d) in
       whole r s x turns out h (draws_late r s u x (added s u) w 0 spent turns (omega (arith, g)) out name slots k)

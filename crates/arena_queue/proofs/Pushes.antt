@@ -15,7 +15,7 @@ use Rattle.node_arena.specs.Turns.{failed_turns}
 use Rattle.node_arena.specs.Paths.{ExtendsPath, FindsShut, StopsAPush, Acts, HadNoEffect, added}
 use Rattle.free_list.specs.Takes.{TakeRefused}
 use Rattle.node_arena.proofs.Paths.{walk_then, then_act, then_shut, added_path, sees_on, met_behind, failed-append, failed_behind, ends_failed}
-use Rattle.arena_queue.specs.Answers.{PutMoves, PutRefused, PutsAnd, Puts, PushRefused, AnswersPush}
+use Rattle.arena_queue.specs.Answers.{PushMoves, PushWithNodeCaused, PushesWithNodeAnd, PushesWithNode, PushRefused, AnswersPush}
 use Rattle.arena_queue.proofs.Queues.{same_number}
 
 -- what a call that was refused added to its seat's path
@@ -42,7 +42,7 @@ module _ (worn : WornWord → Option Held → Type 0) where
   -- a push behind other lines of its call
   pub put_behind : {T : Type 0} (Before After : Type 0) → (Before → After) → (r : Arena) (s t u : Seat T) (es : List Event)
       → ExtendsPath (view s) (view t) es → KeepsName s t → (node body spent all turns : ℕ) (out : Result (Unit {0}) Refusal)
-      → spent + failed_turns es ≡ all → PutsAnd Before worn r t u node body all turns out → PutsAnd After worn r s u node body spent turns out
+      → spent + failed_turns es ≡ all → PushesWithNodeAnd Before worn r t u node body all turns out → PushesWithNodeAnd After worn r s u node body spent turns out
   put_behind Before After moves r s t u es w name node body spent all turns (Ok x) f k =
       let both : List Event = es ++ added t u in
       let acts : Acts (view s) (view u) (Push (view s).number body) both = then_act (view s) (view t) (view u) (Push (view t).number body)
@@ -70,7 +70,7 @@ module _ (worn : WornWord → Option Held → Type 0) where
         refused = (stops_behind s t u es w e refusal k.refused.0, by_cause e refusal k.refused.1);
       }
     where
-      by_cause : added s u ≡ es ++ added t u → (refusal : Refusal) → PutRefused worn r t u node all turns refusal → PutRefused worn r s u node spent turns refusal
+      by_cause : added s u ≡ es ++ added t u → (refusal : Refusal) → PushWithNodeCaused worn r t u node all turns refusal → PushWithNodeCaused worn r s u node spent turns refusal
       by_cause e Busy x = (
         (let c = ap failed_turns e in let g = x.0 in omega (arith, failed-append es (added t u), c, f, g)),
         ends_failed s u (es ++ added t u) e (failed_behind es (added t u) x.1),
@@ -82,7 +82,7 @@ module _ (worn : WornWord → Option Held → Type 0) where
 
   -- the push of a node that was in the pocket
   pub at_once : {T : Type 0} (Slots : Type 0) (r : Arena) (s t : Seat T) (node body turns : ℕ) (out : Result (Unit {0}) Refusal) → IsReady r s
-      → PutsAnd Slots worn r s t node body 0 turns out → AnswersPush worn r s t body turns out
+      → PushesWithNodeAnd Slots worn r s t node body 0 turns out → AnswersPush worn r s t body turns out
   at_once Slots r s t node body turns (Ok u) h k =
       record {
         ready = k.ready;
@@ -108,13 +108,13 @@ module _ (worn : WornWord → Option Held → Type 0) where
         caused = by_cause refusal k.refused.1;
       }
     where
-      stops : (refusal : Refusal) → PutRefused worn r s t node 0 turns refusal → StopsPush refusal
+      stops : (refusal : Refusal) → PushWithNodeCaused worn r s t node 0 turns refusal → StopsPush refusal
       stops Busy x = tt
       stops (WornOut word) x = tt
       stops Closed x = tt
       stops _ x = absurd x
 
-      by_cause : (refusal : Refusal) → PutRefused worn r s t node 0 turns refusal → PushRefused worn r s t turns refusal
+      by_cause : (refusal : Refusal) → PushWithNodeCaused worn r s t node 0 turns refusal → PushRefused worn r s t turns refusal
       by_cause Busy x = ((let f = x.0 in omega arith), x.1)
       by_cause (WornOut OfFree) x = x.0
       by_cause (WornOut OfNext) x = (x.0, x.1)
@@ -125,14 +125,14 @@ module _ (worn : WornWord → Option Held → Type 0) where
 
   -- the push of a seat whose pocket was full
   pub put_at_once : {T : Type 0} (r : Arena) (s v x : Seat T) (node body n turns : ℕ) (out : Result (Unit {0}) Refusal) → IsReady r s → v ≡ s → n ≡ 0
-      → Puts worn r v x node body n turns out → AnswersPush worn r s x body turns out
-  put_at_once r s v x node body n turns out h e f p = at_once (PutMoves r body s x out) r s x node body turns out h
-      (subst (λ u. Puts worn r u x node body 0 turns out) e (subst (λ m. Puts worn r v x node body m turns out) f p))
+      → PushesWithNode worn r v x node body n turns out → AnswersPush worn r s x body turns out
+  put_at_once r s v x node body n turns out h e f p = at_once (PushMoves r body s x out) r s x node body turns out h
+      (subst (λ u. PushesWithNode worn r u x node body 0 turns out) e (subst (λ m. PushesWithNode worn r v x node body m turns out) f p))
 
   -- the push of a seat that first took a node
   pub put_after_take : {T : Type 0} (r : Arena) (s u v x : Seat T) (node body spent n turns : ℕ) (out : Result (Unit {0}) Refusal) → IsReady r s
-      → v ≡ u → n ≡ spent → KeepsName s u → HadNoEffect s u → spent ≡ failed_turns (added s u) → Puts worn r v x node body n turns out
+      → v ≡ u → n ≡ spent → KeepsName s u → HadNoEffect s u → spent ≡ failed_turns (added s u) → PushesWithNode worn r v x node body n turns out
       → AnswersPush worn r s x body turns out
   put_after_take r s u v x node body spent n turns out h e f name w g p =
-      let k : Puts worn r u x node body spent turns out = subst (λ y. Puts worn r y x node body spent turns out) e (subst (λ m. Puts worn r v x node body m turns out) f p) in
-      at_once (Unit {0}) r s x node body turns out h (put_behind (PutMoves r body u x out) (Unit {0}) (λ _. tt) r s u x (added s u) w name node body 0 spent turns out (omega arith) k)
+      let k : PushesWithNode worn r u x node body spent turns out = subst (λ y. PushesWithNode worn r y x node body spent turns out) e (subst (λ m. PushesWithNode worn r v x node body m turns out) f p) in
+      at_once (Unit {0}) r s x node body turns out h (put_behind (PushMoves r body u x out) (Unit {0}) (λ _. tt) r s u x (added s u) w name node body 0 spent turns out (omega arith) k)

@@ -33,28 +33,28 @@ KeepsNode t node = IsSomeAnd (pocket_of t) (λ h. h.node ≡ node)
 -- why a push that has its node is refused, where so many turns failed before: all turns failed, the last one at the last
 -- step, and the node is in the pocket; or a word was found worn out at the last step, and the pocket is as `worn` says of
 -- that word, with no other node; or the queue was found shut at the last step, and the node is in the pocket
-abbrev pub PutRefused : {T : Type 0} (worn : WornWord → Option Held → Type 0) → Arena → Seat T → Seat T → (node spent turns : ℕ) → Refusal → Type 0
-PutRefused worn r s t node spent turns Busy = (spent + failed_turns (added s t) ≡ turns) × EndsFailed s t × KeepsNode t node
-PutRefused worn r s t node spent turns (WornOut word) =
+abbrev pub PushWithNodeCaused : {T : Type 0} (worn : WornWord → Option Held → Type 0) → Arena → Seat T → Seat T → (node spent turns : ℕ) → Refusal → Type 0
+PushWithNodeCaused worn r s t node spent turns Busy = (spent + failed_turns (added s t) ≡ turns) × EndsFailed s t × KeepsNode t node
+PushWithNodeCaused worn r s t node spent turns (WornOut word) =
     MetCause r s t (WornOut word) × worn word (pocket_of t) × IfSome (pocket_of t) (λ h. h.node ≡ node)
-PutRefused worn r s t node spent turns Closed = MetCause r s t Closed × KeepsNode t node
-PutRefused worn r s t node spent turns _ = ⊥
+PushWithNodeCaused worn r s t node spent turns Closed = MetCause r s t Closed × KeepsNode t node
+PushWithNodeCaused worn r s t node spent turns _ = ⊥
 
 -- the push of a body gave its slot, and a push that was refused left the slots that are out with its seat as they were
-abbrev pub PutMoves : {T : Type 0} → Arena → (body : ℕ) → Seat T → Seat T → Result (Unit {0}) Refusal → Type 0
-PutMoves r body s t out = MatchResult out (λ _. GivesSlot r body s t) (λ _. KeepsSlots s t)
+abbrev pub PushMoves : {T : Type 0} → Arena → (body : ℕ) → Seat T → Seat T → Result (Unit {0}) Refusal → Type 0
+PushMoves r body s t out = MatchResult out (λ _. GivesSlot r body s t) (λ _. KeepsSlots s t)
 
 -- what a push answers that has its node, where so many turns failed before, and beside that what became of slots
-pub record PutsAnd {T : Type 0} (Slots : Type 0) (worn : WornWord → Option Held → Type 0) (r : Arena) (s t : Seat T) (node body spent turns : ℕ) (out : Result (Unit {0}) Refusal) : Type 0 where
+pub record PushesWithNodeAnd {T : Type 0} (Slots : Type 0) (worn : WornWord → Option Held → Type 0) (r : Arena) (s t : Seat T) (node body spent turns : ℕ) (out : Result (Unit {0}) Refusal) : Type 0 where
   pub ready : IsReady r t
   pub same : KeepsName s t
   pub slots : Slots
   pub pushed : OnOk out (DidPush s t body × (pocket_of t ≡ None) × (spent + failed_turns (added s t) < turns))
-  pub refused : IfErr out (λ refusal. StopsAPush s t refusal × PutRefused worn r s t node spent turns refusal)
+  pub refused : IfErr out (λ refusal. StopsAPush s t refusal × PushWithNodeCaused worn r s t node spent turns refusal)
 
 -- what a push answers that has its node, where so many turns failed before
-abbrev pub Puts : {T : Type 0} (worn : WornWord → Option Held → Type 0) → Arena → (s t : Seat T) → (node body spent turns : ℕ) → Result (Unit {0}) Refusal → Type 0
-Puts worn r s t node body spent turns out = PutsAnd (PutMoves r body s t out) worn r s t node body spent turns out
+abbrev pub PushesWithNode : {T : Type 0} (worn : WornWord → Option Held → Type 0) → Arena → (s t : Seat T) → (node body spent turns : ℕ) → Result (Unit {0}) Refusal → Type 0
+PushesWithNode worn r s t node body spent turns out = PushesWithNodeAnd (PushMoves r body s t out) worn r s t node body spent turns out
 
 -- the cause of each refusal of a push is that of a take, or of the push of the node that it has: a word worn out, or the queue
 -- shut
@@ -82,11 +82,11 @@ pub record AnswersPush {T : Type 0} (worn : WornWord → Option Held → Type 0)
 
 -- why a pop with an empty pocket is refused, where so many turns failed before: all turns failed, the last one at the last
 -- step, or a word of which `worn` says so was found worn out at the last step
-abbrev pub DrawRefused : {T : Type 0} (worn : WornWord → Type 0) → Arena → Seat T → Seat T → (spent turns : ℕ) → Refusal → Type 0
-DrawRefused worn r s t spent turns Busy = (spent + failed_turns (added s t) ≡ turns) × EndsFailed s t
-DrawRefused worn r s t spent turns (WornOut word) = MetCause r s t (WornOut word) × worn word
-DrawRefused worn r s t spent turns Closed = MetCause r s t Closed
-DrawRefused worn r s t spent turns _ = ⊥
+abbrev pub PopWithoutNodeCaused : {T : Type 0} (worn : WornWord → Type 0) → Arena → Seat T → Seat T → (spent turns : ℕ) → Refusal → Type 0
+PopWithoutNodeCaused worn r s t spent turns Busy = (spent + failed_turns (added s t) ≡ turns) × EndsFailed s t
+PopWithoutNodeCaused worn r s t spent turns (WornOut word) = MetCause r s t (WornOut word) × worn word
+PopWithoutNodeCaused worn r s t spent turns Closed = MetCause r s t Closed
+PopWithoutNodeCaused worn r s t spent turns _ = ⊥
 
 -- of a call at most so many turns failed, with those of the give backs before and after its pop
 abbrev pub FailsFew : {T : Type 0} → Seat T → Seat T → (turns : ℕ) → Type 0
@@ -101,21 +101,21 @@ abbrev pub EmptiesPocket : {T : Type 0} → Seat T → Seat T → (spent turns :
 EmptiesPocket s t spent turns = (pocket_of t ≡ None) ⊎ (spent + failed_turns (added s t) ≡ turns)
 
 -- the slot of the value that a pop took came out with the seat, and else the slots that are out with it are those that were
-abbrev pub DrawMoves : {T : Type 0} → Arena → Seat T → Seat T → Result (Option Taken) Refusal → Type 0
-DrawMoves r s t (Ok (Some v)) = TakesSlot r v s t
-DrawMoves r s t out = KeepsSlots s t
+abbrev pub PopMoves : {T : Type 0} → Arena → Seat T → Seat T → Result (Option Taken) Refusal → Type 0
+PopMoves r s t (Ok (Some v)) = TakesSlot r v s t
+PopMoves r s t out = KeepsSlots s t
 
 -- what a pop answers that has an empty pocket, where so many turns failed before
-pub record Draws {T : Type 0} (worn : WornWord → Type 0) (r : Arena) (s t : Seat T) (spent turns : ℕ) (out : Result (Option Taken) Refusal) : Type 0 where
+pub record PopsWithoutNode {T : Type 0} (worn : WornWord → Type 0) (r : Arena) (s t : Seat T) (spent turns : ℕ) (out : Result (Option Taken) Refusal) : Type 0 where
   pub ready : IsReady r t
   pub same : KeepsName s t
-  pub slots : DrawMoves r s t out
+  pub slots : PopMoves r s t out
   pub path : (view t).path ≡ (view s).path ++ added s t
   pub answer : IfOk out (λ o. PopAnswers (known_of s) o (known_of t))
   pub few : OnOk out (spent + failed_turns (added s t) ≤ turns)
   pub freed : keeps_of s ≡ false → OnOk out (EmptiesPocket s t spent turns)
   pub kept : keeps_of s ≡ true → IfOk out (KeepsItsNode t)
-  pub refused : IfErr out (λ refusal. StopsAPop s t refusal × DrawRefused worn r s t spent turns refusal)
+  pub refused : IfErr out (λ refusal. StopsAPop s t refusal × PopWithoutNodeCaused worn r s t spent turns refusal)
 
 -- after a pop its seat's pocket is empty, or each of so many turns failed
 abbrev pub FreesItsNode : {T : Type 0} → Seat T → Seat T → (turns : ℕ) → Type 0
@@ -123,7 +123,7 @@ FreesItsNode s t turns = (pocket_of t ≡ None) ⊎ (failed_turns (added s t) �
 
 -- why a pop is refused
 abbrev pub PopRefused : {T : Type 0} (worn : WornWord → Type 0) → Arena → Seat T → Seat T → (turns : ℕ) → Refusal → Type 0
-PopRefused worn r s t turns refusal = DrawRefused worn r s t 0 turns refusal
+PopRefused worn r s t turns refusal = PopWithoutNodeCaused worn r s t 0 turns refusal
 
 -- what a pop answers
 pub record AnswersPop {T : Type 0} (worn : WornWord → Type 0) (r : Arena) (s t : Seat T) (turns : ℕ) (out : Result (Option Taken) Refusal) : Type 0 where

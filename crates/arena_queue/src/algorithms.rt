@@ -6,7 +6,7 @@ ghost use Rattle.node_arena.specs.Machine.{Held as TheHeld};
 ghost use Rattle.node_arena.specs.Plans.{may_push, may_pop};
 ghost use Rattle.node_arena.specs.Loads.{IsLoaded};
 ghost use Rattle.node_arena.specs.Seats.{IsReady, role_of, pocket_of};
-ghost use Rattle.arena_queue.specs.Answers.{IsOfKind, Puts, Draws, AnswersShut};
+ghost use Rattle.arena_queue.specs.Answers.{IsOfKind, PushesWithNode, PopsWithoutNode, AnswersShut};
 
 use history::{Body, Refusal, Taken};
 use line_table::Kind;
@@ -31,7 +31,7 @@ pub trait Algorithm<const B: u32> {
         ensures { result ≡ kind };
 
     /// The push with the node in the pocket, where `spent` turns of this call failed before.
-    fn put<T>(
+    fn push_with_node<T>(
         arena: &ArenaOf<B, T>,
         seat: &mut Seat<T>,
         held: Held,
@@ -45,10 +45,11 @@ pub trait Algorithm<const B: u32> {
         requires role { IsTrue (may_push (role_of seat.old)) }
         requires full { pocket_of seat.old ≡ Some held }
         requires turns { spent < turns }
-        ensures { Puts push_worn arena.now seat.old seat.new held.node body spent turns result };
+        ensures { PushesWithNode push_worn arena.now seat.old seat.new held.node body spent turns
+            result };
 
     /// The pop with an empty pocket, where `spent` turns of this call failed before.
-    fn draw<T>(
+    fn pop_without_node<T>(
         arena: &ArenaOf<B, T>,
         seat: &mut Seat<T>,
         spent: u32,
@@ -59,7 +60,7 @@ pub trait Algorithm<const B: u32> {
         requires role { IsTrue (may_pop (role_of seat.old)) }
         requires empty { pocket_of seat.old ≡ None }
         requires turns { spent < turns }
-        ensures { Draws pop_worn arena.now seat.old seat.new spent turns result };
+        ensures { PopsWithoutNode pop_worn arena.now seat.old seat.new spent turns result };
 
     /// The shut, which leaves the pocket alone.
     fn shut<T>(arena: &ArenaOf<B, T>, seat: &mut Seat<T>, turns: u32) -> Result<(), Refusal>

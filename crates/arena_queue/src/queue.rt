@@ -152,7 +152,7 @@ impl<A: Algorithm<B>, const B: u32> Fifo for ArenaQueueOf<A, B> {
             Some(held) => (held, 0),
             None => (take(&self.arena, seat, turns)?, seat.failed()),
         };
-        A::put(&self.arena, seat, held, body, spent, turns)
+        A::push_with_node(&self.arena, seat, held, body, spent, turns)
     }
 
     /// Refusals: `WornOut` where at one step the count of a word that stops the algorithm's pops was the greatest one,
@@ -191,7 +191,7 @@ impl<A: Algorithm<B>, const B: u32> Fifo for ArenaQueueOf<A, B> {
                 seat.failed()
             }
         };
-        A::draw(&self.arena, seat, spent, turns)
+        A::pop_without_node(&self.arena, seat, spent, turns)
     }
 
     /// Refusals: `WornOut` where at one step the count of a word that stops the algorithm's shuts was the greatest one,

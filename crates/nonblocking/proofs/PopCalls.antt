@@ -17,7 +17,7 @@ use Rattle.free_list.specs.Gives.{GiveAnswers}
 use Rattle.node_arena.proofs.Known.{empty_before}
 use Rattle.node_arena.proofs.Paths.{no_walk, walk_then, then_stored, no_slots, then_slots, added_is, ends_failed, failed-append, failed_behind, kept_seat}
 use Rattle.node_arena.proofs.Loads.{kept_slots}
-use Rattle.arena_queue.specs.Answers.{Draws}
+use Rattle.arena_queue.specs.Answers.{PopsWithoutNode}
 use Rattle.arena_queue.proofs.Pops.{draws_late, draws_worn, draws_shut, draws_taken, draws_kept, draws_empty}
 use Rattle.nonblocking.specs.Values.{IsNonBlocking}
 use Rattle.node_arena.specs.Machine.{value_of}
@@ -57,12 +57,12 @@ module _ {T : Type 0} (r : Arena) (s t x : Seat T) (n : ℕ) (g : Trying r s t n
       }
 
   -- a turn ended the pop
-  pub pop_ends : (spent turns : ℕ) (o : Result (Option Taken) Refusal) → Draws pop_worn r t x (spent + n) turns o → Draws pop_worn r s x spent turns o
+  pub pop_ends : (spent turns : ℕ) (o : Result (Option Taken) Refusal) → PopsWithoutNode pop_worn r t x (spent + n) turns o → PopsWithoutNode pop_worn r s x spent turns o
   pop_ends spent turns o d = draws_late pop_worn r s t x g.lines g.walks spent (spent + n) turns (omega (arith, g.failed)) o
       (record { number = g.stored.number; role = g.stored.role; keeps = g.stored.keeps }) g.slots d
 
 -- all turns failed
-pub pop_gives_up : {T : Type 0} (r : Arena) (s t : Seat T) (spent turns n : ℕ) → 1 ≤ n → spent + n ≡ turns → Trying r s t n → Draws pop_worn r s (keeping t None turns) spent turns (Err Busy)
+pub pop_gives_up : {T : Type 0} (r : Arena) (s t : Seat T) (spent turns n : ℕ) → 1 ≤ n → spent + n ≡ turns → Trying r s t n → PopsWithoutNode pop_worn r s (keeping t None turns) spent turns (Err Busy)
 pop_gives_up r s t spent turns zero some all g = absurd (omega arith)
 pop_gives_up r s t spent turns (suc m) some all g =
     let e : added s t ≡ g.lines = added_is s t g.lines g.walks in
@@ -84,20 +84,20 @@ pop_gives_up r s t spent turns (suc m) some all g =
 
 -- a turn ended the pop
 module _ {T : Type 0} (r : Arena) (s t : Seat T) (failed turns : ℕ) where
-  pub pop_worn_out : (refusal : Refusal) → Turns r s t (turn.Refused refusal) → Draws pop_worn r s (keeping t None failed) failed turns (Err refusal)
+  pub pop_worn_out : (refusal : Refusal) → Turns r s t (turn.Refused refusal) → PopsWithoutNode pop_worn r s (keeping t None failed) failed turns (Err refusal)
   pop_worn_out Closed f = let k = f.turned in draws_shut pop_worn r s t failed turns f.lines f.seat k.over f.empty f.stored f.slots k.finds k.cause
   pop_worn_out _ f = let k = f.turned in draws_worn pop_worn r s t _ OfTail failed turns f.lines f.seat k.over f.empty f.stored f.slots k.walks k.is k.cause tt
 
   pub pop_took : (x : Seat T) (word : ℕ) (h : Held) (out : Result (Unit {0}) Refusal) → keeps_of t ≡ false → failed < turns
       → Turns r s t (turn.Took word h) → GiveAnswers r (keeping t (Some h) failed) x (turns - failed) out
-      → Draws pop_worn r s x failed turns (Ok (Some (value_of word)))
+      → PopsWithoutNode pop_worn r s x failed turns (Ok (Some (value_of word)))
   pop_took x word h out keeps less f g = draws_taken pop_worn r s t x word h failed turns out f.lines (sym f.stored.keeps ∙ keeps) less f.seat f.stored f.slots f.turned.acts f.turned.never g
 
-  pub pop_kept : (word : ℕ) (h : Held) → keeps_of t ≡ true → failed < turns → Turns r s t (turn.Took word h) → Draws pop_worn r s (keeping t (Some h) failed) failed turns (Ok (Some (value_of word)))
+  pub pop_kept : (word : ℕ) (h : Held) → keeps_of t ≡ true → failed < turns → Turns r s t (turn.Took word h) → PopsWithoutNode pop_worn r s (keeping t (Some h) failed) failed turns (Ok (Some (value_of word)))
   pop_kept word h keeps less f =
       let k = f.turned in
       draws_kept pop_worn r s t word h failed turns f.lines (sym f.stored.keeps ∙ keeps) less f.seat f.stored f.slots
       (record { over = k.over; due = k.due; node = k.node; mark = k.mark }) k.acts k.never
 
-  pub pop_empty : failed < turns → Turns r s t turn.Empty → Draws pop_worn r s (keeping t None failed) failed turns (Ok None)
+  pub pop_empty : failed < turns → Turns r s t turn.Empty → PopsWithoutNode pop_worn r s (keeping t None failed) failed turns (Ok None)
   pop_empty less f = let k = f.turned in draws_empty pop_worn r s t failed turns f.lines less f.seat k.over f.empty f.stored f.slots k.path k.never k.found

@@ -28,7 +28,7 @@ use Rattle.nonblocking.specs.declared.push_outcomes.Turn.{Turn}
 use Rattle.nonblocking.specs.declared.push_outcomes.Turn.TheVariants.{Pushed, Failed, Refused as TurnRefused}
 use Rattle.nonblocking.specs.Pushes.{Running, registers_of, in_hand, CallIsAt, Filled, Fills, FoundWorn, Turns, Trying}
 use Rattle.nonblocking.specs.Worn.{push_worn}
-use Rattle.arena_queue.specs.Answers.{PutRefused, Puts}
+use Rattle.arena_queue.specs.Answers.{PushWithNodeCaused, PushesWithNode}
 use Rattle.node_arena.proofs.Values.{value_of-word}
 
 -- an actor that begins a push with this pocket
@@ -66,7 +66,7 @@ pushes_out r s h from body val a is i full kind small same word = subst (λ (x :
 
 -- the node's own next is worn out
 pub fill_worn : {T : Type 0} (r : Arena) (s t : Seat T) (a : Running) (out : Outcome Running) (refusal : Refusal) (node body spent turns : ℕ)
-    → out ≡ Ends (IsRefused refusal) → Fills r s t a out → Puts push_worn r s (keeping t None spent) node body spent turns (Err refusal)
+    → out ≡ Ends (IsRefused refusal) → Fills r s t a out → PushesWithNode push_worn r s (keeping t None spent) node body spent turns (Err refusal)
 fill_worn r s t a out refusal node body spent turns is f =
     let k : FoundWorn r s t None f.lines OfNext refusal = subst (Filled r s t a f.lines) is f.filled in
     let e : added s t ≡ f.lines = added_is s t f.lines f.walks in
@@ -76,7 +76,7 @@ fill_worn r s t a out refusal node body spent turns is f =
       same = record { number = f.stored.number; role = f.stored.role; keeps = f.stored.keeps };
       slots = kept_slots s t None spent f.slots;
       pushed = tt;
-      refused = subst (λ y. StopsAPush s (keeping t None spent) y × PutRefused push_worn r s (keeping t None spent) node spent turns y) (sym k.is) (
+      refused = subst (λ y. StopsAPush s (keeping t None spent) y × PushWithNodeCaused push_worn r s (keeping t None spent) node spent turns y) (sym k.is) (
         subst (ExtendsPath (view s) (view t)) (sym e) f.walks,
         (last_held r s (keeping t None spent) f.lines _ e k.cause, refl, tt),
       );
@@ -149,7 +149,7 @@ module _ {T : Type 0} (r : Arena) (s t u : Seat T) (h : Held) (val spent n turns
       }
 
   -- a turn pushed
-  pub puts_it : n < turns → out ≡ Pushed → Puts push_worn r s (keeping u None n) h.node (value_of val).body spent turns (Ok tt)
+  pub puts_it : n < turns → out ≡ Pushed → PushesWithNode push_worn r s (keeping u None n) h.node (value_of val).body spent turns (Ok tt)
   puts_it less e =
       let k : Turns r t u b Pushed = turned_as Pushed e in
       let es : List Event = g.lines ++ k.lines in
@@ -172,14 +172,14 @@ module _ {T : Type 0} (r : Arena) (s t u : Seat T) (h : Held) (val spent n turns
       }
 
   -- a turn was refused
-  pub refused_put : (refusal : Refusal) → out ≡ TurnRefused refusal → Puts push_worn r s (keeping u (Some h) n) h.node (value_of val).body spent turns (Err refusal)
+  pub refused_put : (refusal : Refusal) → out ≡ TurnRefused refusal → PushesWithNode push_worn r s (keeping u (Some h) n) h.node (value_of val).body spent turns (Err refusal)
   refused_put refusal e =
       by_cause refusal (turned_as (TurnRefused refusal) e)
     where
       -- the call is over, with its node in the pocket
       ends : (k : KeepsStored t u) (refusal : Refusal) → KeepsSlots t u → IsSeat r u → (view u).actor.line ≡ None → (view u).actor.pocket ≡ Some (in_hand b)
-          → StopsAPush s (keeping u (Some h) n) refusal × PutRefused push_worn r s (keeping u (Some h) n) h.node spent turns refusal
-          → Puts push_worn r s (keeping u (Some h) n) h.node (value_of val).body spent turns (Err refusal)
+          → StopsAPush s (keeping u (Some h) n) refusal × PushWithNodeCaused push_worn r s (keeping u (Some h) n) h.node spent turns refusal
+          → PushesWithNode push_worn r s (keeping u (Some h) n) h.node (value_of val).body spent turns (Err refusal)
       ends k refusal slots seat over pocket refused =
           let name = then_stored s t u g.stored k in
           let rest : at_rest (view u).actor ≡ (view u).actor = ap (out_of (view u).actor) over in
@@ -192,7 +192,7 @@ module _ {T : Type 0} (r : Arena) (s t u : Seat T) (h : Held) (val spent n turns
           }
 
       worn : (k : Turns r t u b (TurnRefused (WornOut OfTail))) (w : ExtendsPath (view t) (view u) k.lines)
-          → FoundWorn r t u (Some (in_hand b)) k.lines OfTail (WornOut OfTail) → Puts push_worn r s (keeping u (Some h) n) h.node
+          → FoundWorn r t u (Some (in_hand b)) k.lines OfTail (WornOut OfTail) → PushesWithNode push_worn r s (keeping u (Some h) n) h.node
           (value_of val).body spent turns (Err (WornOut OfTail))
       worn k w f =
           let es : List Event = g.lines ++ k.lines in
@@ -203,7 +203,7 @@ module _ {T : Type 0} (r : Arena) (s t u : Seat T) (h : Held) (val spent n turns
             (last_held r s (keeping u (Some h) n) es _ e (stopped_behind r s t g.lines k.lines (WornOut OfTail) g.walks f.cause), refl, refl),
           )
 
-      by_cause : (refusal : Refusal) → Turns r t u b (TurnRefused refusal) → Puts push_worn r s (keeping u (Some h) n) h.node (value_of val).body spent turns (Err refusal)
+      by_cause : (refusal : Refusal) → Turns r t u b (TurnRefused refusal) → PushesWithNode push_worn r s (keeping u (Some h) n) h.node (value_of val).body spent turns (Err refusal)
       by_cause Closed k =
           let es : List Event = g.lines ++ k.lines in
           let finds : FindsShut (view s) (view u) es = then_shut (view s) (view t) (view u) g.lines k.lines g.walks k.turned.finds in
@@ -220,12 +220,12 @@ module _ {T : Type 0} (r : Arena) (s t u : Seat T) (h : Held) (val spent n turns
 
 -- by the node and the body of the call
 pub puts_as : {T : Type 0} (r : Arena) (s u : Seat T) (n node b body spent turns : ℕ) (o : Result (Unit {0}) Refusal) → n ≡ node → b ≡ body
-    → Puts push_worn r s u n b spent turns o → Puts push_worn r s u node body spent turns o
-puts_as r s u n node b body spent turns o e f p = subst (λ x. Puts push_worn r s u node x spent turns o) f (subst (λ x. Puts push_worn r s u x b spent turns o) e p)
+    → PushesWithNode push_worn r s u n b spent turns o → PushesWithNode push_worn r s u node body spent turns o
+puts_as r s u n node b body spent turns o e f p = subst (λ x. PushesWithNode push_worn r s u node x spent turns o) f (subst (λ x. PushesWithNode push_worn r s u x b spent turns o) e p)
 
 -- all turns failed
 pub gives_up_put : {T : Type 0} (r : Arena) (s t : Seat T) (h : Held) (val spent turns : ℕ) → spent < turns
-    → Trying r s t (registers_of h val) spent turns → Puts push_worn r s (keeping t (Some h) turns) h.node (value_of val).body spent turns (Err Busy)
+    → Trying r s t (registers_of h val) spent turns → PushesWithNode push_worn r s (keeping t (Some h) turns) h.node (value_of val).body spent turns (Err Busy)
 gives_up_put r s t h val spent turns less g =
     let e : added s t ≡ g.lines = added_is s t g.lines g.walks in
     let k = g.stands in

@@ -22,7 +22,7 @@ use Rattle.node_arena.specs.Loads.{TakesSlot}
 use Rattle.node_arena.specs.Turns.{failed_turns}
 use Rattle.node_arena.specs.Paths.{ExtendsPath, FindsShutEmpty, Acts, FailedAt, EndedAt, IsRefusedAt}
 use Rattle.node_arena.specs.Machine.{value_of}
-use Rattle.arena_queue.specs.Answers.{Draws}
+use Rattle.arena_queue.specs.Answers.{PopsWithoutNode}
 use Rattle.nonblocking.specs.Worn.{pop_worn}
 use Rattle.arena_lines.specs.declared.outcomes.Outcome.{Outcome}
 use Rattle.arena_lines.specs.declared.outcomes.Outcome.TheVariants.{Goes, Ends}
@@ -204,4 +204,4 @@ pub record Trying {T : Type 0} (r : Arena) (s t : Seat T) (n : ℕ) : Type 0 whe
 -- what one turn of a pop comes to: it failed, or the pop answers
 abbrev pub Tries : {T : Type 0} → Arena → Seat T → Seat T → (spent turns : ℕ) → Option (Result (Option Taken) Refusal) → Type 0
 Tries r s t spent turns None = Turns r s t turn.Failed
-Tries r s t spent turns (Some out) = Draws pop_worn r s t spent turns out
+Tries r s t spent turns (Some out) = PopsWithoutNode pop_worn r s t spent turns out

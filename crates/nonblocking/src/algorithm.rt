@@ -40,7 +40,7 @@ impl<const B: u32> Algorithm<B> for NonBlockingAlgorithm {
         Kind::NonBlocking
     }
 
-    fn put<T>(
+    fn push_with_node<T>(
         arena: &ArenaOf<B, T>,
         seat: &mut Seat<T>,
         held: Held,
@@ -51,7 +51,7 @@ impl<const B: u32> Algorithm<B> for NonBlockingAlgorithm {
         pushes::push_node(arena, seat, held, body, spent, turns)
     }
 
-    fn draw<T>(
+    fn pop_without_node<T>(
         arena: &ArenaOf<B, T>,
         seat: &mut Seat<T>,
         spent: u32,

@@ -7,7 +7,7 @@ ghost use Rattle.node_arena.specs.Seats.{IsReady, IsBefore, role_of, pocket_of};
 ghost use Rattle.nonblocking.specs.Values.{IsNonBlocking};
 ghost use Rattle.nonblocking.specs.Pops.{popping, CallIsAt, Looks, Turns, Tries};
 ghost use Rattle.nonblocking.specs.Worn.{pop_worn};
-ghost use Rattle.arena_queue.specs.Answers.{Draws};
+ghost use Rattle.arena_queue.specs.Answers.{PopsWithoutNode};
 
 use crate::pop_lines::{d2, d3, d4, d5, d10, d12, d13};
 use crate::pop_outcomes::{ActorOf, Turn, blank, turned};
@@ -114,7 +114,7 @@ pub(crate) fn pop_with_empty_pocket<const B: u32, T>(
     requires role { IsTrue (may_pop (role_of seat.old)) }
     requires empty { pocket_of seat.old ≡ None }
     requires turns { spent < turns }
-    ensures { Draws pop_worn arena.now seat.old seat.new spent turns result }
+    ensures { PopsWithoutNode pop_worn arena.now seat.old seat.new spent turns result }
 {
     for index in 0..turns - spent {
         if let Some(answer) = pop_by_turn(arena, seat, index, spent + index, turns) {

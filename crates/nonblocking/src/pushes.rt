@@ -9,7 +9,7 @@ ghost use Rattle.nonblocking.specs.Values.{IsNonBlocking};
 ghost use Rattle.node_arena.specs.Machine.{value_of};
 ghost use Rattle.nonblocking.specs.Pushes.{pushing, registers_of, CallIsAt, Fills, Looks, Turns};
 ghost use Rattle.nonblocking.specs.Worn.{push_worn};
-ghost use Rattle.arena_queue.specs.Answers.{Puts};
+ghost use Rattle.arena_queue.specs.Answers.{PushesWithNode};
 
 use crate::push_lines::{e2, e3, e5, e6, e7, e9, e13, e17};
 use crate::push_outcomes::{ActorOf, Turn, registers};
@@ -88,7 +88,8 @@ pub(crate) fn push_node<const B: u32, T>(
     requires role { IsTrue (may_push (role_of seat.old)) }
     requires full { pocket_of seat.old ≡ Some held }
     requires turns { spent < turns }
-    ensures { Puts push_worn arena.now seat.old seat.new held.node body spent turns result }
+    ensures { PushesWithNode push_worn arena.now seat.old seat.new held.node body spent turns
+        result }
 {
     let val = word_of(seat.number(), body.number());
     let filled = match fill(arena, seat, registers(arena, held, val)) {

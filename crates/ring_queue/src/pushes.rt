@@ -79,14 +79,14 @@ impl<T> RingQueue<T> {
         ensures kept { IfErr result (λ _. KeepsSlots seat.old seat.new) }
     {
         if seat.credits > 0 {
-            return self.put(seat, body);
+            return self.push_reserved(seat, body);
         }
         self.refill(seat, turns)?;
-        self.put(seat, body)
+        self.push_reserved(seat, body)
     }
 
     // A seat with places in reserve pushes the first of these bodies, one at least: as many as it has places.
-    fn put_first(&self, seat: &mut Seat<T>, bodies: &[Body]) -> Result<usize, Refusal>
+    fn push_first(&self, seat: &mut Seat<T>, bodies: &[Body]) -> Result<usize, Refusal>
         requires ready { IsReady self.now.plan self.now.table.shared.table_id seat.old }
         requires role { MayPush (permits_of self.now.plan) (known_of seat.old).number }
         requires reserve { 1 ≤ seat.old.credits }
@@ -101,7 +101,7 @@ impl<T> RingQueue<T> {
             (λ refusal. (refusal ≡ Refusal.Closed) × FoundShut (known_of seat.old) (known_of seat.new)) }
     {
         let count = bodies.len().min(seat.credits as usize);
-        self.put_all(seat, &bodies[..count])?;
+        self.push_all_reserved(seat, &bodies[..count])?;
         Ok(count)
     }
 
@@ -149,9 +149,9 @@ impl<T> RingQueue<T> {
             return Ok(0);
         }
         if seat.credits > 0 {
-            return self.put_first(seat, bodies);
+            return self.push_first(seat, bodies);
         }
         self.refill(seat, turns)?;
-        self.put_first(seat, bodies)
+        self.push_first(seat, bodies)
     }
 }

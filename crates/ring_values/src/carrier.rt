@@ -69,7 +69,7 @@ impl<T: Send> Carrier for RingValues<T> {
             PushRefused (ring_of self.now) seat.old seat.new turns unpushed.refusal) }
     {
         let got = self.load(seat, value, turns)?;
-        self.put(seat, got.slot, turns - got.failed)
+        self.push_slot(seat, got.slot, turns - got.failed)
     }
 
     /// Refusals: those of a pop of a number, with their causes. Takes no memory and doesn't wait.

@@ -28,7 +28,7 @@ use Rattle.arena_lines.specs.declared.outcomes.Reply.{Reply}
 use Rattle.arena_lines.specs.declared.outcomes.Reply.TheVariants.{Done as IsDone, Value as IsValue, Empty as IsEmpty, Refused as IsRefused}
 use Rattle.two_lock.specs.Pops.{Running, popping, has_lock, Follows, Fronts, Trying}
 use Rattle.two_lock.specs.Worn.{pop_worn}
-use Rattle.arena_queue.specs.Answers.{Draws}
+use Rattle.arena_queue.specs.Answers.{PopsWithoutNode}
 use Rattle.arena_queue.proofs.Pops.{draws_late, draws_worn, draws_shut, draws_taken, draws_kept, draws_empty}
 use Rattle.two_lock.proofs.PopStands.{stands_b1, won_b1, lost_b1}
 
@@ -84,7 +84,7 @@ module _ {T : Type 0} (r : Arena) (s t u : Seat T) (n : ℕ) (g : Trying r s t n
       }
 
   -- the lock was got
-  pub pop_ends : (x : Seat T) (spent turns : ℕ) (o : Result (Option Taken) Refusal) → has_lock out ≡ true → Draws pop_worn r u x (spent + n) turns o → Draws pop_worn r s x spent turns o
+  pub pop_ends : (x : Seat T) (spent turns : ℕ) (o : Result (Option Taken) Refusal) → has_lock out ≡ true → PopsWithoutNode pop_worn r u x (spent + n) turns o → PopsWithoutNode pop_worn r s x spent turns o
   pop_ends x spent turns o e d =
       let y : IsBefore r u continues B2 = has_got e in
       let none : failed_turns (try ∷ []) ≡ 0 = (let z : at_b1 try.to ≡ 0 = ap at_b1 (to_is r t u (popping n) B1 f.found f.did ∙ y.line) in omega arith) in
@@ -94,7 +94,7 @@ module _ {T : Type 0} (r : Arena) (s t u : Seat T) (n : ℕ) (g : Trying r s t n
       (then_slots s t u g.slots (quiet_slots r t u (popping n) B1 f.found f.did refl)) d
 
 -- all turns failed
-pub pop_gives_up : {T : Type 0} (r : Arena) (s t : Seat T) (spent turns n : ℕ) → 1 ≤ n → spent + n ≡ turns → Trying r s t n → Draws pop_worn r s (keeping t None turns) spent turns (Err Busy)
+pub pop_gives_up : {T : Type 0} (r : Arena) (s t : Seat T) (spent turns n : ℕ) → 1 ≤ n → spent + n ≡ turns → Trying r s t n → PopsWithoutNode pop_worn r s (keeping t None turns) spent turns (Err Busy)
 pop_gives_up r s t spent turns zero some all g = absurd (omega arith)
 pop_gives_up r s t spent turns (suc m) some all g =
     let e : added s t ≡ g.lines = added_is s t g.lines g.walks in
@@ -116,28 +116,28 @@ pop_gives_up r s t spent turns (suc m) some all g =
 
 -- what the lines under the lock came to ends the pop
 module _ {T : Type 0} (r : Arena) (s t : Seat T) (failed turns : ℕ) where
-  pub pop_worn_out : (refusal : Refusal) → Fronts r s t (Ends (IsRefused refusal)) → Draws pop_worn r s (keeping t None failed) failed turns (Err refusal)
+  pub pop_worn_out : (refusal : Refusal) → Fronts r s t (Ends (IsRefused refusal)) → PopsWithoutNode pop_worn r s (keeping t None failed) failed turns (Err refusal)
   pop_worn_out Closed f = let k = f.fronted in draws_shut pop_worn r s t failed turns f.lines f.seat k.over f.empty f.stored f.slots k.finds k.cause
   pop_worn_out _ f = let k = f.fronted in draws_worn pop_worn r s t _ OfHead failed turns f.lines f.seat k.over f.empty f.stored f.slots k.walks k.is k.cause tt
 
   pub pop_took : (x : Seat T) (l : Line) (a : Running) (h : Held) (out : Result (Unit {0}) Refusal) → keeps_of t ≡ false → failed < turns
       → Fronts r s t (Goes l a) → GiveAnswers r (keeping t (Some h) failed) x (turns - failed) out
-      → Draws pop_worn r s x failed turns (Ok (Some (value_of a.val)))
+      → PopsWithoutNode pop_worn r s x failed turns (Ok (Some (value_of a.val)))
   pop_took x l a h out keeps less f g = draws_taken pop_worn r s t x a.val h failed turns out f.lines (sym f.stored.keeps ∙ keeps) less f.seat f.stored f.slots f.fronted.acts f.never g
 
   pub pop_kept : (l : Line) (a : Running) (h : Held) → h ≡ record { node = a.node; mark = a.mark } → keeps_of t ≡ true → failed < turns
-      → Fronts r s t (Goes l a) → Draws pop_worn r s (keeping t (Some h) failed) failed turns (Ok (Some (value_of a.val)))
+      → Fronts r s t (Goes l a) → PopsWithoutNode pop_worn r s (keeping t (Some h) failed) failed turns (Ok (Some (value_of a.val)))
   pop_kept l a h is keeps less f =
       let k = f.fronted in
       draws_kept pop_worn r s t a.val h failed turns f.lines (sym f.stored.keeps ∙ keeps) less f.seat f.stored f.slots
       (record { over = k.over; due = k.due; node = k.node ∙ sym (ap (λ x. x.node) is); mark = k.mark ∙ sym (ap (λ x. x.mark) is) }) k.acts f.never
 
-  pop_empty : failed < turns → Fronts r s t (Ends IsEmpty) → Draws pop_worn r s (keeping t None failed) failed turns (Ok None)
+  pop_empty : failed < turns → Fronts r s t (Ends IsEmpty) → PopsWithoutNode pop_worn r s (keeping t None failed) failed turns (Ok None)
   pop_empty less f = let k = f.fronted in draws_empty pop_worn r s t failed turns f.lines less f.seat k.over f.empty f.stored f.slots k.path f.never k.found
 
   -- a pop that ends without a refusal found the queue empty
   pub pop_ended : (answer : Reply) → ((refusal : Refusal) → answer ≡ IsRefused refusal → ⊥) → failed < turns → Fronts r s t (Ends answer)
-      → Draws pop_worn r s (keeping t None failed) failed turns (Ok None)
+      → PopsWithoutNode pop_worn r s (keeping t None failed) failed turns (Ok None)
   pop_ended IsEmpty other less f = pop_empty less f
   pop_ended (IsRefused refusal) other less f = absurd (other refusal refl)
   pop_ended IsDone other less f = absurd f.fronted

@@ -30,7 +30,7 @@ use Rattle.arena_lines.specs.declared.outcomes.Outcome.TheVariants.{Goes}
 use Rattle.arena_lines.specs.declared.outcomes.Reply.TheVariants.{Done, Refused as IsRefused}
 use Rattle.two_lock.specs.Pushes.{Running, registers_of, in_hand, told_by, has_lock, CallIsAt, Follows, Links, Trying}
 use Rattle.two_lock.specs.Worn.{push_worn}
-use Rattle.arena_queue.specs.Answers.{PutRefused, Puts}
+use Rattle.arena_queue.specs.Answers.{PushWithNodeCaused, PushesWithNode}
 use Rattle.node_arena.proofs.Values.{value_of-word}
 use Rattle.arena_lines.proofs.Registers.{same_registers}
 use Rattle.two_lock.proofs.PushStands.{after_a1, after_a2, won_a3, lost_a3, after_a4, won_a5, lost_a5, after_a6, after_a7, shut_a7}
@@ -270,7 +270,7 @@ module _ {T : Type 0} (r : Arena) (s u t : Seat T) (a b c : Running) (j k : Line
 pub puts_it : {T : Type 0} (r : Arena) (s t u x : Seat T) (h : Held) (val : ℕ) (a b : Running) (out : Outcome Running) (from body spent n turns : ℕ)
     → a ≡ registers_of h val → b ≡ registers_of h val → Trying r s t h val spent n → Follows r t u continues A3 a out → has_lock out ≡ true
     → Links r u x b (Ok tt) → body < 2 ^ 48 → val ≡ from * 2 ^ 48 + body → n < turns
-    → Puts push_worn r s (keeping x None n) h.node body spent turns (Ok tt)
+    → PushesWithNode push_worn r s (keeping x None n) h.node body spent turns (Ok tt)
 puts_it r s t u x h val a b out from body spent n turns is same g follows won linked small word less =
     let f : Follows r t u continues A3 (registers_of h val) out = subst (λ x. Follows r t u continues A3 x out) is follows in
     let k : Links r u x (registers_of h val) (Ok tt) = subst (λ y. Links r u x y (Ok tt)) same linked in
@@ -301,7 +301,7 @@ puts_it r s t u x h val a b out from body spent n turns is same g follows won li
 -- the queue was found shut
 pub finds_it_shut : {T : Type 0} (r : Arena) (s t u x : Seat T) (h : Held) (val : ℕ) (a b : Running) (out : Outcome Running) (refusal : Refusal)
     (body spent n turns : ℕ) → a ≡ registers_of h val → b ≡ registers_of h val → Trying r s t h val spent n → Follows r t u continues A3 a out
-    → has_lock out ≡ true → Links r u x b (Err refusal) → Puts push_worn r s (keeping x (Some h) n) h.node body spent turns (Err refusal)
+    → has_lock out ≡ true → Links r u x b (Err refusal) → PushesWithNode push_worn r s (keeping x (Some h) n) h.node body spent turns (Err refusal)
 finds_it_shut r s t u x h val a b out refusal body spent n turns is same g follows won linked =
     let f : Follows r t u continues A3 (registers_of h val) out = subst (λ x. Follows r t u continues A3 x out) is follows in
     let k : Links r u x (registers_of h val) (Err refusal) = subst (λ y. Links r u x y (Err refusal)) same linked in
@@ -318,7 +318,7 @@ finds_it_shut r s t u x h val a b out refusal body spent n turns is same g follo
       same = record { number = name.number; role = name.role; keeps = name.keeps };
       slots = kept_slots s x (Some h) n (then_slots s u x (then_slots s t u g.slots (quiet_slots r t u continues A3 f.found f.did refl)) k.slots);
       pushed = tt;
-      refused = subst (λ y. StopsAPush s (keeping x (Some h) n) y × PutRefused push_worn r s (keeping x (Some h) n) h.node spent turns y) (sym k.links.is) (
+      refused = subst (λ y. StopsAPush s (keeping x (Some h) n) y × PushWithNodeCaused push_worn r s (keeping x (Some h) n) h.node spent turns y) (sym k.links.is) (
         subst (FindsShut (view s) (view x)) (sym e) finds,
         (last_held r s (keeping x (Some h) n) es _ e (stopped_behind r s u before k.lines Closed w k.links.cause), refl),
       );
@@ -326,7 +326,7 @@ finds_it_shut r s t u x h val a b out refusal body spent n turns is same g follo
 
 -- all turns failed
 pub gives_up_put : {T : Type 0} (r : Arena) (s t : Seat T) (h : Held) (val body spent turns : ℕ) → spent < turns → Trying r s t h val spent turns
-    → Puts push_worn r s (keeping t (Some h) turns) h.node body spent turns (Err Busy)
+    → PushesWithNode push_worn r s (keeping t (Some h) turns) h.node body spent turns (Err Busy)
 gives_up_put r s t h val body spent turns less g =
     let e : added s t ≡ g.lines = added_is s t g.lines g.walks in
     let k = g.stands in

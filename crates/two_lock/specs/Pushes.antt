@@ -15,7 +15,7 @@ use Rattle.node_arena.specs.Prologues.{Prologue, begins, continues, after_prolog
 use Rattle.node_arena.specs.Arenas.{Arena}
 use Rattle.node_arena.specs.declared.seats.Seat.{Seat}
 use Rattle.node_arena.specs.Seats.{IsSeat, IsBefore, KeepsStored, KeepsSlots, DidStep, view}
-use Rattle.arena_queue.specs.Answers.{PutMoves}
+use Rattle.arena_queue.specs.Answers.{PushMoves}
 use Rattle.node_arena.specs.Turns.{failed_turns}
 use Rattle.node_arena.specs.Paths.{ExtendsPath, FindsShut, Acts, FailedAt, EndedAt, IsRefusedAt}
 use Rattle.node_arena.specs.Machine.{value_of}
@@ -116,7 +116,7 @@ pub record Links {T : Type 0} (r : Arena) (s t : Seat T) (a : Running) (out : Re
   pub seat : IsSeat r t
   pub over : (view t).actor.line ≡ None
   pub stored : KeepsStored s t
-  pub slots : PutMoves r (value_of a.val).body s t out
+  pub slots : PushMoves r (value_of a.val).body s t out
   pub lines : List Event
   pub never : failed_turns lines ≡ 0
   pub links : LinkedOr r s t a lines out

@@ -39,7 +39,7 @@ impl<const B: u32> Algorithm<B> for TwoLockAlgorithm {
         Kind::TwoLock
     }
 
-    fn put<T>(
+    fn push_with_node<T>(
         arena: &ArenaOf<B, T>,
         seat: &mut Seat<T>,
         held: Held,
@@ -50,7 +50,7 @@ impl<const B: u32> Algorithm<B> for TwoLockAlgorithm {
         pushes::push_node(arena, seat, held, body, spent, turns)
     }
 
-    fn draw<T>(
+    fn pop_without_node<T>(
         arena: &ArenaOf<B, T>,
         seat: &mut Seat<T>,
         spent: u32,

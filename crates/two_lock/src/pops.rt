@@ -7,7 +7,7 @@ ghost use Rattle.node_arena.specs.Seats.{IsReady, IsBefore, role_of, pocket_of};
 ghost use Rattle.two_lock.specs.Values.{IsTwoLock};
 ghost use Rattle.two_lock.specs.Pops.{CallIsAt, Fronts};
 ghost use Rattle.two_lock.specs.Worn.{pop_worn};
-ghost use Rattle.arena_queue.specs.Answers.{Draws};
+ghost use Rattle.arena_queue.specs.Answers.{PopsWithoutNode};
 
 use crate::pop_lines::{b1, b2, b3, b4, b5, b6};
 use crate::pop_outcomes::{ActorOf, blank, got_lock};
@@ -53,7 +53,7 @@ fn pop_locked<const B: u32, T>(
     requires two_lock { IsTwoLock arena.now }
     requires role { IsTrue (may_pop (role_of seat.old)) }
     requires turns { failed < turns }
-    ensures { Draws pop_worn arena.now seat.old seat.new failed turns result }
+    ensures { PopsWithoutNode pop_worn arena.now seat.old seat.new failed turns result }
 {
     match read_front(arena, seat, blank(arena)) {
         Outcome::Goes(_, a) => {
@@ -88,7 +88,7 @@ pub(crate) fn pop_with_empty_pocket<const B: u32, T>(
     requires role { IsTrue (may_pop (role_of seat.old)) }
     requires empty { pocket_of seat.old ≡ None }
     requires turns { spent < turns }
-    ensures { Draws pop_worn arena.now seat.old seat.new spent turns result }
+    ensures { PopsWithoutNode pop_worn arena.now seat.old seat.new spent turns result }
 {
     for index in 0..turns - spent {
         if got_lock(b1(arena, seat, blank(arena), index)) {

@@ -9,7 +9,7 @@ ghost use Rattle.node_arena.specs.Seats.{IsReady, role_of, pocket_of};
 ghost use Rattle.two_lock.specs.Values.{IsTwoLock};
 ghost use Rattle.two_lock.specs.Pushes.{CallIsAt, Links};
 ghost use Rattle.two_lock.specs.Worn.{push_worn};
-ghost use Rattle.arena_queue.specs.Answers.{Puts};
+ghost use Rattle.arena_queue.specs.Answers.{PushesWithNode};
 
 use crate::push_lines::{a1, a2, a3, a4, a5, a6, a7};
 use crate::push_outcomes::{ActorOf, got_lock, registers};
@@ -55,7 +55,8 @@ pub(crate) fn push_node<const B: u32, T>(
     requires role { IsTrue (may_push (role_of seat.old)) }
     requires full { pocket_of seat.old ≡ Some held }
     requires turns { spent < turns }
-    ensures puts { Puts push_worn arena.now seat.old seat.new held.node body spent turns result }
+    ensures puts { PushesWithNode push_worn arena.now seat.old seat.new held.node body spent turns
+        result }
     ensures pocket { OnErr result (pocket_of seat.new ≡ Some held) }
 {
     let val = word_of(seat.number(), body.number());

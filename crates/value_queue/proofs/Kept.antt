@@ -11,7 +11,7 @@ use Rattle.node_arena.specs.Hands.{KeepsKnown}
 use Rattle.node_arena.specs.Seats.{KeepsName, SeesMoreDeeds, view}
 use Rattle.node_arena.specs.Paths.{ExtendsPath, FindsShut, StopsAPush, FailedAt, EndedAt, IsRefusedAt, MetCause, added}
 use Rattle.node_arena.specs.Turns.{failed_turns}
-use Rattle.arena_queue.specs.Answers.{KeepsNode, PutRefused}
+use Rattle.arena_queue.specs.Answers.{KeepsNode, PushWithNodeCaused}
 
 module _ {T : Type 0} (s x y : Seat T) (k : KeepsKnown x y) where
   -- what was added to its path
@@ -37,7 +37,7 @@ module _ {T : Type 0} (s x y : Seat T) (k : KeepsKnown x y) where
 
   -- and its cause
   pub cause_still : (worn : WornWord → Option Held → Type 0) (r : Arena) (node spent turns : ℕ) (refusal : Refusal)
-      → PutRefused worn r s x node spent turns refusal → PutRefused worn r s y node spent turns refusal
+      → PushWithNodeCaused worn r s x node spent turns refusal → PushWithNodeCaused worn r s y node spent turns refusal
   cause_still worn r node spent turns Busy f =
       subst (λ es. (spent + failed_turns es ≡ turns) × FailedAt es × KeepsNode y node) (sym added_still)
       (f.0, f.1, subst (λ pocket. IsSomeAnd pocket (λ h. h.node ≡ node)) (sym k.stored.pocket) f.2)

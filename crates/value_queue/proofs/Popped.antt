@@ -18,7 +18,7 @@ use Rattle.node_arena.specs.Paths.{HadNoEffect, added}
 use Rattle.node_arena.specs.Turns.{failed_turns}
 use Rattle.node_arena.proofs.Moved.{one_value}
 use Rattle.node_arena.proofs.Loads.{took_slot}
-use Rattle.arena_queue.specs.Answers.{Draws}
+use Rattle.arena_queue.specs.Answers.{PopsWithoutNode}
 use Rattle.arena_queue.proofs.Pops.{draws_late, whole}
 use Rattle.value_queue.specs.ValuesSeen.{told, known_by}
 use Rattle.value_queue.specs.Runs.{as_item}
@@ -28,14 +28,14 @@ use Rattle.value_queue.proofs.Kept.{added_still, name_still}
 
 module _ {T : Type 0} (worn : WornWord → Type 0) (r : Arena) where
   -- the pop of a seat whose pocket was empty
-  pub draw_at_once : (s v x : Seat T) (n turns : ℕ) (out : Result (Option Taken) Refusal) → v ≡ s → n ≡ 0 → Draws worn r v x n turns out → Draws worn r s x 0 turns out
-  draw_at_once s v x n turns out e f d = subst (λ u. Draws worn r u x 0 turns out) e (subst (λ m. Draws worn r v x m turns out) f d)
+  pub draw_at_once : (s v x : Seat T) (n turns : ℕ) (out : Result (Option Taken) Refusal) → v ≡ s → n ≡ 0 → PopsWithoutNode worn r v x n turns out → PopsWithoutNode worn r s x 0 turns out
+  draw_at_once s v x n turns out e f d = subst (λ u. PopsWithoutNode worn r u x 0 turns out) e (subst (λ m. PopsWithoutNode worn r v x m turns out) f d)
 
   -- the pop of a seat that first gave its node back
   pub draw_after_give : (s u v x : Seat T) (spent n turns : ℕ) (out : Result (Option Taken) Refusal) → v ≡ u → n ≡ spent → KeepsName s u
-      → KeepsSlots s u → HadNoEffect s u → spent ≡ failed_turns (added s u) → Draws worn r v x n turns out → Draws worn r s x 0 turns out
+      → KeepsSlots s u → HadNoEffect s u → spent ≡ failed_turns (added s u) → PopsWithoutNode worn r v x n turns out → PopsWithoutNode worn r s x 0 turns out
   draw_after_give s u v x spent n turns out e f name slots w g d =
-      let k : Draws worn r u x spent turns out = subst (λ y. Draws worn r y x spent turns out) e (subst (λ m. Draws worn r v x m turns out) f d) in
+      let k : PopsWithoutNode worn r u x spent turns out = subst (λ y. PopsWithoutNode worn r y x spent turns out) e (subst (λ m. PopsWithoutNode worn r v x m turns out) f d) in
       draws_late worn r s u x (added s u) w 0 spent turns (omega (arith, g)) out name slots k
 
 -- a seat knows the same of values
@@ -47,7 +47,7 @@ module _ {T : Type 0} (worn : WornWord → Type 0) (r : Arena) (carries : carrie
   stays_without k = (ap length k.same ∙ none.0, ap slots_in k.hand ∙ none.1)
 
   -- the queue was empty
-  pub pop_empty : Draws worn r s x 0 turns (Ok None) → AnswersPop worn r s x turns (Ok None)
+  pub pop_empty : PopsWithoutNode worn r s x 0 turns (Ok None) → AnswersPop worn r s x turns (Ok None)
   pop_empty d =
       let a = whole worn r s x turns (Ok None) is d in
       record {
@@ -64,7 +64,7 @@ module _ {T : Type 0} (worn : WornWord → Type 0) (r : Arena) (carries : carrie
       }
 
   -- the pop was refused
-  pub pop_refused : (refusal : Refusal) → Draws worn r s x 0 turns (Err refusal) → AnswersPop worn r s x turns (Err refusal)
+  pub pop_refused : (refusal : Refusal) → PopsWithoutNode worn r s x 0 turns (Err refusal) → AnswersPop worn r s x turns (Err refusal)
   pop_refused refusal d =
       let a = whole worn r s x turns (Err refusal) is d in
       record {
@@ -80,7 +80,7 @@ module _ {T : Type 0} (worn : WornWord → Type 0) (r : Arena) (carries : carrie
         caused = a.caused;
       }
 
-  module _ (taken : Taken) (d : Draws worn r s x 0 turns (Ok (Some taken))) where
+  module _ (taken : Taken) (d : PopsWithoutNode worn r s x 0 turns (Ok (Some taken))) where
     -- the slot of what was popped is out with the seat, with a value in it
     pub pop_slot : HasValue r x taken.body
     pop_slot = let took = took_slot r taken s x d.ready.seat none carries d.slots in (took.0, took.1)

@@ -23,7 +23,7 @@ use Rattle.node_arena.specs.Paths.{ExtendsPath, added}
 use Rattle.node_arena.specs.Turns.{failed_turns}
 use Rattle.node_arena.proofs.Paths.{no_walk, sees_on}
 use Rattle.free_list.specs.Takes.{TakeRefused}
-use Rattle.arena_queue.specs.Answers.{PutRefused, PutsAnd, PutMoves, Puts}
+use Rattle.arena_queue.specs.Answers.{PushWithNodeCaused, PushesWithNodeAnd, PushMoves, PushesWithNode}
 use Rattle.arena_queue.proofs.Pushes.{put_behind, learns, learns_of_take}
 use Rattle.value_queue.specs.ValuesSeen.{known_by}
 use Rattle.value_queue.specs.Pushes.{HasNode, TakesBack, MissedSlots, PushRefused, AnswersPush, back_with}
@@ -148,14 +148,14 @@ module _ {T : Type 0} (worn : WornWord → Option Held → Type 0) (r : Arena) (
       no_lines = subst (λ (w : SeatView). ExtendsPath (view u) w []) (sym k.view) (no_walk (view u))
 
       -- the push of the slot's number, behind the lines before it
-      put_since : (x : Seat T) (out : Result (Unit {0}) Refusal) → Puts worn r v x held.node body (spent + got.failed) turns out → PutsAnd (Unit {0}) worn r s x held.node body got.failed turns out
+      put_since : (x : Seat T) (out : Result (Unit {0}) Refusal) → PushesWithNode worn r v x held.node body (spent + got.failed) turns out → PushesWithNodeAnd (Unit {0}) worn r s x held.node body got.failed turns out
       put_since x out p =
           put_behind worn (Unit {0}) (Unit {0}) (λ y. y) r s u x (added s u) h.lines h.same held.node body got.failed (spent + got.failed) turns out (let b = h.spent.0 in omega (arith, b))
-          (put_behind worn (PutMoves r body v x out) (Unit {0}) (λ y. tt) r u v x [] no_lines same_name held.node body (spent + got.failed)
+          (put_behind worn (PushMoves r body v x out) (Unit {0}) (λ y. tt) r u v x [] no_lines same_name held.node body (spent + got.failed)
           (spent + got.failed) turns out (let z : failed_turns [] ≡ 0 = refl in omega (arith, z)) p)
 
       -- the value was pushed
-      pub value_pushed : (x : Seat T) → Puts worn r v x held.node body (spent + got.failed) turns (Ok tt) → AnswersPush worn r s x value turns (Ok tt)
+      pub value_pushed : (x : Seat T) → PushesWithNode worn r v x held.node body (spent + got.failed) turns (Ok tt) → AnswersPush worn r s x value turns (Ok tt)
       value_pushed x p =
           let n = put_since x (Ok tt) p in
           let gave = p.slots carries in
@@ -178,7 +178,7 @@ module _ {T : Type 0} (worn : WornWord → Option Held → Type 0) (r : Arena) (
 
       -- it came back
       pub value_back : (y x : Seat T) (refusal : Refusal) (out : Result (Unit {0}) (Unpushed T))
-          → Puts worn r v y held.node body (spent + got.failed) turns (Err refusal) → (b : TakesBack r y x got.slot refusal out)
+          → PushesWithNode worn r v y held.node body (spent + got.failed) turns (Err refusal) → (b : TakesBack r y x got.slot refusal out)
           → AnswersPush worn r s x value turns (Err (back_with refusal b.value))
       value_back y x refusal out p b =
           let n = put_since y (Err refusal) p in
@@ -196,13 +196,13 @@ module _ {T : Type 0} (worn : WornWord → Option Held → Type 0) (r : Arena) (
             caused = by_cause refusal (cause_still s y x b.keeps worn r held.node got.failed turns refusal n.refused.1);
           }
         where
-          stops : (refusal : Refusal) → PutRefused worn r s y held.node got.failed turns refusal → StopsPush refusal
+          stops : (refusal : Refusal) → PushWithNodeCaused worn r s y held.node got.failed turns refusal → StopsPush refusal
           stops Busy z = tt
           stops (WornOut word) z = tt
           stops Closed z = tt
           stops _ z = absurd z
 
-          by_cause : (refusal : Refusal) → PutRefused worn r s x held.node got.failed turns refusal → PushRefused worn r s x turns refusal
+          by_cause : (refusal : Refusal) → PushWithNodeCaused worn r s x held.node got.failed turns refusal → PushRefused worn r s x turns refusal
           by_cause Busy z = (got.failed, (let f = z.0 in omega (arith, f)), missed_since got.failed missed, inl z.1)
           by_cause (WornOut OfFree) z = z.0
           by_cause (WornOut OfNext) z = (z.0, z.1)

@@ -86,7 +86,7 @@ impl<T: Send, A: Algorithm<B>, const B: u32> Carrier for QueueOf<T, A, B> {
             Err(refusal) => return unpushed(refusal, value),
         };
         self.arena.put_value(seat, got.slot, value);
-        match A::put(
+        match A::push_with_node(
             &self.arena,
             seat,
             held,
@@ -127,7 +127,7 @@ impl<T: Send, A: Algorithm<B>, const B: u32> Carrier for QueueOf<T, A, B> {
         ensures caused { IfErr result
             (PopRefused A.pop_worn (arena_of self.now) seat.old seat.new turns) }
     {
-        match self.draw(seat, turns) {
+        match self.pop_slot(seat, turns) {
             Ok(Some(taken)) => Ok(Some(self.take_out(seat, taken))),
             Ok(None) => Ok(None),
             Err(refusal) => refused(refusal),

@@ -3,7 +3,7 @@ ghost use Rattle.std.specs.Prelude.{◌≡◌, ◌≤◌, IsTrue};
 ghost use Rattle.node_arena.specs.Plans.{may_pop};
 ghost use Rattle.node_arena.specs.Seats.{IsReady, role_of};
 ghost use Rattle.node_arena.specs.Hands.{HasValue};
-ghost use Rattle.arena_queue.specs.Answers.{Draws};
+ghost use Rattle.arena_queue.specs.Answers.{PopsWithoutNode};
 ghost use Rattle.value_queue.specs.Queues.{arena_of};
 ghost use Rattle.value_queue.specs.Pops.{TakesOut};
 
@@ -16,11 +16,11 @@ use node_arena::Seat;
 
 impl<T, A: Algorithm<B>, const B: u32> QueueOf<T, A, B> {
     // Pops the number of a slot, which is then out with the seat. A node in the pocket is given back first.
-    pub(crate) fn draw(&self, seat: &mut Seat<T>, turns: u32) -> Result<Option<Taken>, Refusal>
+    pub(crate) fn pop_slot(&self, seat: &mut Seat<T>, turns: u32) -> Result<Option<Taken>, Refusal>
         requires ready { IsReady (arena_of self.now) seat.old }
         requires role { IsTrue (may_pop (role_of seat.old)) }
         requires turns { 1 ≤ turns }
-        ensures { Draws A.pop_worn (arena_of self.now) seat.old seat.new 0 turns result }
+        ensures { PopsWithoutNode A.pop_worn (arena_of self.now) seat.old seat.new 0 turns result }
     {
         let spent = match seat.pocket() {
             None => 0,
@@ -29,7 +29,7 @@ impl<T, A: Algorithm<B>, const B: u32> QueueOf<T, A, B> {
                 seat.failed()
             }
         };
-        A::draw(&self.arena, seat, spent, turns)
+        A::pop_without_node(&self.arena, seat, spent, turns)
     }
 
     // Takes the value out of the slot of what was popped, and gives the slot back.

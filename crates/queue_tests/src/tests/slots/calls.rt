@@ -55,7 +55,7 @@ pub fn push<T>(arena: &Values<T>, seat: &mut Seat<T>, value: T) -> Result<(), (R
         Err(refusal) => return Err((refusal, value)),
     };
     let body = slot(arena, seat, held.node, value)?;
-    match <NonBlockingAlgorithm as Algorithm<24>>::put(arena, seat, held, body, 0, TURNS) {
+    match <NonBlockingAlgorithm as Algorithm<24>>::push_with_node(arena, seat, held, body, 0, TURNS) {
         Ok(()) => Ok(()),
         Err(refusal) => {
             let index = body.number() as usize;
@@ -71,7 +71,7 @@ fn draw<T>(arena: &Values<T>, seat: &mut Seat<T>) -> Result<Option<Taken>, Refus
     if seat.pocket().is_some() {
         give_back(arena, seat, TURNS)?;
     }
-    <NonBlockingAlgorithm as Algorithm<24>>::draw(arena, seat, 0, TURNS)
+    <NonBlockingAlgorithm as Algorithm<24>>::pop_without_node(arena, seat, 0, TURNS)
 }
 
 /// Takes the value at the front, whose slot stays out with the seat: the number of the slot, and the value.

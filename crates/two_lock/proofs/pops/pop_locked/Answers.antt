@@ -1,6 +1,6 @@
 use Rattle.std.proofs.Common.{◌≡◌, ◌-◌, Some, Ok, sym, ap, subst, ◌∙◌}
 use Rattle.arena_lines.specs.declared.outcomes.Outcome.TheVariants.{Ends}
-use Rattle.arena_queue.specs.Answers.{Draws}
+use Rattle.arena_queue.specs.Answers.{PopsWithoutNode}
 use Rattle.node_arena.specs.Machine.{value_of}
 use Rattle.node_arena.specs.Seats.{keeps_of}
 use Rattle.two_lock.specs.Worn.{pop_worn}
@@ -14,7 +14,7 @@ pub returns-after-not-keeps_nodes : goal.returns-after-not-keeps_nodes
 returns-after-not-keeps_nodes g c =
     let keeps : keeps_of c.read_front.new.seat ≡ c.keeps_nodes.result = sym (c.keeps_nodes.ensures ∙ ap keeps_of c.keep.ensures) in
     rw c.value_of-taken.ensures
-    (subst (λ (x : Running). Draws pop_worn c.args.arena.now c.args.seat.now c.if-not-keeps_nodes.seat c.args.failed c.args.turns (Ok (Some (value_of x.val)))) (sym c.a.view_is)
+    (subst (λ (x : Running). PopsWithoutNode pop_worn c.args.arena.now c.args.seat.now c.if-not-keeps_nodes.seat c.args.failed c.args.turns (Ok (Some (value_of x.val)))) (sym c.a.view_is)
     (elim c.if-not-keeps_nodes.branch [
       | then-not-keeps_nodes w ↦
           let b = w.give_back.ensures in

@@ -1,7 +1,7 @@
 use Rattle.line_table.specs.declared.lines.Line.TheVariants.{A2, A3}
 use Rattle.std.proofs.Common.{rules, ◌≡◌, ℕ, None, Ok, ◌∙◌, sym, subst, arith, lit≤}
 use Rattle.node_arena.specs.Seats.{keeping}
-use Rattle.arena_queue.specs.Answers.{Puts}
+use Rattle.arena_queue.specs.Answers.{PushesWithNode}
 use Rattle.two_lock.specs.Pushes.{pushing, Trying}
 use Rattle.two_lock.specs.Worn.{push_worn}
 use Rattle.node_arena.proofs.Loads.{loaded_as}
@@ -51,7 +51,7 @@ returns-in-Err-clause-puts g c =
 pub returns-in-Ok-clause-puts : goal.returns-in-Ok-clause-puts
 returns-in-Ok-clause-puts g c =
     rw c.keep.ensures
-    (subst (λ n. Puts push_worn c.args.arena.now c.args.seat.now (keeping c.push_locked.new.seat None c.loop-index.index) c.args.held.node n c.args.spent c.args.turns (Ok tt)) c.number-2.ensures.value
+    (subst (λ n. PushesWithNode push_worn c.args.arena.now c.args.seat.now (keeping c.push_locked.new.seat None c.loop-index.index) c.args.held.node n c.args.spent c.args.turns (Ok tt)) c.number-2.ensures.value
     (puts_it c.args.arena.now c.args.seat.now c.loop-index.seat c.a3.new.seat c.push_locked.new.seat c.args.held c.word_of-val.result c.registers-in-loop-index.result
     c.registers-then-got_lock.result c.a3.result c.number.result c.number-2.result c.args.spent c.loop-index.index c.args.turns c.registers-in-loop-index.ensures
     c.registers-then-got_lock.ensures

@@ -6,18 +6,18 @@ use Rattle.arena_queue.proofs.queue.ArenaQueueOfFifo.try_pop.Given.{Over}
 use Rattle.arena_queue.proofs.queue.ArenaQueueOfFifo.try_pop.Goals.{in-None, in-Some+in_ok-give_back-in-Some}
 use Rattle.arena_queue.proofs.queue.ArenaQueueOfFifo.try_pop.Goals as goal
 
-answers : (g : Over) (c : goal.After-draw g) → AnswersPop g.A.Algorithm.pop_worn c.args.self.now.arena c.args.seat.now c.draw.new.seat c.args.turns c.draw.result
+answers : (g : Over) (c : goal.After-pop_without_node g) → AnswersPop g.A.Algorithm.pop_worn c.args.self.now.arena c.args.seat.now c.pop_without_node.new.seat c.args.turns c.pop_without_node.result
 answers g c =
     elim c.match-pocket.branch [
-      | in-None w ↦ drawn_at_once g.A.Algorithm.pop_worn c.args.self.now.arena c.args.seat.now _ c.draw.new.seat _ c.args.turns c.draw.result c.requires.seat w.seat-is w.spent-is c.draw.ensures
+      | in-None w ↦ drawn_at_once g.A.Algorithm.pop_worn c.args.self.now.arena c.args.seat.now _ c.pop_without_node.new.seat _ c.args.turns c.pop_without_node.result c.requires.seat w.seat-is w.spent-is c.pop_without_node.ensures
       | in-Some+in_ok-give_back-in-Some w ↦
-          drawn_after_give g.A.Algorithm.pop_worn c.args.self.now.arena c.args.seat.now w.give_back.new.seat _ c.draw.new.seat w.failed-spent.result _
-          c.args.turns c.draw.result c.requires.seat w.seat-is w.spent-is w.give_back.ensures.same w.give_back.ensures.slots
-          w.give_back.ensures.lines (w.failed-spent.ensures ∙ w.give_back.ensures.failed) c.draw.ensures
+          drawn_after_give g.A.Algorithm.pop_worn c.args.self.now.arena c.args.seat.now w.give_back.new.seat _ c.pop_without_node.new.seat w.failed-spent.result _
+          c.args.turns c.pop_without_node.result c.requires.seat w.seat-is w.spent-is w.give_back.ensures.same w.give_back.ensures.slots
+          w.give_back.ensures.lines (w.failed-spent.ensures ∙ w.give_back.ensures.failed) c.pop_without_node.ensures
     ]
 
-pub draw-requires : goal.draw-requires
-draw-requires g c = (lit≤ tt, (search rules, (search rules, (search (still_pops, rules), (search rules, search rules)))))
+pub pop_without_node-requires : goal.pop_without_node-requires
+pop_without_node-requires g c = (lit≤ tt, (search rules, (search rules, (search (still_pops, rules), (search rules, search rules)))))
 
 pub returns-clause-answer : goal.returns-clause-answer
 returns-clause-answer g c = (answers g c).answer

@@ -4,9 +4,9 @@ use Rattle.ring_values.proofs.Pushed.{passed, no_slot, slot_pushed}
 use Rattle.ring_values.proofs.carrier.RingValuesCarrier.try_push.Given.{Over}
 use Rattle.ring_values.proofs.carrier.RingValuesCarrier.try_push.Goals as goal
 
-answers : (g : Over) (c : goal.After-put g) → AnswersPush (ring_of c.args.self.now) c.args.seat.now c.put.new.seat c.args.value c.args.turns c.put.result
+answers : (g : Over) (c : goal.After-push_slot g) → AnswersPush (ring_of c.args.self.now) c.args.seat.now c.push_slot.new.seat c.args.value c.args.turns c.push_slot.result
 answers g c = slot_pushed (ring_of c.args.self.now) c.args.self.now.carries c.args.seat.now c.requires.seat.ready c.args.value c.args.turns
-    c.load.new.seat c.put.new.seat c.in_ok-got.got c.in_ok-got.ensures c.put.result c.put.ensures
+    c.load.new.seat c.push_slot.new.seat c.in_ok-got.got c.in_ok-got.ensures c.push_slot.result c.push_slot.ensures
 
 pub returns-in_err-got-clause-refused : goal.returns-in_err-got-clause-refused
 returns-in_err-got-clause-refused g c =

@@ -32,8 +32,8 @@ returns-in-Err-get_slot-clause-refused g c = handed c.unpushed-in-Err-get_slot.r
 pub returns-in-Err-get_slot-clause-caused : goal.returns-in-Err-get_slot-clause-caused
 returns-in-Err-get_slot-clause-caused g c = handed c.unpushed-in-Err-get_slot.result (back_with c.in-Err-get_slot.refusal c.args.value) _ c.unpushed-in-Err-get_slot.ensures (slotless g c).caused
 
-pub put-requires : goal.put-requires
-put-requires g c =
+pub push_with_node-requires : goal.push_with_node-requires
+push_with_node-requires g c =
     let h = c.in-Ok.ensures in
     let got = c.in-Ok-get_slot.ensures in
     let has = c.put_value.ensures.has in
@@ -44,23 +44,23 @@ put-requires g c =
     let pushes = still_pushes (arena_of c.args.self.now) c.args.seat.now c.put_value.new.seat c.requires.seat.0 (k.stored.role ∙ h.same.role) c.requires.role in
     (lit≤ tt, (c.put_value.ensures.ready (got.ready h.ready), (c.args.self.now.runs, (loaded, (pushes, (k.stored.pocket ∙ h.pocket, (let a = got.few in let b = h.spent.1 in omega (arith, a, b))))))))
 
-pub returns-in-Ok-put-clause-pushed : goal.returns-in-Ok-put-clause-pushed
-returns-in-Ok-put-clause-pushed g c =
+pub returns-in-Ok-push_with_node-clause-pushed : goal.returns-in-Ok-push_with_node-clause-pushed
+returns-in-Ok-push_with_node-clause-pushed g c =
     let k = keeps_on c.node.new.seat c.get_slot.new.seat c.put_value.new.seat c.in-Ok-get_slot.ensures.keeps c.put_value.ensures.keeps in
     (value_pushed g.A.Algorithm.push_worn (arena_of c.args.self.now) c.args.self.now.carries c.args.seat.now c.requires.seat.0 c.requires.seat.1 c.args.value c.args.turns
     c.node.new.seat c.put_value.new.seat c.in-Ok.node.0 c.in-Ok.node.1 c.in-Ok.ensures c.in-Ok-get_slot.got k c.put_value.ensures.has c.in-Ok-get_slot.ensures.failed
-    c.body_of.result c.put.new.seat c.in-Ok-put.ensures).pushed
+    c.body_of.result c.push_with_node.new.seat c.in-Ok-push_with_node.ensures).pushed
 
 came_back : (g : Over) (c : goal.After-taken_back g) → AnswersPush g.A.Algorithm.push_worn (arena_of c.args.self.now) c.args.seat.now c.taken_back.new.seat c.args.value
-    c.args.turns (Err (back_with c.in-Err-put.refusal c.taken_back.ensures.value))
+    c.args.turns (Err (back_with c.in-Err-push_with_node.refusal c.taken_back.ensures.value))
 came_back g c =
     let k = keeps_on c.node.new.seat c.get_slot.new.seat c.put_value.new.seat c.in-Ok-get_slot.ensures.keeps c.put_value.ensures.keeps in
     value_back g.A.Algorithm.push_worn (arena_of c.args.self.now) c.args.self.now.carries c.args.seat.now c.requires.seat.0 c.requires.seat.1 c.args.value c.args.turns
     c.node.new.seat c.put_value.new.seat c.in-Ok.node.0 c.in-Ok.node.1 c.in-Ok.ensures c.in-Ok-get_slot.got k c.put_value.ensures.has c.in-Ok-get_slot.ensures.failed
-    c.body_of.result c.put.new.seat c.taken_back.new.seat c.in-Err-put.refusal c.taken_back.result c.in-Err-put.ensures c.taken_back.ensures
+    c.body_of.result c.push_with_node.new.seat c.taken_back.new.seat c.in-Err-push_with_node.refusal c.taken_back.result c.in-Err-push_with_node.ensures c.taken_back.ensures
 
-pub returns-in-Err-put-clause-refused : goal.returns-in-Err-put-clause-refused
-returns-in-Err-put-clause-refused g c = handed c.taken_back.result (back_with c.in-Err-put.refusal c.taken_back.ensures.value) _ c.taken_back.ensures.back (came_back g c).refused
+pub returns-in-Err-push_with_node-clause-refused : goal.returns-in-Err-push_with_node-clause-refused
+returns-in-Err-push_with_node-clause-refused g c = handed c.taken_back.result (back_with c.in-Err-push_with_node.refusal c.taken_back.ensures.value) _ c.taken_back.ensures.back (came_back g c).refused
 
-pub returns-in-Err-put-clause-caused : goal.returns-in-Err-put-clause-caused
-returns-in-Err-put-clause-caused g c = handed c.taken_back.result (back_with c.in-Err-put.refusal c.taken_back.ensures.value) _ c.taken_back.ensures.back (came_back g c).caused
+pub returns-in-Err-push_with_node-clause-caused : goal.returns-in-Err-push_with_node-clause-caused
+returns-in-Err-push_with_node-clause-caused g c = handed c.taken_back.result (back_with c.in-Err-push_with_node.refusal c.taken_back.ensures.value) _ c.taken_back.ensures.back (came_back g c).caused

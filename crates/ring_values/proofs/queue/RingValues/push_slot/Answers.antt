@@ -2,7 +2,7 @@ use Rattle.std.proofs.Common.{subst, sym, arith}
 use Rattle.ring_queue.specs.Hands.{IsLoaded}
 use Rattle.ring_values.specs.Queues.{plan_of, ring_of}
 use Rattle.ring_values.proofs.Pushed.{put_back}
-use Rattle.ring_values.proofs.queue.RingValues.put.Goals as goal
+use Rattle.ring_values.proofs.queue.RingValues.push_slot.Goals as goal
 
 pub push_in-requires-clause-loaded : goal.push_in-requires-clause-loaded
 push_in-requires-clause-loaded g c =

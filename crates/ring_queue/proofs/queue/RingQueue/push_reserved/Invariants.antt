@@ -1,4 +1,4 @@
-use Rattle.ring_queue.proofs.queue.RingQueue.put_all.Given as goal
+use Rattle.ring_queue.proofs.queue.RingQueue.push_reserved.Given as goal
 
 abbrev pub ghost-claim : goal.ghost-claim
 ghost-claim g a = a.bodies.now

@@ -1,7 +1,7 @@
 use Rattle.std.proofs.Common.{ap}
 use Rattle.ring_queue.specs.Seats.{view}
 use Rattle.ring_queue.proofs.Moved.{kept_none, gave_slot, gives_then, stays_on}
-use Rattle.ring_queue.proofs.queue.RingQueue.put.Goals as goal
+use Rattle.ring_queue.proofs.queue.RingQueue.push_reserved.Goals as goal
 
 pub returns-then-tail-lt-SHUT-clause-gives : goal.returns-then-tail-lt-SHUT-clause-gives
 returns-then-tail-lt-SHUT-clause-gives g c =

@@ -1,5 +1,5 @@
 use Rattle.std.proofs.Common.{arith}
-use Rattle.ring_queue.proofs.queue.RingQueue.put_all.Goals as goal
+use Rattle.ring_queue.proofs.queue.RingQueue.push_all_reserved.Goals as goal
 
 pub fill_all-requires-clause-low : goal.fill_all-requires-clause-low
 fill_all-requires-clause-low g c =
