@@ -29,7 +29,7 @@ fn opening_world<const B: u32>(alloc: Global, sizes: &Sizes) -> Result<WorldOf<B
 }
 
 /// The events that acts stand for, done on a world of `B` bits.
-fn events_with<const B: u32>(
+fn expand_with_bits<const B: u32>(
     alloc: Global,
     sizes: &Sizes,
     acts: &[Act],
@@ -47,7 +47,7 @@ fn events_with<const B: u32>(
 }
 
 /// The same on a world of as many bits as the sizes say.
-fn events_in(alloc: Global, sizes: &Sizes, acts: &[Act]) -> Result<Vec<Event>, Fault>
+fn expand_acts(alloc: Global, sizes: &Sizes, acts: &[Act]) -> Result<Vec<Event>, Fault>
     requires range { AreSizesInRange sizes.now }
     requires acts { All IsActOf acts.now }
     requires few { length acts.now ≤ 1000000 }
@@ -56,7 +56,7 @@ fn events_in(alloc: Global, sizes: &Sizes, acts: &[Act]) -> Result<Vec<Event>, F
     ensures refused { IfErr result (λ fault. RefusesAt sizes.now acts.now fault.line fault.refusal) }
 {
     let bits = sizes.bits;
-    by_bits!(bits, events_with(alloc, sizes, acts))
+    by_bits!(bits, expand_with_bits(alloc, sizes, acts))
 }
 
 /// Whether an event can be told in version 1.
@@ -100,7 +100,7 @@ pub(crate) fn schedule_of(alloc: Global, recipe: &Recipe) -> Result<Schedule, Fa
 {
     let sizes = recipe.sizes;
     let acts = acts_of(alloc, &recipe.lines)?;
-    let events = events_in(alloc, &sizes, &acts)?;
+    let events = expand_acts(alloc, &sizes, &acts)?;
     Ok(Schedule {
         version: version_of(sizes.bits, &events),
         kind: sizes.kind,

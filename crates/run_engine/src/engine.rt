@@ -3,7 +3,7 @@ ghost use Rattle.std.specs.Prelude.{◌≡◌, ◌≢◌, IfErr, IfOk, IfSome, O
 ghost use Rattle.run_engine.specs.Runs.{BeginsRun, WritesRun, EndsReading, IsRunFault, IsRunOf, RunRefused, TellsFaultyLine};
 ghost use Rattle.text_io.specs.Blocks.{GivesUp};
 
-use crate::runs::history_of_text;
+use crate::runs::run_source;
 use engine_faults::Fault;
 use history::{Refusal, Stamped};
 use history_text::print_history;
@@ -11,7 +11,7 @@ use std::alloc::Global;
 use text_io::{Sink, Source};
 
 /// The history of the schedule whose text a source gives.
-fn history_of<R: Source>(alloc: Global, reader: &mut R) -> Result<Vec<Stamped>, Fault>
+fn run_schedule<R: Source>(alloc: Global, reader: &mut R) -> Result<Vec<Stamped>, Fault>
     ensures ok { IfOk result (λ history. IsRunOf (R.state reader.old).left history.items) }
     ensures text { IfErr result (λ fault. TellsFaultyLine (R.state reader.old).left fault.refusal) }
     ensures fault { IfErr result (λ fault. IsRunFault fault.refusal fault.line) }
@@ -20,7 +20,7 @@ fn history_of<R: Source>(alloc: Global, reader: &mut R) -> Result<Vec<Stamped>, 
     ensures unwritten { IfErr result (λ fault. fault.refusal ≢ Refusal.Write) }
     ensures reader { EndsReading result (R.state reader.old) (R.state reader.new) }
 {
-    let history = history_of_text(alloc, reader)?;
+    let history = run_source(alloc, reader)?;
     Ok(history)
 }
 
@@ -66,7 +66,7 @@ pub fn run_text<R: Source, W: Sink>(
         RunRefused (R.state reader.old).left line fault.refusal)) }
     ensures reader { EndsReading result (R.state reader.old) (R.state reader.new) }
 {
-    let history = history_of(alloc, reader)?;
+    let history = run_schedule(alloc, reader)?;
     print_history(&history, writer)?;
     Ok(())
 }

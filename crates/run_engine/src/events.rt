@@ -13,7 +13,7 @@ use schedule_text::Event;
 use step_machine::{Stepped, WorldOf};
 
 /// Takes one step of an actor, and answers the line at which it was taken.
-fn take_step<const B: u32>(world: &mut WorldOf<B>, actor: u16) -> Result<Line, Refusal>
+fn make_step<const B: u32>(world: &mut WorldOf<B>, actor: u16) -> Result<Line, Refusal>
     requires left { world.old.steps + 1 < 2 ^ 64 }
     ensures ok { OnOk result (next world.old (Step actor) ≡ Some world.new) }
     ensures at { IfOk result (λ line. line_of (actor_of world.old actor) ≡ Some line) }
@@ -30,21 +30,21 @@ fn take_step<const B: u32>(world: &mut WorldOf<B>, actor: u16) -> Result<Line, R
 }
 
 /// Takes one step of an actor, which has to be one at this line.
-fn take_step_at<const B: u32>(world: &mut WorldOf<B>, actor: u16, line: Line) -> Result<(), Refusal>
+fn make_step_at<const B: u32>(world: &mut WorldOf<B>, actor: u16, line: Line) -> Result<(), Refusal>
     requires left { world.old.steps + 1 < 2 ^ 64 }
     ensures ok { OnOk result (EventLeads world.old (Event.Step actor line) world.new) }
     ensures steps { OnOk result (world.new.steps ≡ world.old.steps + 1) }
     ensures kind { IfErr result IsMoveRefusal }
     ensures refused { IfErr result (StepAtRefused world.old actor line) }
 {
-    if take_step(world, actor)? != line {
+    if make_step(world, actor)? != line {
         return Err(Refusal::NotHere);
     }
     Ok(())
 }
 
 /// Takes so many steps of one actor.
-fn take_steps<const B: u32>(world: &mut WorldOf<B>, actor: u16, count: u32) -> Result<(), Refusal>
+fn make_steps<const B: u32>(world: &mut WorldOf<B>, actor: u16, count: u32) -> Result<(), Refusal>
     requires left { world.old.steps + count + 1 < 2 ^ 64 }
     ensures ok { OnOk result (world_after (replicate count (Step actor)) world.old ≡ Some world.new) }
     ensures steps { OnOk result (world.new.steps ≤ world.old.steps + count) }
@@ -52,7 +52,7 @@ fn take_steps<const B: u32>(world: &mut WorldOf<B>, actor: u16, count: u32) -> R
     ensures refused { IfErr result (StepsRefused world.old actor count) }
 {
     for _ in 0..count {
-        take_step(world, actor)?;
+        make_step(world, actor)?;
     }
     Ok(())
 }
@@ -83,8 +83,8 @@ pub fn make<const B: u32>(world: &mut WorldOf<B>, event: Event) -> Result<(), Re
 {
     match event {
         Event::Begin(actor, op) => world.begin(actor, op),
-        Event::Step(actor, line) => take_step_at(world, actor, line),
-        Event::Steps(actor, count) => take_steps(world, actor, count),
+        Event::Step(actor, line) => make_step_at(world, actor, line),
+        Event::Steps(actor, count) => make_steps(world, actor, count),
         Event::Give(actor) => give_up(world, actor),
     }
 }

@@ -54,7 +54,7 @@ fn read_rest<R: Source>(events: &mut EventStream, reader: &mut R) -> Result<(), 
 /// The history of the events that a stream begins to give, made on a world of `B` bits.
 ///
 /// Where an event is refused, the rest of the text is read first, since a fault there is told in its place.
-fn history_with<const B: u32, R: Source>(
+fn run_with_bits<const B: u32, R: Source>(
     alloc: Global,
     events: &mut EventStream,
     reader: &mut R,
@@ -85,7 +85,7 @@ fn history_with<const B: u32, R: Source>(
 }
 
 /// The same on a world of as many bits as the header says.
-fn history_in<R: Source>(
+fn run_events<R: Source>(
     alloc: Global,
     events: &mut EventStream,
     reader: &mut R,
@@ -100,11 +100,11 @@ fn history_in<R: Source>(
         → StopsRun first (R.state reader.new) fault.refusal fault.line) }
 {
     let bits = events.header().bits;
-    by_bits!(bits, history_with<R>(alloc, events, reader))
+    by_bits!(bits, run_with_bits<R>(alloc, events, reader))
 }
 
 /// The history of the schedule whose text a source gives.
-pub(crate) fn history_of_text<R: Source>(
+pub(crate) fn run_source<R: Source>(
     alloc: Global,
     reader: &mut R,
 ) -> Result<Vec<Stamped>, Fault>
@@ -114,5 +114,5 @@ pub(crate) fn history_of_text<R: Source>(
         fault.refusal fault.line) }
 {
     let mut events = EventStream::start(reader)?;
-    history_in(alloc, &mut events, reader)
+    run_events(alloc, &mut events, reader)
 }

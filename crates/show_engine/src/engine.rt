@@ -18,7 +18,7 @@ use text_io::{Sink, Source};
 use trace_engine::refuse_at;
 
 /// Writes the picture of a schedule of `B` bits, which is run once before, to find where its operations take effect.
-fn show_with<const B: u32, W: Sink>(
+fn show_with_bits<const B: u32, W: Sink>(
     alloc: Global,
     schedule: &Schedule,
     view: View<'_>,
@@ -36,7 +36,7 @@ fn show_with<const B: u32, W: Sink>(
 }
 
 /// The same with as many bits as the schedule says.
-fn show_in<W: Sink>(
+fn show_schedule<W: Sink>(
     alloc: Global,
     schedule: &Schedule,
     view: View<'_>,
@@ -47,7 +47,7 @@ fn show_in<W: Sink>(
         (writer.new ≡ writer.old) result }
 {
     let bits = schedule.bits;
-    by_bits!(bits, show_with<W>(alloc, schedule, view, writer))
+    by_bits!(bits, show_with_bits<W>(alloc, schedule, view, writer))
 }
 
 /// Writes a picture of the schedule whose text the reader gives: an actor a column and a step a row, and a star where an operation
@@ -105,6 +105,6 @@ pub fn show_text<R: Source, W: Sink>(
     ensures reader { EndsReading result (R.state reader.old) (R.state reader.new) }
 {
     let schedule = read_schedule(alloc, reader)?;
-    show_in(alloc, &schedule, view, writer)?;
+    show_schedule(alloc, &schedule, view, writer)?;
     Ok(())
 }

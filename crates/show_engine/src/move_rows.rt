@@ -30,7 +30,7 @@ pub(crate) fn mover(one: &Move) -> u16
 }
 
 /// Takes a step that can be taken, and answers what it did.
-fn take_step<const B: u32>(world: &mut WorldOf<B>, actor: u16) -> Stepped
+fn told_step<const B: u32>(world: &mut WorldOf<B>, actor: u16) -> Stepped
     requires can { IsSome (next world.old (Step actor)) }
     requires left { world.old.steps + 1 < 2 ^ 64 }
     ensures ok { next world.old (Step actor) ≡ Some world.new }
@@ -44,7 +44,7 @@ fn take_step<const B: u32>(world: &mut WorldOf<B>, actor: u16) -> Stepped
 }
 
 /// Gives up a call that can be given up, and answers what that did.
-fn give_up<const B: u32>(world: &mut WorldOf<B>, actor: u16) -> Stepped
+fn told_give<const B: u32>(world: &mut WorldOf<B>, actor: u16) -> Stepped
     requires can { IsSome (next world.old (Give actor)) }
     requires left { world.old.steps + 1 < 2 ^ 64 }
     ensures ok { next world.old (Give actor) ≡ Some world.new }
@@ -97,7 +97,7 @@ fn step_row<const B: u32>(world: &mut WorldOf<B>, frame: Frame, effects: &[u64],
     };
     let found = world.holds(word);
     let before = state_line(world);
-    let told = take_step(world, actor);
+    let told = told_step(world, actor);
     let is_marked = is_among(effects, world.steps());
     let cell = step_cell(is_marked, &told, word, found, world.holds(word));
     numbered_row(world, frame, actor, &cell, &before)
@@ -115,7 +115,7 @@ fn give_row<const B: u32>(world: &mut WorldOf<B>, frame: Frame, effects: &[u64],
         (move_answer world.old (Give actor)) }
 {
     let before = state_line(world);
-    let told = give_up(world, actor);
+    let told = told_give(world, actor);
     let cell = give_cell(is_among(effects, world.steps()), &told);
     numbered_row(world, frame, actor, &cell, &before)
 }
@@ -159,11 +159,11 @@ fn hidden_move<const B: u32>(world: &mut WorldOf<B>, one: Move) -> Result<(), Re
     match one {
         Move::Begin(actor, op) => world.begin(actor, op),
         Move::Step(actor) => {
-            take_step(world, actor);
+            told_step(world, actor);
             Ok(())
         }
         Move::Give(actor) => {
-            give_up(world, actor);
+            told_give(world, actor);
             Ok(())
         }
     }

@@ -15,7 +15,7 @@ use std::alloc::Global;
 use text_io::{Sink, Source};
 
 /// Writes the trace of a schedule of `B` bits, which is run once before, so that the header tells how many steps there are.
-fn trace_with<const B: u32, W: Sink>(
+fn trace_with_bits<const B: u32, W: Sink>(
     alloc: Global,
     schedule: &Schedule,
     writer: &mut W,
@@ -31,13 +31,13 @@ fn trace_with<const B: u32, W: Sink>(
 }
 
 /// The same with as many bits as the schedule says.
-fn trace_in<W: Sink>(alloc: Global, schedule: &Schedule, writer: &mut W) -> Result<(), Fault>
+fn trace_schedule<W: Sink>(alloc: Global, schedule: &Schedule, writer: &mut W) -> Result<(), Fault>
     requires range { IsInRange schedule.now }
     ensures { Traces schedule.now (W.state writer.old) (W.state writer.new) (writer.new ≡ writer.old)
         result }
 {
     let bits = schedule.bits;
-    by_bits!(bits, trace_with<W>(alloc, schedule, writer))
+    by_bits!(bits, trace_with_bits<W>(alloc, schedule, writer))
 }
 
 /// Writes the trace of the schedule whose text the reader gives: a header, and then a line for each of its steps. Where an event is
@@ -94,6 +94,6 @@ pub fn trace_text<R: Source, W: Sink>(
     ensures reader { EndsReading result (R.state reader.old) (R.state reader.new) }
 {
     let schedule = read_schedule(alloc, reader)?;
-    trace_in(alloc, &schedule, writer)?;
+    trace_schedule(alloc, &schedule, writer)?;
     Ok(())
 }

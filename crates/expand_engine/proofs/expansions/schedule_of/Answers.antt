@@ -4,19 +4,19 @@ use Rattle.expand_engine.specs.Expansions.{IsActOf, IsVersionOf}
 use Rattle.expand_engine.proofs.Ranges.{acts_few, acts_in_range, schedule_in_range, sizes_in_range}
 use Rattle.expand_engine.proofs.expansions.schedule_of.Goals as goal
 
-pub events_in-requires-clause-range : goal.events_in-requires-clause-range
-events_in-requires-clause-range c = sizes_in_range c.args.recipe.now.text.items c.args.recipe.now.sizes c.args.recipe.now.lines.items c.requires
+pub expand_acts-requires-clause-range : goal.expand_acts-requires-clause-range
+expand_acts-requires-clause-range c = sizes_in_range c.args.recipe.now.text.items c.args.recipe.now.sizes c.args.recipe.now.lines.items c.requires
 
-pub events_in-requires-clause-acts : goal.events_in-requires-clause-acts
-events_in-requires-clause-acts c =
+pub expand_acts-requires-clause-acts : goal.expand_acts-requires-clause-acts
+expand_acts-requires-clause-acts c =
     let told = c.in_ok-acts.ensures.ok in
     let lines = c.deref.ensures.value in
     let given = c.deref-2.ensures.value in
     let same : unrolled 1 None c.args.recipe.now.lines.items ≡ c.deref-2.result.now = cc in
     subst (All IsActOf) same (acts_in_range c.args.recipe.now.text.items c.args.recipe.now.sizes c.args.recipe.now.lines.items c.requires)
 
-pub events_in-requires-clause-few : goal.events_in-requires-clause-few
-events_in-requires-clause-few c =
+pub expand_acts-requires-clause-few : goal.expand_acts-requires-clause-few
+expand_acts-requires-clause-few c =
     let told = c.in_ok-acts.ensures.ok in
     let lines = c.deref.ensures.value in
     let given = c.deref-2.ensures.value in

@@ -2,7 +2,7 @@ use Rattle.std.proofs.Common.{◌+◌, ap, ◌∙◌}
 use Rattle.std.proofs.lemmas.Result.{err_from_is_err_and}
 use Rattle.schedule_text.specs.Schedules.{header_lines}
 use Rattle.run_engine.proofs.Streamed.{so_far-started, so_far-event, ran, stopped_history, stopped_memory, stopped_next, stopped_rest, stopped_at}
-use Rattle.run_engine.proofs.runs.history_with.Goals as goal
+use Rattle.run_engine.proofs.runs.run_with_bits.Goals as goal
 
 pub loop-world-init : goal.loop-world-init
 loop-world-init g c =

@@ -1,7 +1,7 @@
 use Rattle.std.proofs.Common.{sym, ◌∙◌}
 use Rattle.step_machine.specs.Machine.{actor_of}
 use Rattle.run_engine.proofs.Told.{line_in_either, line_in_step}
-use Rattle.run_engine.proofs.events.take_step.Goals as goal
+use Rattle.run_engine.proofs.events.make_step.Goals as goal
 
 pub returns-in-Went-clause-at : goal.returns-in-Went-clause-at
 returns-in-Went-clause-at g c =

@@ -2,7 +2,7 @@ use Rattle.std.proofs.Common.{◌≡◌, ◌≤◌, ◌+◌, Some}
 use Rattle.std.specs.Prelude.{replicate}
 use Rattle.step_machine.specs.declared.actors.Move.TheVariants.{Step}
 use Rattle.run_engine.specs.Runs.{world_after}
-use Rattle.run_engine.proofs.events.take_steps.Given as goal
+use Rattle.run_engine.proofs.events.make_steps.Given as goal
 
 abbrev pub invariant-loop : goal.invariant-loop
 invariant-loop g l = record {

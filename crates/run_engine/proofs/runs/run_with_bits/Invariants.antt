@@ -1,5 +1,5 @@
 use Rattle.run_engine.proofs.Streamed.{MadeSoFar}
-use Rattle.run_engine.proofs.runs.history_with.Given as goal
+use Rattle.run_engine.proofs.runs.run_with_bits.Given as goal
 
 -- the events that were read were made
 abbrev pub invariant-loop-world : goal.invariant-loop-world

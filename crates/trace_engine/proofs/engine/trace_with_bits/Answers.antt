@@ -3,7 +3,7 @@ use Rattle.std.proofs.lemmas.Result.{err_from_is_err_and}
 use Rattle.trace_engine.specs.TracesWritten.{the_trace}
 use Rattle.trace_engine.proofs.Answered.{Answers-counted, Answers-telling, Answers-unmade}
 use Rattle.trace_engine.proofs.Traced.{trace_due}
-use Rattle.trace_engine.proofs.engine.trace_with.Goals as goal
+use Rattle.trace_engine.proofs.engine.trace_with_bits.Goals as goal
 
 pub returns-in_err-counted : goal.returns-in_err-counted
 returns-in_err-counted g c =
