@@ -11,10 +11,10 @@ use Rattle.ring_queue.specs.Plans.{Layout}
 use Rattle.ring_queue.specs.Steps.{AddsAll, PushedAll}
 use Rattle.ring_queue.specs.Many.{reserve_for}
 use Rattle.ring_queue.specs.Batches as ring
-use Rattle.msq_c.specs.declared.own_seats.OwnSeat.{OwnSeat}
+use Rattle.msq_c.specs.declared.seat_blocks.SeatBlock.{SeatBlock}
 use Rattle.msq_c.specs.declared.values.MsqValue.{MsqValue}
 use Rattle.msq_c.specs.declared.troubles.Trouble.{Trouble}
-use Rattle.msq_c.specs.Own.{queue_in, known_in, RefusesPush, RefusesPop}
+use Rattle.msq_c.specs.Blocks.{queue_in, known_in, RefusesPush, RefusesPop}
 use Rattle.msq_c.specs.Values.{value_of}
 use Rattle.msq_c.specs.Many.{Makes, pushes, pops, PushesFirst, laid, PushedSo, PushesAll, PoppedSo, PoppedFrom, PopsFrom, PopsUpTo}
 use Rattle.msq_c.specs.Batches.{PopsSome}
@@ -88,7 +88,7 @@ firsts a b bodies numbers n count few same f = let few' = f.few in record {
 }
 
 -- the first of those that were left were pushed too
-pub pushed_more : (s t u : OwnSeat) (bodies : List ℕ) (i n : ℕ) → queue_in u ≡ queue_in t → i < length bodies
+pub pushed_more : (s t u : SeatBlock) (bodies : List ℕ) (i n : ℕ) → queue_in u ≡ queue_in t → i < length bodies
     → PushedSo s bodies i t → PushesFirst (known_in t) (take (length bodies - i) (drop i bodies)) (known_in u) n → PushedSo s bodies (i + n) u
 pushed_more s t u bodies i n kept l f g = let few = g.few in record {
   queue = kept ∙ f.queue;
@@ -104,11 +104,11 @@ pub next_left : (bodies : List ℕ) (i : ℕ) → get_or (take (length bodies - 
 next_left bodies i = ap (λ xs. get_or xs 0 0) (take_rest bodies i) ∙ get_or-drop i bodies 0 0 ∙ ap (λ k. get_or bodies k 0) (let e : i + 0 ≡ i = omega arith in e)
 
 -- all were pushed
-pub pushed_all : (s t : OwnSeat) (bodies : List ℕ) (turns i : ℕ) → length bodies ≤ i → PushedSo s bodies i t → PushesAll s t bodies turns i (Ok tt)
+pub pushed_all : (s t : SeatBlock) (bodies : List ℕ) (turns i : ℕ) → length bodies ≤ i → PushedSo s bodies i t → PushesAll s t bodies turns i (Ok tt)
 pushed_all s t bodies turns i l f = let few = f.few in record { last = t; pushed = f; ends = (omega (arith, l, few), refl) }
 
 -- the next one is refused
-pub pushed_until : (s t u : OwnSeat) (bodies : List ℕ) (turns i : ℕ) (refusal : Trouble) → i < length bodies → PushedSo s bodies i t
+pub pushed_until : (s t u : SeatBlock) (bodies : List ℕ) (turns i : ℕ) (refusal : Trouble) → i < length bodies → PushedSo s bodies i t
     → RefusesPush t u (get_or (take (length bodies - i) (drop i bodies)) 0 0) turns refusal → PushesAll s u bodies turns i (Err refusal)
 pushed_until s t u bodies turns i refusal l f g = record { last = t; pushed = f; ends = (l, subst (λ (b : ℕ). RefusesPush t u b turns refusal) (next_left bodies i) g) }
 
@@ -171,7 +171,7 @@ popped_some k from vs vs' k' zero some f = absurd (omega (arith, some))
 popped_some k from vs vs' k' (suc n) some f = f
 
 -- so many values were popped, and written behind those that were
-pub popped_more : (s t u : OwnSeat) (vs now now' : List MsqValue) (i n : ℕ) → queue_in u ≡ queue_in t → length now ≡ length vs
+pub popped_more : (s t u : SeatBlock) (vs now now' : List MsqValue) (i n : ℕ) → queue_in u ≡ queue_in t → length now ≡ length vs
     → PoppedSo s vs now i t → PoppedFrom (known_in t) i now now' (known_in u) n → PoppedSo s vs now' (i + n) u
 popped_more s t u vs now now' i n kept same f g =
     let long : length (map value_of f.values) ≡ i = length-map f.values value_of ∙ f.long in
@@ -195,18 +195,18 @@ popped_more s t u vs now now' i n kept same f g =
     }
 
 -- there is no more room
-pub popped_all : (s t : OwnSeat) (vs now : List MsqValue) (turns i : ℕ) → length now ≤ i → length now ≡ length vs → PoppedSo s vs now i t → PopsUpTo s t vs now turns i (Ok (Some tt))
+pub popped_all : (s t : SeatBlock) (vs now : List MsqValue) (turns i : ℕ) → length now ≤ i → length now ≡ length vs → PoppedSo s vs now i t → PopsUpTo s t vs now turns i (Ok (Some tt))
 popped_all s t vs now turns i l same f = let few = f.few in record { last = t; popped = f; ends = (omega (arith, l, few, same), refl) }
 
 -- the queue was found empty
-pub popped_to_empty : (s t u : OwnSeat) (vs now now' : List MsqValue) (turns i count : ℕ) → i < length now → length now ≡ length vs → count ≡ 0 → PoppedSo s vs now i t
+pub popped_to_empty : (s t u : SeatBlock) (vs now now' : List MsqValue) (turns i count : ℕ) → i < length now → length now ≡ length vs → count ≡ 0 → PoppedSo s vs now i t
     → PopsFrom (known_in t) i now now' (known_in u) count → PopsUpTo s u vs now' turns i (Ok None)
 popped_to_empty s t u vs now now' turns i zero l same none f g =
     record { last = t; popped = subst (λ (xs : List MsqValue). PoppedSo s vs xs i t) (sym g.0) f; ends = (omega (arith, l, same), g.1) }
 popped_to_empty s t u vs now now' turns i (suc n) l same none f g = absurd (omega (arith, none))
 
 -- the next pop is refused
-pub popped_until : (s t u : OwnSeat) (vs now now' : List MsqValue) (turns i : ℕ) (refusal : Trouble) → i < length now → length now ≡ length vs → PoppedSo s vs now i t
+pub popped_until : (s t u : SeatBlock) (vs now now' : List MsqValue) (turns i : ℕ) (refusal : Trouble) → i < length now → length now ≡ length vs → PoppedSo s vs now i t
     → RefusesPop t u turns refusal × (now' ≡ now) → PopsUpTo s u vs now' turns i (Err refusal)
 popped_until s t u vs now now' turns i refusal l same f g =
     record { last = t; popped = subst (λ (xs : List MsqValue). PoppedSo s vs xs i t) (sym g.1) f; ends = (omega (arith, l, same), g.0) }

@@ -23,10 +23,10 @@ use Rattle.either_queue.specs.declared.either.EitherQueue.TheVariants.{First, Se
 use Rattle.either_queue.specs.Either.{first_of, second_of, as_first, as_second}
 use Rattle.either_queue.proofs.Within.{known_first, known_second}
 use Rattle.msq_c.specs.Queues.{Queue, SeatOf, known_of, permits_of}
-use Rattle.msq_c.specs.declared.own_seats.OwnSeat.{OwnSeat}
+use Rattle.msq_c.specs.declared.seat_blocks.SeatBlock.{SeatBlock}
 use Rattle.msq_c.specs.declared.handles.MsqSeat.{MsqSeat}
-use Rattle.msq_c.specs.Own.{Owned, owned_in}
-use Rattle.msq_c.specs.Seats.{own_at, known_at}
+use Rattle.msq_c.specs.Blocks.{Owned, owned_in}
+use Rattle.msq_c.specs.Seats.{block_at, known_at}
 use Rattle.msq_c.specs.Made.{IsNew, AreUnused, ArePut, AreAsked, plan_for, places_for, reserve, kind_number, role_number, ring_role_number, seat_at}
 
 -- a new queue of nodes, and its seats, as those of one of any kind
@@ -69,24 +69,24 @@ module _ (kind nodes limit : ℕ) (numbers : List ℕ) where
     unused = subst (λ ks. AreNew (permits_of q) ks) (ap (map known_of) (sym e) ∙ map-map known_of seat_of owned) new;
   }
 
-  all_asked : (owned : List Owned) (seats : List OwnSeat) (slots : List MsqSeat)
+  all_asked : (owned : List Owned) (seats : List SeatBlock) (slots : List MsqSeat)
       → map owned_in seats ≡ owned → AreUnused kind nodes limit numbers owned → ArePut seats slots → AreAsked kind nodes limit numbers slots
   all_asked owned seats slots e u p =
-      let same : owned ≡ map (λ (h : MsqSeat). owned_in (own_at h)) slots =
-      sym e ∙ ap (map owned_in) (sym p.those) ∙ map-map owned_in own_at slots in
+      let same : owned ≡ map (λ (h : MsqSeat). owned_in (block_at h)) slots =
+      sym e ∙ ap (map owned_in) (sym p.those) ∙ map-map owned_in block_at slots in
       let known : map (λ (s : Owned). known_of (seat_of s)) owned ≡ map known_at slots =
-      ap (map (λ (s : Owned). known_of (seat_of s))) same ∙ map-map (λ (s : Owned). known_of (seat_of s)) (λ (h : MsqSeat). owned_in (own_at h)) slots in
-      let sat : map seat_of owned ≡ map seat_at slots = ap (map seat_of) same ∙ map-map seat_of (λ (h : MsqSeat). owned_in (own_at h)) slots in
+      ap (map (λ (s : Owned). known_of (seat_of s))) same ∙ map-map (λ (s : Owned). known_of (seat_of s)) (λ (h : MsqSeat). owned_in (block_at h)) slots in
+      let sat : map seat_of owned ≡ map seat_at slots = ap (map seat_of) same ∙ map-map seat_of (λ (h : MsqSeat). owned_in (block_at h)) slots in
       record {
         queue = u.queue;
         made = subst (IsNew kind nodes limit numbers u.queue) sat u.made;
         full = p.full;
-        one = All-unmap (λ s. queue_of s ≡ u.queue) (λ (h : MsqSeat). owned_in (own_at h)) slots (subst (All (λ s. queue_of s ≡ u.queue)) same u.one);
+        one = All-unmap (λ s. queue_of s ≡ u.queue) (λ (h : MsqSeat). owned_in (block_at h)) slots (subst (All (λ s. queue_of s ≡ u.queue)) same u.one);
         unused = subst (λ ks. AreNew (permits_of u.queue) ks) known u.unused;
       }
 
   -- handles that blocks with the seats of a new queue were put into
-  pub asked_if : {V E B : Type 0} (out : Result V E) (items : V → List MsqSeat) (value : B → OwnSeat) (boxes : List B) (owned : List Owned)
+  pub asked_if : {V E B : Type 0} (out : Result V E) (items : V → List MsqSeat) (value : B → SeatBlock) (boxes : List B) (owned : List Owned)
       → map (λ b. owned_in (value b)) boxes ≡ owned → AreUnused kind nodes limit numbers owned → IfOk out (λ v. ArePut (map value boxes) (items v))
       → IfOk out (λ v. AreAsked kind nodes limit numbers (items v))
   asked_if (Ok v) items value boxes owned e u p = all_asked owned (map value boxes) (items v) (map-map owned_in value boxes ∙ e) u p

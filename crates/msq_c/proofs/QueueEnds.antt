@@ -15,17 +15,17 @@ use Rattle.ring_queue.specs.Ends as ring
 use Rattle.ring_queue.specs.Queues.{permits_in}
 use Rattle.either_queue.specs.declared.either.EitherQueue.TheVariants.{First, Second}
 use Rattle.either_queue.specs.Ends.{HasEitherRoom, EitherAsks}
-use Rattle.msq_c.specs.declared.own_seats.EndRoom.{EndRoom}
+use Rattle.msq_c.specs.declared.seat_blocks.EndRoom.{EndRoom}
 use Rattle.msq_c.specs.declared.handles.MsqSeat.{MsqSeat}
 use Rattle.msq_c.specs.declared.troubles.Trouble.{Trouble}
 use Rattle.msq_c.specs.Queues.{Queue, SeatOf, EndOf, known_of, permits_of, EndsWith, IsEnough}
-use Rattle.msq_c.specs.Own.{Owned, owned_in}
-use Rattle.msq_c.specs.Seats.{is_full, own_at, known_at, queue_at}
+use Rattle.msq_c.specs.Blocks.{Owned, owned_in}
+use Rattle.msq_c.specs.Seats.{is_full, block_at, known_at, queue_at}
 use Rattle.msq_c.specs.Ends.{AreFull, AreOfOne, KeepSeats, owned_at, HasAnyRoom, HasRoomOf, ClosesHandles}
 
 -- the seats with their shares, where handles keep them
 pub same_owned : (slots slots' : List MsqSeat) → KeepSeats slots slots' → map owned_at slots' ≡ map owned_at slots
-same_owned slots slots' k = sym (map-map owned_in own_at slots') ∙ ap (map owned_in) k.seats ∙ map-map owned_in own_at slots
+same_owned slots slots' k = sym (map-map owned_in block_at slots') ∙ ap (map owned_in) k.seats ∙ map-map owned_in block_at slots
 
 -- a seat with its share is one of this queue
 abbrev pub IsOf : Queue → Owned → Type 0

@@ -16,7 +16,7 @@ use Rattle.any_values.specs.Any.{arena_of, permits_of}
 use Rattle.owned_values.specs.Owned.{queue_of, seat_of}
 use Rattle.owned_values.proofs.SeatShares.{All-unmap}
 use Rattle.msq_c.specs.declared.troubles.Trouble.{Trouble}
-use Rattle.msq_c.specs.WordOwn.{Owned, Own, owned_in, queue_in}
+use Rattle.msq_c.specs.WordBlocks.{Owned, Own, owned_in, queue_in}
 use Rattle.msq_c.specs.WordSeats.{known_at, queue_at}
 use Rattle.msq_c.specs.WordEnds.{AreFull, AreOfOne, KeepSeats, owned_at, HasAnyRoom, HasRoomOf, ClosesHandles, WordRoom}
 

@@ -17,7 +17,7 @@ use Rattle.any_values.specs.Any.{arena_of, permits_of}
 use Rattle.owned_values.specs.Owned.{queue_of, seat_of}
 use Rattle.owned_values.proofs.SeatShares.{All-unmap}
 use Rattle.msq_c.proofs.Sizes.{is_split, enough, some_count, few_counts}
-use Rattle.msq_c.specs.WordOwn.{Owned, Own, owned_in}
+use Rattle.msq_c.specs.WordBlocks.{Owned, Own, owned_in}
 use Rattle.msq_c.specs.WordSeats.{known_at}
 use Rattle.msq_c.specs.Made.{Asks, kind_number, role_number}
 use Rattle.msq_c.specs.WordMade.{AreUnused, ArePut, AreMade, AreAsked, plan_for, seat_at}

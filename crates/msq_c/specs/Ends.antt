@@ -8,13 +8,13 @@ use Rattle.node_arena.specs.Ended.{HasRoomFor}
 use Rattle.any_queue.specs.Picked.{picked_arena_of}
 use Rattle.ring_queue.specs.Ends as ring
 use Rattle.either_queue.specs.Ends.{HasEitherRoom}
-use Rattle.msq_c.specs.declared.own_seats.EndRoom.{EndRoom}
+use Rattle.msq_c.specs.declared.seat_blocks.EndRoom.{EndRoom}
 use Rattle.msq_c.specs.declared.handles.MsqSeat.{MsqSeat}
 use Rattle.msq_c.specs.declared.troubles.Trouble.{Trouble}
 use Rattle.msq_c.specs.declared.troubles.Trouble.TheVariants.{Refused, BadSize, NoHandle, InUse, Raced}
 use Rattle.msq_c.specs.Queues.{Queue, EndOf, permits_of, EndsWith, IsEnough}
-use Rattle.msq_c.specs.Own.{Owned, owned_in}
-use Rattle.msq_c.specs.Seats.{is_full, own_at, known_at, queue_at}
+use Rattle.msq_c.specs.Blocks.{Owned, owned_in}
+use Rattle.msq_c.specs.Seats.{is_full, block_at, known_at, queue_at}
 
 -- each handle is full
 abbrev pub AreFull : List MsqSeat → Type 0
@@ -32,11 +32,11 @@ pub record AreOfOne (slots : List MsqSeat) : Type 0 where
 -- full handles keep their seats
 pub record KeepSeats (slots slots' : List MsqSeat) : Type 0 where
   pub full : AreFull slots'
-  pub seats : map own_at slots' ≡ map own_at slots
+  pub seats : map block_at slots' ≡ map block_at slots
 
 -- the seat of a handle, with its share
 abbrev pub owned_at : MsqSeat → Owned
-owned_at h = owned_in (own_at h)
+owned_at h = owned_in (block_at h)
 
 -- the queue of these handles was closed by all of them, with its end
 pub record ClosesHandles (slots : List MsqSeat) (rest : Rest) (end : EndOf) : Type 0 where

@@ -7,8 +7,8 @@ use Rattle.msq_c.specs.declared.handles.MsqSeat.{MsqSeat}
 use Rattle.msq_c.specs.declared.troubles.Trouble.{Trouble}
 use Rattle.msq_c.specs.declared.troubles.Trouble.TheVariants.{NoHandle}
 use Rattle.msq_c.specs.Queues.{SeatOf}
-use Rattle.msq_c.specs.Own.{seat_in}
-use Rattle.msq_c.specs.Seats.{own_at, KeepsHandle, NeedsHandle}
+use Rattle.msq_c.specs.Blocks.{seat_in}
+use Rattle.msq_c.specs.Seats.{block_at, KeepsHandle, NeedsHandle}
 
 -- a seat of a queue of nodes was told so, and nothing else of it changed; one of a ring is as it was
 abbrev pub TellsKeeps : Bool → SeatOf → SeatOf → Type 0
@@ -19,5 +19,5 @@ TellsKeeps keeps (Second s) t = t ≡ as_second s
 pub record AnswersKeep (h h' : MsqSeat) (keeps : Bool) (out : Result (Unit {0}) Trouble) : Type 0 where
   pub same : KeepsHandle h h'
   pub empty : NeedsHandle h out
-  pub told : OnOk out (TellsKeeps keeps (seat_in (own_at h)) (seat_in (own_at h')))
+  pub told : OnOk out (TellsKeeps keeps (seat_in (block_at h)) (seat_in (block_at h')))
   pub refused : IfErr out (λ refusal. (refusal ≡ NoHandle) × (h' ≡ h))

@@ -7,12 +7,12 @@ pub mod Keeps
 pub mod Looks
 pub mod Made
 pub mod Many
-pub mod Own
+pub mod Blocks
 pub mod Rests
 pub mod Seats
 pub mod Values
 pub mod Words
-pub mod WordOwn
+pub mod WordBlocks
 pub mod WordSeats
 pub mod WordEnds
 pub mod WordLooks

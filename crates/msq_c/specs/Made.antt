@@ -23,14 +23,14 @@ use Rattle.ring_queue.specs.declared.seats.Seat.{Seat as RingSeat}
 use Rattle.ring_queue.specs.NewRings as ring
 use Rattle.either_queue.specs.declared.either.EitherQueue.TheVariants.{First, Second}
 use Rattle.either_queue.specs.Either.{as_first, as_second}
-use Rattle.msq_c.specs.declared.own_seats.OwnSeat.{OwnSeat}
+use Rattle.msq_c.specs.declared.seat_blocks.SeatBlock.{SeatBlock}
 use Rattle.msq_c.specs.declared.handles.MsqSeat.{MsqSeat}
 use Rattle.msq_c.specs.declared.troubles.Trouble.{Trouble}
 use Rattle.msq_c.specs.declared.troubles.Trouble.TheVariants.{Refused, BadSize, InUse}
 use Rattle.msq_c.specs.Queues.{Queue, SeatOf, known_of, permits_of}
-use Rattle.msq_c.specs.Own.{Owned, seat_in}
+use Rattle.msq_c.specs.Blocks.{Owned, seat_in}
 use Rattle.msq_c.specs.Ends.{AreFull, AreEmpty}
-use Rattle.msq_c.specs.Seats.{own_at, known_at, queue_at}
+use Rattle.msq_c.specs.Seats.{block_at, known_at, queue_at}
 
 -- the number of a kind
 abbrev pub kind_number : Kind → ℕ
@@ -134,13 +134,13 @@ pub record AreUnused (kind nodes limit : ℕ) (roles : List ℕ) (owned : List O
   pub unused : AreNew (permits_of queue) (map (λ s. known_of (seat_of s)) owned)
 
 -- these handles are full of these seats, in their order
-pub record ArePut (seats : List OwnSeat) (slots : List MsqSeat) : Type 0 where
+pub record ArePut (seats : List SeatBlock) (slots : List MsqSeat) : Type 0 where
   pub full : AreFull slots
-  pub those : map own_at slots ≡ seats
+  pub those : map block_at slots ≡ seats
 
 -- the seat itself of a handle, where there is one
 abbrev pub seat_at : MsqSeat → SeatOf
-seat_at h = seat_in (own_at h)
+seat_at h = seat_in (block_at h)
 
 -- these handles have all the seats of one new queue, in their order: of the kind and of the roles with these numbers, and of these
 -- sizes

@@ -8,5 +8,5 @@ abbrev pub is_full : MsqWordSeat → Bool
 is_full h = h.full
 
 -- the seat, where there is one
-abbrev pub own_at : MsqWordSeat → OwnOne
-own_at h = h.handle.value
+abbrev pub block_at : MsqWordSeat → OwnOne
+block_at h = h.handle.value

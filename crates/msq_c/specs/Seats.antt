@@ -3,28 +3,28 @@ use Rattle.std.specs.Prelude.{◌≡◌, ◌↔◌, ◌⊎◌, ℕ, Bool, true, 
 use Rattle.history.specs.Seats.{Known}
 use Rattle.history.specs.Answers.{Pushed, PopAnswers, DidShut, Meets}
 use Rattle.history.specs.declared.operations.Taken.{Taken}
-use Rattle.msq_c.specs.declared.own_seats.OwnSeat.{OwnSeat}
+use Rattle.msq_c.specs.declared.seat_blocks.SeatBlock.{SeatBlock}
 use Rattle.msq_c.specs.declared.handles.MsqSeat.{MsqSeat}
 use Rattle.msq_c.specs.declared.troubles.Trouble.{Trouble}
 use Rattle.msq_c.specs.declared.troubles.Trouble.TheVariants.{NoHandle}
 use Rattle.msq_c.specs.Queues.{Queue}
-use Rattle.msq_c.specs.Own.{queue_in, known_in, RefusesPush, RefusesPop, RefusesShut}
+use Rattle.msq_c.specs.Blocks.{queue_in, known_in, RefusesPush, RefusesPop, RefusesShut}
 
 -- whether there is a seat
 abbrev pub is_full : MsqSeat → Bool
 is_full h = h.full
 
 -- the seat, where there is one
-abbrev pub own_at : MsqSeat → OwnSeat
-own_at h = h.handle.value
+abbrev pub block_at : MsqSeat → SeatBlock
+block_at h = h.handle.value
 
 -- what the seat knows, where there is one
 abbrev pub known_at : MsqSeat → Known
-known_at h = known_in (own_at h)
+known_at h = known_in (block_at h)
 
 -- the queue of the seat, where there is one
 abbrev pub queue_at : MsqSeat → Queue
-queue_at h = queue_in (own_at h)
+queue_at h = queue_in (block_at h)
 
 -- a call by a handle keeps whether it is full, and its queue
 pub record KeepsHandle (h h' : MsqSeat) : Type 0 where
@@ -40,21 +40,21 @@ pub record AnswersPush (h h' : MsqSeat) (body turns : ℕ) (out : Result (Unit {
   pub keeps : KeepsHandle h h'
   pub empty : NeedsHandle h out
   pub pushed : OnOk out (Pushed (known_at h) body (known_at h'))
-  pub refused : is_full h ≡ true → IfErr out (RefusesPush (own_at h) (own_at h') body turns)
+  pub refused : is_full h ≡ true → IfErr out (RefusesPush (block_at h) (block_at h') body turns)
 
 -- what a pop by a handle answers
 pub record AnswersPop (h h' : MsqSeat) (turns : ℕ) (out : Result (Option Taken) Trouble) : Type 0 where
   pub keeps : KeepsHandle h h'
   pub empty : NeedsHandle h out
   pub answer : IfOk out (λ taken. PopAnswers (known_at h) taken (known_at h'))
-  pub refused : is_full h ≡ true → IfErr out (RefusesPop (own_at h) (own_at h') turns)
+  pub refused : is_full h ≡ true → IfErr out (RefusesPop (block_at h) (block_at h') turns)
 
 -- what a shut by a handle answers
 pub record AnswersShut (h h' : MsqSeat) (turns : ℕ) (out : Result (Unit {0}) Trouble) : Type 0 where
   pub keeps : KeepsHandle h h'
   pub empty : NeedsHandle h out
   pub shut : OnOk out (DidShut (known_at h) (known_at h'))
-  pub refused : is_full h ≡ true → IfErr out (RefusesShut (own_at h) (own_at h') turns)
+  pub refused : is_full h ≡ true → IfErr out (RefusesShut (block_at h) (block_at h') turns)
 
 -- two handles may meet: where both are full, they are of one queue
 abbrev pub MayMeet : MsqSeat → MsqSeat → Type 0

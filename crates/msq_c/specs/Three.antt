@@ -8,5 +8,5 @@ abbrev pub is_full : MsqWordsSeat → Bool
 is_full h = h.full
 
 -- the seat, where there is one
-abbrev pub own_at : MsqWordsSeat → OwnThree
-own_at h = h.handle.value
+abbrev pub block_at : MsqWordsSeat → OwnThree
+block_at h = h.handle.value

@@ -15,7 +15,7 @@ use Rattle.owned_values.specs.declared.ends.EndRoom.{EndRoom}
 use Rattle.owned_values.specs.Unended.{HasEndRoom}
 use Rattle.msq_c.specs.declared.troubles.Trouble.{Trouble}
 use Rattle.msq_c.specs.declared.troubles.Trouble.TheVariants.{Refused, BadSize, NoHandle, InUse, Raced}
-use Rattle.msq_c.specs.WordOwn.{Owned, Own, owned_in}
+use Rattle.msq_c.specs.WordBlocks.{Owned, Own, owned_in}
 use Rattle.msq_c.specs.WordSeats.{known_at, queue_at}
 
 module _ {H : Type 0} (holds : H → Bool) where

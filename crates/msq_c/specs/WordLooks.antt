@@ -14,7 +14,7 @@ use Rattle.msq_c.specs.declared.bounds.MsqLen.{MsqLen}
 use Rattle.msq_c.specs.declared.troubles.Trouble.{Trouble}
 use Rattle.msq_c.specs.declared.troubles.Trouble.TheVariants.{NoHandle}
 use Rattle.msq_c.specs.Looks.{widened}
-use Rattle.msq_c.specs.WordOwn.{Own}
+use Rattle.msq_c.specs.WordBlocks.{Own}
 use Rattle.msq_c.specs.WordSeats.{known_at, queue_at, KeepsHandle, NeedsHandle}
 
 module _ {T : Type 0} where

@@ -17,7 +17,7 @@ use Rattle.owned_values.specs.Owned.{queue_of, seat_of}
 use Rattle.msq_c.specs.declared.troubles.Trouble.{Trouble}
 use Rattle.msq_c.specs.declared.troubles.Trouble.TheVariants.{Refused, BadSize, InUse}
 use Rattle.msq_c.specs.Made.{kind_number, role_number, count_for, Asks, IsOutOfRange}
-use Rattle.msq_c.specs.WordOwn.{Owned, Own, seat_in}
+use Rattle.msq_c.specs.WordBlocks.{Owned, Own, seat_in}
 use Rattle.msq_c.specs.WordEnds.{AreFull, AreEmpty}
 use Rattle.msq_c.specs.WordSeats.{known_at, queue_at}
 

@@ -10,7 +10,7 @@ use Rattle.any_values.specs.declared.any.AnyValues.{AnyValues}
 use Rattle.msq_c.specs.declared.rests.MsqRest.{MsqRest}
 use Rattle.msq_c.specs.declared.troubles.Trouble.{Trouble}
 use Rattle.msq_c.specs.Values.{count_told, AreLaid}
-use Rattle.msq_c.specs.WordOwn.{Own}
+use Rattle.msq_c.specs.WordBlocks.{Own}
 use Rattle.msq_c.specs.WordEnds.{AreEmpty, ClosesHandles, RefusesClose}
 
 -- C gets of a rest how many values are left, how many were taken, whether it is whole, and whether the queue was shut

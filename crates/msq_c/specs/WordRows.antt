@@ -6,9 +6,9 @@ use Rattle.node_arena.specs.contracts.seats.Seat as seat
 use Rattle.any_values.specs.contracts.any.AnyValues as any
 use Rattle.any_values.specs.contracts.any_calls.AnyValuesCarrier.TheImpl as carrier
 use Rattle.msq_c.specs.contracts.words.MsqWords as words
-use Rattle.msq_c.specs.contracts.word_seats.OwnWords as own
+use Rattle.msq_c.specs.contracts.word_blocks.WordsBlock as own
 use Rattle.msq_c.specs.declared.words.MsqWords.{MsqWords}
-use Rattle.msq_c.specs.WordOwn.{Own}
+use Rattle.msq_c.specs.WordBlocks.{Own}
 
 -- the type of the seats of a queue of such values, in memory
 abbrev pub row_of : RattleType → RattleType

@@ -9,7 +9,7 @@ use Rattle.node_arena.specs.declared.seats.Seat.{Seat}
 use Rattle.any_values.specs.declared.any.AnyValues.{AnyValues}
 use Rattle.msq_c.specs.declared.troubles.Trouble.{Trouble}
 use Rattle.msq_c.specs.declared.troubles.Trouble.TheVariants.{NoHandle}
-use Rattle.msq_c.specs.WordOwn.{Own, queue_in, known_in, RefusesPush, RefusesPop, RefusesShut}
+use Rattle.msq_c.specs.WordBlocks.{Own, queue_in, known_in, RefusesPush, RefusesPop, RefusesShut}
 
 -- a call by a handle is refused so exactly where the handle is empty
 abbrev pub NeedsHandle : {H A : Type 0} (holds : H → Bool) → H → Result A Trouble → Type 0

@@ -4,13 +4,13 @@ ghost use Rattle.std.specs.List.{All};
 ghost use Rattle.history.specs.Ends.{Closes};
 ghost use Rattle.owned_seats.specs.Owned.{queue_of, seat_of};
 ghost use Rattle.msq_c.specs.Queues.{known_of, permits_of, EndsWith};
-ghost use Rattle.msq_c.specs.Seats.{is_full, own_at, queue_at};
+ghost use Rattle.msq_c.specs.Seats.{is_full, block_at, queue_at};
 ghost use Rattle.msq_c.specs.Ends.{AreFull, AreEmpty, AreOfOne, KeepSeats, owned_at};
 ghost use Rattle.msq_c.specs.Ends.{HasAnyRoom, HasRoomOf, IsRoomless, RefusesRoom};
 ghost use Rattle.msq_c.specs.Ends.{ClosesHandles, IsMemory, RefusesClose};
 
 use crate::handles::MsqSeat;
-use crate::own_seats::{EndRoom, Queue};
+use crate::seat_blocks::{EndRoom, Queue};
 use crate::troubles::Trouble;
 use either_queue::EitherEnd;
 use history::{Refusal, Rest};
@@ -32,7 +32,7 @@ fn all_are_full(slots: &[MsqSeat]) -> bool
 fn room_at(alloc: Global, slot: &mut MsqSeat, count: usize) -> Result<EndRoom, Trouble>
     requires { is_full slot.old ≡ true }
     ensures full { is_full slot.new ≡ true }
-    ensures seat { own_at slot.new ≡ own_at slot.old }
+    ensures seat { block_at slot.new ≡ block_at slot.old }
     ensures room { IfOk result (HasAnyRoom (queue_at slot.old) count) }
     ensures refused { IfErr result IsRoomless }
 {

@@ -1,10 +1,10 @@
 //! A seat behind a pointer, as C holds it.
 ghost use Rattle.std.specs.Prelude.{◌≡◌, Bool, true, false};
 ghost use Rattle.msq_c.specs.Boxed.{box_if};
-ghost use Rattle.msq_c.specs.declared.own_seats.OwnSeat.{OwnSeat};
-ghost use Rattle.msq_c.specs.contracts.own_seats.OwnSeat.{the_row};
+ghost use Rattle.msq_c.specs.declared.seat_blocks.SeatBlock.{SeatBlock};
+ghost use Rattle.msq_c.specs.contracts.seat_blocks.SeatBlock.{the_row};
 
-use crate::own_seats::OwnSeat;
+use crate::seat_blocks::SeatBlock;
 use crate::parts::Parts;
 use std::alloc::Global;
 use std::marker::Model;
@@ -16,7 +16,7 @@ use std::{mem, ptr};
 pub struct Handle {
     at: *mut u8,
     ghost full: { Bool },
-    ghost value: { OwnSeat } by { the_row.coded },
+    ghost value: { SeatBlock } by { the_row.coded },
 }
 
 impl Model for Handle {
@@ -24,20 +24,20 @@ impl Model for Handle {
 }
 
 impl Handle {
-    fn sealed(parts: Parts<OwnSeat, Global>) -> Handle
+    fn sealed(parts: Parts<SeatBlock, Global>) -> Handle
         ensures { (result.full ≡ true) × (result.value ≡ parts.value) }
     {
         let Parts { ptr, alloc: _ } = parts;
         Handle { at: ptr as *mut u8 }
     }
 
-    fn into_parts(self, alloc: Global) -> Parts<OwnSeat, Global>
+    fn into_parts(self, alloc: Global) -> Parts<SeatBlock, Global>
         requires { self.full ≡ true }
         ensures { result.value ≡ self.value }
     {
         let Handle { at } = self;
         Parts {
-            ptr: at as *mut OwnSeat,
+            ptr: at as *mut SeatBlock,
             alloc,
         }
     }
@@ -61,7 +61,7 @@ pub struct MsqSeat {
 }
 
 impl MsqSeat {
-    ghost use Rattle.msq_c.specs.Seats.{is_full, own_at};
+    ghost use Rattle.msq_c.specs.Seats.{is_full, block_at};
 
     /// Whether there is a seat.
     pub(crate) fn is_full(&self) -> bool
@@ -81,18 +81,18 @@ impl MsqSeat {
     }
 
     /// The seat of a full handle.
-    pub(crate) fn into_seat(self, alloc: Global) -> Box<OwnSeat, Global>
+    pub(crate) fn into_seat(self, alloc: Global) -> Box<SeatBlock, Global>
         requires { is_full self ≡ true }
-        ensures { result.value ≡ own_at self }
+        ensures { result.value ≡ block_at self }
     {
         let MsqSeat { handle, full: _ } = self;
         handle.into_parts(alloc).into_box()
     }
 
     /// The seat of a full handle, which is left empty.
-    pub(crate) fn lift(&mut self, alloc: Global) -> Box<OwnSeat, Global>
+    pub(crate) fn lift(&mut self, alloc: Global) -> Box<SeatBlock, Global>
         requires { is_full self.old ≡ true }
-        ensures value { result.value ≡ own_at self.old }
+        ensures value { result.value ≡ block_at self.old }
         ensures empty { is_full self.new ≡ false }
     {
         let empty = self.empty_like();
@@ -100,8 +100,8 @@ impl MsqSeat {
     }
 
     /// A full handle of this seat.
-    pub(crate) fn of(seat: Box<OwnSeat, Global>) -> MsqSeat
-        ensures value { own_at result ≡ seat.value }
+    pub(crate) fn of(seat: Box<SeatBlock, Global>) -> MsqSeat
+        ensures value { block_at result ≡ seat.value }
         ensures full { is_full result ≡ true }
     {
         MsqSeat {

@@ -2,7 +2,7 @@
 ghost use Rattle.msq_c.specs.Keeps.{TellsKeeps, AnswersKeep};
 
 use crate::handles::MsqSeat;
-use crate::own_seats::{Queue, QueueSeat};
+use crate::seat_blocks::{Queue, QueueSeat};
 use crate::troubles::Trouble;
 use either_queue::{EitherQueue, EitherSeat};
 use owned_seats::Act;

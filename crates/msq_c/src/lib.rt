@@ -23,7 +23,7 @@ mod new_queues;
 mod many;
 mod many_calls;
 mod many_exports;
-mod own_seats;
+mod seat_blocks;
 mod parts;
 mod rests;
 mod ring_acts;
@@ -40,7 +40,7 @@ mod word_handles;
 mod word_looks;
 mod word_queues;
 mod word_rests;
-mod word_seats;
+mod word_blocks;
 mod words;
 
 use crate::bounds::{MsqLeft, MsqLen};

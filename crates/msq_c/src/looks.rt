@@ -5,7 +5,7 @@ ghost use Rattle.msq_c.specs.Looks.{TellsEmptiness, TellsLen, TellsLeft, Answers
 
 use crate::bounds::{MsqLeft, MsqLen};
 use crate::handles::MsqSeat;
-use crate::own_seats::{Queue, QueueSeat};
+use crate::seat_blocks::{Queue, QueueSeat};
 use crate::troubles::{EMPTY, Trouble};
 use either_queue::{EitherQueue, EitherSeat};
 use history::Refusal;

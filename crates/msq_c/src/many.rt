@@ -1,11 +1,11 @@
 //! Calls of many values by a seat with its share.
 ghost use Rattle.std.specs.Prelude.{◌≡◌, ◌+◌, ◌<◌, ◌≤◌, length, map, take, get_or, vec_capacity, IfOk, IfErr};
-ghost use Rattle.msq_c.specs.Own.{queue_in, known_in, room_in, RefusesPush, RefusesPop};
+ghost use Rattle.msq_c.specs.Blocks.{queue_in, known_in, room_in, RefusesPush, RefusesPop};
 ghost use Rattle.msq_c.specs.Queues.{IsRing};
 ghost use Rattle.msq_c.specs.Values.{value_of};
 ghost use Rattle.msq_c.specs.Many.{PushesFirst, PushesAll, PopsFrom, PopsUpTo, laid};
 
-use crate::own_seats::OwnSeat;
+use crate::seat_blocks::SeatBlock;
 use crate::ring_acts::{AT_ONCE, PopsBatch, PushesBatch};
 use crate::troubles::Trouble;
 use crate::values::MsqValue;
@@ -41,7 +41,7 @@ fn first_bodies(numbers: &[u64], first: Body) -> ([Body; AT_ONCE], usize)
     (bodies, numbers.len().min(AT_ONCE))
 }
 
-impl OwnSeat {
+impl SeatBlock {
     // Pushes the first of these numbers, one at least, to a ring, as many as it takes at one step: how many.
     fn push_batch(&mut self, numbers: &[u64], turns: u32) -> Result<usize, Trouble>
         requires ring { IsRing (queue_in self.old) }

@@ -11,10 +11,10 @@ ghost use Rattle.msq_c.specs.Made as made;
 ghost use Rattle.msq_c.specs.Made.{kind_number, role_number, ring_role_number, IsRole};
 ghost use Rattle.msq_c.specs.Made.{AreSizes, AreNoSizes, Asks, IsOutOfRange, MayMake, IsNew};
 ghost use Rattle.msq_c.specs.Made.{AreUnused, AreAsked, ArePut, RefusesCreate};
-ghost use Rattle.msq_c.specs.Own.{owned_in};
+ghost use Rattle.msq_c.specs.Blocks.{owned_in};
 
 use crate::handles::MsqSeat;
-use crate::own_seats::{OwnSeat, Queue, QueueSeat};
+use crate::seat_blocks::{SeatBlock, Queue, QueueSeat};
 use crate::ring_acts::AT_ONCE;
 use crate::troubles::Trouble;
 use any_queue::{PickedQueue, bits_for};
@@ -285,14 +285,14 @@ fn room_for(alloc: Global, seat: &OwnedSeat<Queue>) -> Result<Vec<Taken>, Troubl
 }
 
 // Each seat in a block of its own.
-fn boxed(alloc: Global, owned: Vec<OwnedSeat<Queue>>) -> Result<Vec<Box<OwnSeat, Global>>, Trouble>
+fn boxed(alloc: Global, owned: Vec<OwnedSeat<Queue>>) -> Result<Vec<Box<SeatBlock, Global>>, Trouble>
     ensures boxes { IfOk result (λ boxes. map (λ b. owned_in b.value) boxes.items ≡ owned.items) }
     ensures only_memory { IfErr result IsMemory }
 {
     let mut boxes = Vec::new(alloc);
     for seat in owned {
         let room = room_for(alloc, &seat)?;
-        let Ok(boxed) = Box::new(alloc, OwnSeat::new(seat, room)) else {
+        let Ok(boxed) = Box::new(alloc, SeatBlock::new(seat, room)) else {
             return Err(Trouble::Refused(Refusal::Memory));
         };
         if boxes.push(boxed).is_err() {
@@ -303,7 +303,7 @@ fn boxed(alloc: Global, owned: Vec<OwnedSeat<Queue>>) -> Result<Vec<Box<OwnSeat,
 }
 
 // A full handle of each seat.
-fn sealed(alloc: Global, boxes: Vec<Box<OwnSeat, Global>>) -> Result<Vec<MsqSeat>, Trouble>
+fn sealed(alloc: Global, boxes: Vec<Box<SeatBlock, Global>>) -> Result<Vec<MsqSeat>, Trouble>
     ensures put { IfOk result (λ h. ArePut (map (λ b. b.value) boxes.items) h.items) }
     ensures len { IfOk result (λ h. length h.items ≡ length boxes.items) }
     ensures only_memory { IfErr result IsMemory }

@@ -1,7 +1,7 @@
 //! Pushes and pops of many values at one step of a ring.
 ghost use Rattle.msq_c.specs.Batches.{AsksPush, TellsPush, AsksPop, TellsPop};
 
-use crate::own_seats::{Queue, QueueSeat};
+use crate::seat_blocks::{Queue, QueueSeat};
 use either_queue::{EitherQueue, EitherSeat};
 use history::{Body, Refusal, Taken};
 use owned_seats::Act;

@@ -2,7 +2,7 @@
 ghost use Rattle.std.specs.Prelude.{◌≡◌, false};
 ghost use Rattle.msq_c.specs.Codes.{Tells, done_code, pop_code};
 ghost use Rattle.msq_c.specs.Looks.{emptiness_code, len_code, IsLenWritten};
-ghost use Rattle.msq_c.specs.One.{is_full, own_at};
+ghost use Rattle.msq_c.specs.One.{is_full, block_at};
 ghost use Rattle.msq_c.specs.Words.{bits_of, IsItemWritten};
 ghost use Rattle.msq_c.specs.WordSeats.{AnswersPush, AnswersPop, AnswersShut, AnswersMeet, MayMeet};
 ghost use Rattle.msq_c.specs.WordLooks.{TellsEmptiness, TellsLen, AnswersLook};
@@ -33,7 +33,7 @@ pub extern "C" fn msq_word_create(
     //= library/word_create: A queue of one word made from C tells as `msq_words_create` does, and its handles are then all the
     //=   seats, unused and in order, of one queue of values of 64 bits, of that kind. Refused, no handle changed.
     ensures { Tells done_code result
-        (AnswersCreate is_full own_at kind nodes limit roles.now slots.old slots.new) }
+        (AnswersCreate is_full block_at kind nodes limit roles.now slots.old slots.new) }
 {
     code(word_queues::create(alloc, kind, nodes, limit, roles, slots))
 }
@@ -44,7 +44,7 @@ pub extern "C" fn msq_word_push(alloc: Global, slot: &mut MsqWordSeat, word: u64
     //= library/word_push: A push of a word from C tells 0 where these very 64 bits were pushed, whatever they are, and else
     //=   as `msq_words_push` does; the handle stays full or empty, of the same queue.
     ensures { Tells done_code result
-        (AnswersPush is_full own_at slot.old slot.new word turns) }
+        (AnswersPush is_full block_at slot.old slot.new word turns) }
 {
     code(word_calls::push(alloc, slot, word, turns))
 }
@@ -61,7 +61,7 @@ pub extern "C" fn msq_word_pop(
     //= library/word_pop: A pop of a word from C tells as `msq_word_push` does. The 64 bits written are those of the push that
     //=   stood at the front, with the number of its seat; at `MSQ_EMPTY`, or refused, nothing is written.
     ensures { Tells pop_code result
-        (λ out. AnswersPop is_full own_at slot.old slot.new turns out
+        (λ out. AnswersPop is_full block_at slot.old slot.new turns out
         × IsItemWritten bits_of out value.old value.new) }
 {
     word_codes::pop(alloc, slot, turns, value)
@@ -71,7 +71,7 @@ pub extern "C" fn msq_word_pop(
 #[unsafe(no_mangle)]
 pub extern "C" fn msq_word_shut(alloc: Global, slot: &mut MsqWordSeat, turns: u32) -> u32
     //= library/word_shut: A shut, and a meeting, of seats of a queue of one word tell as those of a queue of numbers.
-    ensures { Tells done_code result (AnswersShut is_full own_at slot.old slot.new turns) }
+    ensures { Tells done_code result (AnswersShut is_full block_at slot.old slot.new turns) }
 {
     code(word_calls::shut(alloc, slot, turns))
 }
@@ -83,10 +83,10 @@ pub extern "C" fn msq_word_meet(
     one: &mut MsqWordSeat,
     other: &mut MsqWordSeat,
 ) -> u32
-    requires { MayMeet is_full own_at one.old other.old }
+    requires { MayMeet is_full block_at one.old other.old }
     //= library/word_shut
     ensures { Tells done_code result
-        (AnswersMeet is_full own_at one.old other.old one.new other.new) }
+        (AnswersMeet is_full block_at one.old other.old one.new other.new) }
 {
     code(word_calls::meet(alloc, one, other))
 }
@@ -97,7 +97,7 @@ pub extern "C" fn msq_word_emptiness(alloc: Global, slot: &mut MsqWordSeat) -> u
     //= library/word_looks: A look from C at whether a queue of one word is empty, and one at its length, tell as those at a
     //=   queue of three, and are refused as those.
     ensures { Tells emptiness_code result
-        (AnswersLook is_full own_at TellsEmptiness slot.old slot.new) }
+        (AnswersLook is_full block_at TellsEmptiness slot.old slot.new) }
 {
     code_of_emptiness(word_looks::emptiness(alloc, slot))
 }
@@ -107,7 +107,7 @@ pub extern "C" fn msq_word_emptiness(alloc: Global, slot: &mut MsqWordSeat) -> u
 pub extern "C" fn msq_word_len(alloc: Global, slot: &mut MsqWordSeat, len: &mut MsqLen) -> u32
     //= library/word_looks
     ensures { Tells len_code result
-        (λ out. AnswersLook is_full own_at TellsLen slot.old slot.new out
+        (λ out. AnswersLook is_full block_at TellsLen slot.old slot.new out
         × IsLenWritten out len.old len.new) }
 {
     word_codes::len(alloc, slot, len)
@@ -122,11 +122,11 @@ pub extern "C" fn msq_word_close(
     values: &mut [MsqValue],
     rest: &mut MsqRest,
 ) -> u32
-    requires { AreOfOne is_full own_at slots.old }
+    requires { AreOfOne is_full block_at slots.old }
     //= library/word_end: A queue of one word ended from C tells as `msq_close` does, and writes the words left, from the
     //=   front, just as they were pushed, as many as have room.
     ensures { Tells done_code result
-        (AnswersClose is_full own_at bits_of
+        (AnswersClose is_full block_at bits_of
         slots.old slots.new values.old values.new rest.old rest.new) }
 {
     word_codes::close(alloc, slots, values, rest)

@@ -5,14 +5,14 @@ ghost use Rattle.msq_c.specs.WordRows.{OwnOne, one_row};
 
 use crate::parts::Parts;
 use crate::slots::Slot;
-use crate::word_seats::OwnWords;
+use crate::word_blocks::WordsBlock;
 use any_values::AnyValues;
 use std::alloc::Global;
 use std::marker::Model;
 use std::ptr;
 
 /// A seat of a queue of one word, with its share.
-type OneSeat = OwnWords<AnyValues<u64>>;
+type OneSeat = WordsBlock<AnyValues<u64>>;
 
 /// A pointer to a seat, where it is full; it then owns the seat's block.
 #[repr(C)]
@@ -65,11 +65,11 @@ pub struct MsqWordSeat {
 }
 
 impl Slot<OneSeat> for MsqWordSeat {
-    ghost use Rattle.msq_c.specs.One.{is_full, own_at};
+    ghost use Rattle.msq_c.specs.One.{is_full, block_at};
 
     ghost holds = { is_full };
 
-    ghost own = { own_at };
+    ghost own = { block_at };
 
     fn is_full(&self) -> bool {
         self.full
@@ -88,7 +88,7 @@ impl Slot<OneSeat> for MsqWordSeat {
     }
 
     fn of(seat: Box<OneSeat, Global>) -> MsqWordSeat
-        ensures value { own_at result ≡ seat.value }
+        ensures value { block_at result ≡ seat.value }
         ensures full { is_full result ≡ true }
     {
         MsqWordSeat {

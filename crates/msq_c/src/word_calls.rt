@@ -3,13 +3,13 @@ ghost use Rattle.msq_c.specs.WordSeats.{AnswersPush, AnswersPop, AnswersShut, An
 
 use crate::slots::{Slot, lift};
 use crate::troubles::Trouble;
-use crate::word_seats::OwnWords;
+use crate::word_blocks::WordsBlock;
 use any_values::AnyValues;
 use carriers::ItemOf;
 use std::alloc::Global;
 
 /// A push by a handle.
-pub(crate) fn push<T: Send + Drop, H: Slot<OwnWords<AnyValues<T>>>>(
+pub(crate) fn push<T: Send + Drop, H: Slot<WordsBlock<AnyValues<T>>>>(
     alloc: Global,
     slot: &mut H,
     value: T,
@@ -27,7 +27,7 @@ pub(crate) fn push<T: Send + Drop, H: Slot<OwnWords<AnyValues<T>>>>(
 }
 
 /// A pop by a handle.
-pub(crate) fn pop<T: Send + Drop, H: Slot<OwnWords<AnyValues<T>>>>(
+pub(crate) fn pop<T: Send + Drop, H: Slot<WordsBlock<AnyValues<T>>>>(
     alloc: Global,
     slot: &mut H,
     turns: u32,
@@ -44,7 +44,7 @@ pub(crate) fn pop<T: Send + Drop, H: Slot<OwnWords<AnyValues<T>>>>(
 }
 
 /// A shut by a handle.
-pub(crate) fn shut<T: Send + Drop, H: Slot<OwnWords<AnyValues<T>>>>(
+pub(crate) fn shut<T: Send + Drop, H: Slot<WordsBlock<AnyValues<T>>>>(
     alloc: Global,
     slot: &mut H,
     turns: u32,
@@ -61,7 +61,7 @@ pub(crate) fn shut<T: Send + Drop, H: Slot<OwnWords<AnyValues<T>>>>(
 }
 
 /// Two handles meet.
-pub(crate) fn meet<T: Send + Drop, H: Slot<OwnWords<AnyValues<T>>>>(
+pub(crate) fn meet<T: Send + Drop, H: Slot<WordsBlock<AnyValues<T>>>>(
     alloc: Global,
     one: &mut H,
     other: &mut H,

@@ -12,14 +12,14 @@ use crate::bounds::MsqLen;
 use crate::rests::MsqRest;
 use crate::slots::{Slot, lift};
 use crate::troubles::{EMPTY, UNCOUNTED};
-use crate::word_seats::OwnWords;
+use crate::word_blocks::WordsBlock;
 use crate::words::Item;
 use crate::{word_calls, word_ends, word_looks, word_rests};
 use any_values::AnyValues;
 use std::alloc::Global;
 
 /// A pop by a handle, whose value is written where there is one.
-pub(crate) fn pop<T: Send + Drop, H: Slot<OwnWords<AnyValues<T>>>, I: Item<T> + Drop>(
+pub(crate) fn pop<T: Send + Drop, H: Slot<WordsBlock<AnyValues<T>>>, I: Item<T> + Drop>(
     alloc: Global,
     slot: &mut H,
     turns: u32,
@@ -39,7 +39,7 @@ pub(crate) fn pop<T: Send + Drop, H: Slot<OwnWords<AnyValues<T>>>, I: Item<T> + 
 }
 
 /// A look by a handle at how many values the queue holds, which is written where it can be told.
-pub(crate) fn len<T: Send + Drop, H: Slot<OwnWords<AnyValues<T>>>>(
+pub(crate) fn len<T: Send + Drop, H: Slot<WordsBlock<AnyValues<T>>>>(
     alloc: Global,
     slot: &mut H,
     len: &mut MsqLen,
@@ -59,7 +59,7 @@ pub(crate) fn len<T: Send + Drop, H: Slot<OwnWords<AnyValues<T>>>>(
 }
 
 /// The end of the queue of these handles, with what is left written.
-pub(crate) fn close<T: Send + Drop, H: Slot<OwnWords<AnyValues<T>>>, I: Item<T> + Drop>(
+pub(crate) fn close<T: Send + Drop, H: Slot<WordsBlock<AnyValues<T>>>, I: Item<T> + Drop>(
     alloc: Global,
     slots: &mut [H],
     items: &mut [I],

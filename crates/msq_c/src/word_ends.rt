@@ -14,7 +14,7 @@ ghost use Rattle.msq_c.specs.WordEnds.{ClosesHandles, RefusesClose};
 
 use crate::slots::{Slot, lift};
 use crate::troubles::Trouble;
-use crate::word_seats::OwnWords;
+use crate::word_blocks::WordsBlock;
 use any_values::AnyValues;
 use carriers::RestOf;
 use history::Refusal;
@@ -23,14 +23,14 @@ use owned_values::{EndRoom, ValueSeat};
 use std::alloc::Global;
 
 // Whether each handle is full.
-fn all_are_full<T: Send + Drop, H: Slot<OwnWords<AnyValues<T>>>>(slots: &[H]) -> bool
+fn all_are_full<T: Send + Drop, H: Slot<WordsBlock<AnyValues<T>>>>(slots: &[H]) -> bool
     ensures { MatchBool result (AreFull H.holds slots.now) (¬ AreFull H.holds slots.now) }
 {
     slots.iter().all(|slot| slot.is_full())
 }
 
 // How many shares there are of the queue of a full handle.
-fn shares_at<T: Send + Drop, H: Slot<OwnWords<AnyValues<T>>>>(alloc: Global, slot: &mut H) -> usize
+fn shares_at<T: Send + Drop, H: Slot<WordsBlock<AnyValues<T>>>>(alloc: Global, slot: &mut H) -> usize
     requires { H.holds slot.old ≡ true }
     ensures full { H.holds slot.new ≡ true }
     ensures seat { H.own slot.new ≡ H.own slot.old }
@@ -42,7 +42,7 @@ fn shares_at<T: Send + Drop, H: Slot<OwnWords<AnyValues<T>>>>(alloc: Global, slo
 }
 
 // How many shares there are of the queue of full handles, by the first one.
-fn shares_of<T: Send + Drop, H: Slot<OwnWords<AnyValues<T>>>>(
+fn shares_of<T: Send + Drop, H: Slot<WordsBlock<AnyValues<T>>>>(
     alloc: Global,
     slots: &mut [H],
 ) -> usize
@@ -56,7 +56,7 @@ fn shares_of<T: Send + Drop, H: Slot<OwnWords<AnyValues<T>>>>(
 }
 
 // Room for the end of the queue of a full handle, by its seat and so many others.
-fn room_at<T: Send + Drop, H: Slot<OwnWords<AnyValues<T>>>>(
+fn room_at<T: Send + Drop, H: Slot<WordsBlock<AnyValues<T>>>>(
     alloc: Global,
     slot: &mut H,
     others: usize,
@@ -74,7 +74,7 @@ fn room_at<T: Send + Drop, H: Slot<OwnWords<AnyValues<T>>>>(
 }
 
 // Room for the end of the queue of full handles by all of them.
-fn room_of<T: Send + Drop, H: Slot<OwnWords<AnyValues<T>>>>(
+fn room_of<T: Send + Drop, H: Slot<WordsBlock<AnyValues<T>>>>(
     alloc: Global,
     slots: &mut [H],
 ) -> Result<EndRoom<AnyValues<T>>, Trouble>
@@ -91,7 +91,7 @@ fn room_of<T: Send + Drop, H: Slot<OwnWords<AnyValues<T>>>>(
 }
 
 // As many empty handles.
-fn empties<T: Send + Drop, H: Slot<OwnWords<AnyValues<T>>>>(
+fn empties<T: Send + Drop, H: Slot<WordsBlock<AnyValues<T>>>>(
     alloc: Global,
     like: &[H],
 ) -> Result<Vec<H>, Trouble>
@@ -109,7 +109,7 @@ fn empties<T: Send + Drop, H: Slot<OwnWords<AnyValues<T>>>>(
 }
 
 // The seats of full handles, which are left empty; where memory is refused, as they were.
-fn take_all<T: Send + Drop, H: Slot<OwnWords<AnyValues<T>>>>(
+fn take_all<T: Send + Drop, H: Slot<WordsBlock<AnyValues<T>>>>(
     alloc: Global,
     slots: &mut [H],
 ) -> Result<Vec<ValueSeat<AnyValues<T>>>, Trouble>
@@ -149,7 +149,7 @@ fn ended<T: Send + Drop>(
 }
 
 /// Ends the queue of these handles, which are all that have a share of it.
-pub(crate) fn close<T: Send + Drop, H: Slot<OwnWords<AnyValues<T>>>>(
+pub(crate) fn close<T: Send + Drop, H: Slot<WordsBlock<AnyValues<T>>>>(
     alloc: Global,
     slots: &mut [H],
 ) -> Result<(RestOf<T>, Ended<T>), Trouble>

@@ -2,7 +2,7 @@
 ghost use Rattle.std.specs.Prelude.{◌≡◌, false};
 ghost use Rattle.msq_c.specs.Codes.{Tells, done_code, pop_code};
 ghost use Rattle.msq_c.specs.Looks.{emptiness_code, len_code, IsLenWritten};
-ghost use Rattle.msq_c.specs.Three.{is_full, own_at};
+ghost use Rattle.msq_c.specs.Three.{is_full, block_at};
 ghost use Rattle.msq_c.specs.Words.{item_of, IsItemWritten};
 ghost use Rattle.msq_c.specs.WordSeats.{AnswersPush, AnswersPop, AnswersShut, AnswersMeet, MayMeet};
 ghost use Rattle.msq_c.specs.WordLooks.{TellsEmptiness, TellsLen, AnswersLook};
@@ -34,7 +34,7 @@ pub extern "C" fn msq_words_create(
     //=   kind, and of no other; its handles are then all the seats, unused and in order, of one queue of values of three words,
     //=   of that kind. Refused, no handle changed.
     ensures { Tells done_code result
-        (AnswersCreate is_full own_at kind nodes limit roles.now slots.old slots.new) }
+        (AnswersCreate is_full block_at kind nodes limit roles.now slots.old slots.new) }
 {
     code(word_queues::create(alloc, kind, nodes, limit, roles, slots))
 }
@@ -51,7 +51,7 @@ pub extern "C" fn msq_words_push(
     //=   `MSQ_NO_SEAT` where the handle is empty, and else its cause: the queue's, with its clauses, or no turns, or a seat
     //=   that may not push, with no change. The handle stays full or empty, of the same queue.
     ensures { Tells done_code result
-        (AnswersPush is_full own_at slot.old slot.new words.now turns) }
+        (AnswersPush is_full block_at slot.old slot.new words.now turns) }
 {
     code(word_calls::push(alloc, slot, *words, turns))
 }
@@ -68,7 +68,7 @@ pub extern "C" fn msq_words_pop(
     //= library/words_pop: A pop of words from C tells as `msq_words_push` does. The words written are the very words of the
     //=   push that stood at the front, with the number of its seat; at `MSQ_EMPTY`, or refused, nothing is written.
     ensures { Tells pop_code result
-        (λ out. AnswersPop is_full own_at slot.old slot.new turns out
+        (λ out. AnswersPop is_full block_at slot.old slot.new turns out
         × IsItemWritten item_of out item.old item.new) }
 {
     word_codes::pop(alloc, slot, turns, item)
@@ -78,7 +78,7 @@ pub extern "C" fn msq_words_pop(
 #[unsafe(no_mangle)]
 pub extern "C" fn msq_words_shut(alloc: Global, slot: &mut MsqWordsSeat, turns: u32) -> u32
     //= library/words_shut: A shut, and a meeting, of seats of a queue of words tell as those of a queue of numbers.
-    ensures { Tells done_code result (AnswersShut is_full own_at slot.old slot.new turns) }
+    ensures { Tells done_code result (AnswersShut is_full block_at slot.old slot.new turns) }
 {
     code(word_calls::shut(alloc, slot, turns))
 }
@@ -90,10 +90,10 @@ pub extern "C" fn msq_words_meet(
     one: &mut MsqWordsSeat,
     other: &mut MsqWordsSeat,
 ) -> u32
-    requires { MayMeet is_full own_at one.old other.old }
+    requires { MayMeet is_full block_at one.old other.old }
     //= library/words_shut
     ensures { Tells done_code result
-        (AnswersMeet is_full own_at one.old other.old one.new other.new) }
+        (AnswersMeet is_full block_at one.old other.old one.new other.new) }
 {
     code(word_calls::meet(alloc, one, other))
 }
@@ -105,7 +105,7 @@ pub extern "C" fn msq_words_emptiness(alloc: Global, slot: &mut MsqWordsSeat) ->
     //=   queue do, as the looks at a queue of numbers; `MSQ_UNCOUNTED` exactly of a two-lock queue. Each is refused exactly
     //=   where the handle is empty, with no change, and else keeps it full, of the same queue.
     ensures { Tells emptiness_code result
-        (AnswersLook is_full own_at TellsEmptiness slot.old slot.new) }
+        (AnswersLook is_full block_at TellsEmptiness slot.old slot.new) }
 {
     code_of_emptiness(word_looks::emptiness(alloc, slot))
 }
@@ -115,7 +115,7 @@ pub extern "C" fn msq_words_emptiness(alloc: Global, slot: &mut MsqWordsSeat) ->
 pub extern "C" fn msq_words_len(alloc: Global, slot: &mut MsqWordsSeat, len: &mut MsqLen) -> u32
     //= library/words_looks
     ensures { Tells len_code result
-        (λ out. AnswersLook is_full own_at TellsLen slot.old slot.new out
+        (λ out. AnswersLook is_full block_at TellsLen slot.old slot.new out
         × IsLenWritten out len.old len.new) }
 {
     word_codes::len(alloc, slot, len)
@@ -130,11 +130,11 @@ pub extern "C" fn msq_words_close(
     items: &mut [MsqItem],
     rest: &mut MsqRest,
 ) -> u32
-    requires { AreOfOne is_full own_at slots.old }
+    requires { AreOfOne is_full block_at slots.old }
     //= library/words_end: A queue of words ended from C tells as `msq_close` does, and writes the words left, from the
     //=   front, just as they were pushed, as many as have room.
     ensures { Tells done_code result
-        (AnswersClose is_full own_at item_of
+        (AnswersClose is_full block_at item_of
         slots.old slots.new items.old items.new rest.old rest.new) }
 {
     word_codes::close(alloc, slots, items, rest)

@@ -5,7 +5,7 @@ ghost use Rattle.msq_c.specs.WordRows.{OwnThree, three_row};
 
 use crate::parts::Parts;
 use crate::slots::Slot;
-use crate::word_seats::OwnWords;
+use crate::word_blocks::WordsBlock;
 use crate::words::MsqWords;
 use any_values::AnyValues;
 use std::alloc::Global;
@@ -13,7 +13,7 @@ use std::marker::Model;
 use std::ptr;
 
 /// A seat of a queue of three words, with its share.
-type ThreeSeat = OwnWords<AnyValues<MsqWords>>;
+type ThreeSeat = WordsBlock<AnyValues<MsqWords>>;
 
 /// A pointer to a seat, where it is full; it then owns the seat's block.
 #[repr(C)]
@@ -66,11 +66,11 @@ pub struct MsqWordsSeat {
 }
 
 impl Slot<ThreeSeat> for MsqWordsSeat {
-    ghost use Rattle.msq_c.specs.Three.{is_full, own_at};
+    ghost use Rattle.msq_c.specs.Three.{is_full, block_at};
 
     ghost holds = { is_full };
 
-    ghost own = { own_at };
+    ghost own = { block_at };
 
     fn is_full(&self) -> bool {
         self.full
@@ -89,7 +89,7 @@ impl Slot<ThreeSeat> for MsqWordsSeat {
     }
 
     fn of(seat: Box<ThreeSeat, Global>) -> MsqWordsSeat
-        ensures value { own_at result ≡ seat.value }
+        ensures value { block_at result ≡ seat.value }
         ensures full { is_full result ≡ true }
     {
         MsqWordsSeat {

@@ -5,7 +5,7 @@ use crate::bounds::MsqLen;
 use crate::looks::widened;
 use crate::slots::{Slot, lift};
 use crate::troubles::Trouble;
-use crate::word_seats::OwnWords;
+use crate::word_blocks::WordsBlock;
 use any_values::AnyValues;
 use node_arena::Seat;
 use owned_values::Look;
@@ -43,7 +43,7 @@ impl<T: Send + Drop> Look<AnyValues<T>> for ForCount {
 }
 
 // A look by a handle.
-fn look<T: Send + Drop, L: Look<AnyValues<T>>, H: Slot<OwnWords<AnyValues<T>>>>(
+fn look<T: Send + Drop, L: Look<AnyValues<T>>, H: Slot<WordsBlock<AnyValues<T>>>>(
     alloc: Global,
     slot: &mut H,
 ) -> Result<L::Told, Trouble>
@@ -59,7 +59,7 @@ fn look<T: Send + Drop, L: Look<AnyValues<T>>, H: Slot<OwnWords<AnyValues<T>>>>(
 }
 
 /// A look by a handle at whether the queue is empty.
-pub(crate) fn emptiness<T: Send + Drop, H: Slot<OwnWords<AnyValues<T>>>>(
+pub(crate) fn emptiness<T: Send + Drop, H: Slot<WordsBlock<AnyValues<T>>>>(
     alloc: Global,
     slot: &mut H,
 ) -> Result<Emptiness, Trouble>
@@ -69,7 +69,7 @@ pub(crate) fn emptiness<T: Send + Drop, H: Slot<OwnWords<AnyValues<T>>>>(
 }
 
 /// A look by a handle at how many values the queue holds.
-pub(crate) fn count<T: Send + Drop, H: Slot<OwnWords<AnyValues<T>>>>(
+pub(crate) fn count<T: Send + Drop, H: Slot<WordsBlock<AnyValues<T>>>>(
     alloc: Global,
     slot: &mut H,
 ) -> Result<Option<MsqLen>, Trouble>

@@ -3,14 +3,14 @@ ghost use Rattle.std.specs.Prelude.{◌≡◌, ◌≤◌, map, length, IfOk, IfE
 ghost use Rattle.node_arena.specs.Plans.{Layout, IsPlanned};
 ghost use Rattle.msq_c.specs.Ends.{IsMemory};
 ghost use Rattle.msq_c.specs.Made.{Asks};
-ghost use Rattle.msq_c.specs.WordOwn.{owned_in};
+ghost use Rattle.msq_c.specs.WordBlocks.{owned_in};
 ghost use Rattle.msq_c.specs.WordEnds.{AreEmpty};
 ghost use Rattle.msq_c.specs.WordMade.{plan_for, MayMake, AreUnused, AreMade, AreAsked, ArePut, RefusesCreate};
 
 use crate::new_queues::{Spacer, are_asked, count_for, hand_over, kind_of, roles_of, spacer_for};
 use crate::slots::Slot;
 use crate::troubles::Trouble;
-use crate::word_seats::OwnWords;
+use crate::word_blocks::WordsBlock;
 use any_values::AnyValues;
 use history::Refusal;
 use line_table::Kind;
@@ -49,13 +49,13 @@ fn seats_of<T: Send + Drop>(
 fn boxed<T: Send + Drop>(
     alloc: Global,
     owned: Vec<ValueSeat<AnyValues<T>>>,
-) -> Result<Vec<Box<OwnWords<AnyValues<T>>, Global>>, Trouble>
+) -> Result<Vec<Box<WordsBlock<AnyValues<T>>, Global>>, Trouble>
     ensures boxes { IfOk result (λ boxes. map (λ b. owned_in b.value) boxes.items ≡ owned.items) }
     ensures only_memory { IfErr result IsMemory }
 {
     let mut boxes = Vec::new(alloc);
     for seat in owned {
-        let Ok(boxed) = Box::new(alloc, OwnWords::new(seat)) else {
+        let Ok(boxed) = Box::new(alloc, WordsBlock::new(seat)) else {
             return Err(Trouble::Refused(Refusal::Memory));
         };
         if boxes.push(boxed).is_err() {
@@ -66,9 +66,9 @@ fn boxed<T: Send + Drop>(
 }
 
 // A full handle of each seat.
-fn sealed<T: Send + Drop, H: Slot<OwnWords<AnyValues<T>>>>(
+fn sealed<T: Send + Drop, H: Slot<WordsBlock<AnyValues<T>>>>(
     alloc: Global,
-    boxes: Vec<Box<OwnWords<AnyValues<T>>, Global>>,
+    boxes: Vec<Box<WordsBlock<AnyValues<T>>, Global>>,
 ) -> Result<Vec<H>, Trouble>
     ensures put { IfOk result
         (λ h. ArePut H.holds H.own (map (λ b. b.value) boxes.items) h.items) }
@@ -85,7 +85,7 @@ fn sealed<T: Send + Drop, H: Slot<OwnWords<AnyValues<T>>>>(
 }
 
 // Handles with the seats of a new queue.
-fn made<T: Send + Drop, H: Slot<OwnWords<AnyValues<T>>>>(
+fn made<T: Send + Drop, H: Slot<WordsBlock<AnyValues<T>>>>(
     alloc: Global,
     owned: Vec<ValueSeat<AnyValues<T>>>,
 ) -> Result<Vec<H>, Trouble>
@@ -98,7 +98,7 @@ fn made<T: Send + Drop, H: Slot<OwnWords<AnyValues<T>>>>(
 }
 
 // Handles with the seats of a new queue, as these numbers ask for it.
-fn handles_of<T: Send + Drop, H: Slot<OwnWords<AnyValues<T>>>>(
+fn handles_of<T: Send + Drop, H: Slot<WordsBlock<AnyValues<T>>>>(
     alloc: Global,
     kind: u32,
     nodes: u32,
@@ -118,14 +118,14 @@ fn handles_of<T: Send + Drop, H: Slot<OwnWords<AnyValues<T>>>>(
 }
 
 // Whether each handle is empty.
-fn all_are_empty<T: Send + Drop, H: Slot<OwnWords<AnyValues<T>>>>(slots: &[H]) -> bool
+fn all_are_empty<T: Send + Drop, H: Slot<WordsBlock<AnyValues<T>>>>(slots: &[H]) -> bool
     ensures { MatchBool result (AreEmpty H.holds slots.now) (¬ AreEmpty H.holds slots.now) }
 {
     slots.iter().all(|slot| !slot.is_full())
 }
 
 /// A new queue, whose seats fill these handles, one for each role.
-pub(crate) fn create<T: Send + Drop, H: Slot<OwnWords<AnyValues<T>>>>(
+pub(crate) fn create<T: Send + Drop, H: Slot<WordsBlock<AnyValues<T>>>>(
     alloc: Global,
     kind: u32,
     nodes: u32,

@@ -1,7 +1,7 @@
 use Rattle.std.proofs.Common.{◌≡◌, ◌++◌, ◌∷◌, [], map, length, ap, ◌∙◌, sym, true, arith}
 use Rattle.std.proofs.lemmas.List.{map_push}
 use Rattle.std.proofs.lemmas.List.Elements.{All-rest}
-use Rattle.msq_c.specs.Own.{owned_in}
+use Rattle.msq_c.specs.Blocks.{owned_in}
 use Rattle.msq_c.specs.Seats.{is_full}
 use Rattle.msq_c.specs.Ends.{owned_at}
 use Rattle.msq_c.proofs.ends.take_all.Goals as goal

@@ -1,5 +1,5 @@
 use Rattle.std.proofs.Common.{◌≡◌, map}
-use Rattle.msq_c.specs.Own.{owned_in}
+use Rattle.msq_c.specs.Blocks.{owned_in}
 use Rattle.msq_c.proofs.new_queues.boxed.Given as goal
 
 abbrev pub invariant-loop-seat : goal.invariant-loop-seat

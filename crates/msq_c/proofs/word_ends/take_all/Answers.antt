@@ -3,7 +3,7 @@ use Rattle.std.proofs.lemmas.List.{map_push, map-id, with_items_is}
 use Rattle.std.proofs.lemmas.List.Elements.{All-rest}
 use Rattle.std.proofs.lemmas.Iterator.Adapters.{YieldsList-from_vec}
 use Rattle.std.proofs.lemmas.Iterator.Consumers.{YieldsList-end}
-use Rattle.msq_c.specs.WordOwn.{owned_in}
+use Rattle.msq_c.specs.WordBlocks.{owned_in}
 use Rattle.msq_c.specs.WordEnds.{owned_at}
 use Rattle.msq_c.proofs.word_ends.take_all.Goals as goal
 

@@ -1,5 +1,5 @@
 use Rattle.std.proofs.Common.{◌≡◌, map}
-use Rattle.msq_c.specs.WordOwn.{owned_in}
+use Rattle.msq_c.specs.WordBlocks.{owned_in}
 use Rattle.msq_c.proofs.word_queues.boxed.Given as goal
 
 abbrev pub invariant-loop-seat : goal.invariant-loop-seat

@@ -11,11 +11,11 @@ use denote.Struct.Struct.{exits_of}
 use denote.Struct.Owning.{shape, fields, to}
 use Rattle.std.specs.contracts.impls.GlobalAllocator.TheImpl.{ghosts}
 use Rattle.std.proofs.Crossing.{crosses}
-use Rattle.msq_c.specs.declared.own_seats.OwnSeat.{OwnSeat}
+use Rattle.msq_c.specs.declared.seat_blocks.SeatBlock.{SeatBlock}
 use Rattle.msq_c.specs.Boxed.{box_if}
-use Rattle.msq_c.specs.contracts.own_seats.OwnSeat as own
+use Rattle.msq_c.specs.contracts.seat_blocks.SeatBlock as own
 use Rattle.msq_c.specs.contracts.handles.Handle.{the_row, the_type}
-use Rattle.msq_c.proofs.own_seats.OwnSeat.TheSendSync.{the_send as own_send}
+use Rattle.msq_c.proofs.seat_blocks.SeatBlock.TheSendSync.{the_send as block_send}
 
 quiet : {D X : Type 0} (to : D → X) (e : Exit X) → Quiet e → Quiet (hidden (under to e))
 quiet to unchanged q = λ x w. tt
@@ -25,10 +25,10 @@ lies : (R : RattleType) → IsSend R → (p : Ptr) (x : R.Denot) → Keyless (li
 lies R s (block_ptr b o) x = part_keyless R s full_share x b o
 lies R s null_ptr x = tt
 
-owned : (y : Bool) (p : Ptr) (x : OwnSeat) → IsSend own.the_row → Keyless (box_if own.the_row y p x)
+owned : (y : Bool) (p : Ptr) (x : SeatBlock) → IsSend own.the_row → Keyless (box_if own.the_row y p x)
 owned true p x s = let f : Frees ghosts ghosts.dealloc_token = search (crosses, sendable) in (lies own.the_row s p x, f.frees (record { memory = record { seal = tt } }) _ p)
 owned false p x s = tt
 
 pub send : IsSend the_row
-send = let O = the_type in let ps : IsSend RawPtr = search sendable in owning_send O (ps, tt) (λ d. owned d.full d.at d.value own_send)
+send = let O = the_type in let ps : IsSend RawPtr = search sendable in owning_send O (ps, tt) (λ d. owned d.full d.at d.value block_send)
     (λ k. quiet (to O) (exits_of k (fields O)) ((struct_send (shape O) (ps, tt)).leaving k))

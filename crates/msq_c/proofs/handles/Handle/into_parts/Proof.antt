@@ -30,7 +30,7 @@ use Rattle.std.proofs.alloc.Global.TheLaws as heap_laws
 use Rattle.std.specs.contracts.impls.GlobalAllocator.TheImpl.{ghosts}
 use Rattle.msq_c.specs.Boxed.{box_if, heap_token}
 use Rattle.msq_c.proofs.Bytes.{both, word, Data, told, Parts, al, parts_good, parts_in}
-use Rattle.msq_c.specs.contracts.own_seats.OwnSeat as inner
+use Rattle.msq_c.specs.contracts.seat_blocks.SeatBlock as inner
 use Rattle.msq_c.specs.contracts.handles.Handle as handle
 use Rattle.msq_c.specs.contracts.handles.Handle.into_parts.{ended, clauses}
 use Rattle.msq_c.specs.contracts.handles.Handle.into_parts.Key.{name as #self}

@@ -22,7 +22,7 @@ use Rattle.std.specs.contracts.alloc.Global as heap
 use Rattle.std.proofs.alloc.Global.TheLaws as heap_laws
 use Rattle.std.specs.contracts.impls.GlobalAllocator.TheImpl.{ghosts}
 use Rattle.msq_c.proofs.Bytes.{both, word, Data, made, Parts, parts_good, parts_out}
-use Rattle.msq_c.specs.contracts.own_seats.OwnSeat as inner
+use Rattle.msq_c.specs.contracts.seat_blocks.SeatBlock as inner
 use Rattle.msq_c.specs.contracts.handles.Handle as handle
 use Rattle.msq_c.specs.contracts.handles.Handle.sealed.{ended, clauses}
 use Rattle.msq_c.specs.contracts.handles.Handle.sealed.Key.{name as #self}

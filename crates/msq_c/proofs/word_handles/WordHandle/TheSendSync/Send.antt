@@ -21,7 +21,7 @@ use Rattle.msq_c.specs.contracts.word_handles.WordHandle.{the_row, the_type}
 use Rattle.any_values.proofs.any.AnyValues.TheSendSync.{the_send as queue_send, the_sync as queue_sync}
 use Rattle.node_arena.proofs.seats.Seat.TheSendSync.{the_send as seat_send}
 use Rattle.msq_c.proofs.words.MsqWords.TheSendSync.{the_send as words_send}
-use Rattle.msq_c.proofs.word_seats.OwnWords.TheSendSync as own
+use Rattle.msq_c.proofs.word_blocks.WordsBlock.TheSendSync as own
 
 quiet : {D X : Type 0} (to : D → X) (e : Exit X) → Quiet e → Quiet (hidden (under to e))
 quiet to unchanged q = λ x w. tt

@@ -2,7 +2,7 @@
 ghost use Rattle.std.specs.Prelude.{◌≡◌, ◌<◌, IfOk, IfErr, OnOk};
 ghost use Rattle.carriers.specs.Answers.{PushedOf, PopAnswersOf, DidShutOf, MeetsOf};
 
-use crate::own_seats::APART;
+use crate::seat_blocks::APART;
 use crate::troubles::Trouble;
 use any_values::AnyValues;
 use carriers::{Carrier, ItemOf};
@@ -12,21 +12,21 @@ use std::alloc::Global;
 /// A seat of a queue of words, with its share of the queue, which lies first: include/msq_words.h compares these.
 #[repr(C)]
 #[derive(Drop)]
-pub struct OwnWords<C: Carrier + Drop> {
+pub struct WordsBlock<C: Carrier + Drop> {
     owned: ValueSeat<C>,
     apart: [u64; APART],
 }
 
-impl<T: Send + Drop> OwnWords<AnyValues<T>> {
-    ghost use Rattle.msq_c.specs.WordOwn.{queue_in, known_in, owned_in};
-    ghost use Rattle.msq_c.specs.WordOwn.{RefusesPush, RefusesPop, RefusesShut};
+impl<T: Send + Drop> WordsBlock<AnyValues<T>> {
+    ghost use Rattle.msq_c.specs.WordBlocks.{queue_in, known_in, owned_in};
+    ghost use Rattle.msq_c.specs.WordBlocks.{RefusesPush, RefusesPop, RefusesShut};
     ghost use Rattle.msq_c.specs.Ends.{IsMemory};
     ghost use Rattle.msq_c.specs.WordEnds.{HasAnyRoom};
 
-    pub(crate) fn new(owned: ValueSeat<AnyValues<T>>) -> OwnWords<AnyValues<T>>
+    pub(crate) fn new(owned: ValueSeat<AnyValues<T>>) -> WordsBlock<AnyValues<T>>
         ensures { owned_in result ≡ owned }
     {
-        OwnWords {
+        WordsBlock {
             owned,
             apart: [0; APART],
         }
@@ -35,7 +35,7 @@ impl<T: Send + Drop> OwnWords<AnyValues<T>> {
     pub(crate) fn into_owned(self) -> ValueSeat<AnyValues<T>>
         ensures { result ≡ owned_in self }
     {
-        let OwnWords { owned, apart: _ } = self;
+        let WordsBlock { owned, apart: _ } = self;
         owned
     }
 
@@ -91,7 +91,7 @@ impl<T: Send + Drop> OwnWords<AnyValues<T>> {
         }
     }
 
-    pub(crate) fn meet(&mut self, other: &mut OwnWords<AnyValues<T>>)
+    pub(crate) fn meet(&mut self, other: &mut WordsBlock<AnyValues<T>>)
         requires { queue_in other.old ≡ queue_in self.old }
         ensures queue { queue_in self.new ≡ queue_in self.old }
         ensures other_queue { queue_in other.new ≡ queue_in other.old }

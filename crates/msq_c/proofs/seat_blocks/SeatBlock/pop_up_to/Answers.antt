@@ -1,8 +1,8 @@
 -- What was popped before, and what was popped into the rest.
 use Rattle.std.proofs.Common.{arith}
-use Rattle.msq_c.specs.Own.{known_in}
+use Rattle.msq_c.specs.Blocks.{known_in}
 use Rattle.msq_c.proofs.Batches.{popped_some, popped_more, popped_all, popped_to_empty, popped_until}
-use Rattle.msq_c.proofs.own_seats.OwnSeat.pop_up_to.Goals as goal
+use Rattle.msq_c.proofs.seat_blocks.SeatBlock.pop_up_to.Goals as goal
 
 pub loop-popped-preserved : goal.loop-popped-preserved
 loop-popped-preserved c = popped_more c.args.self.now c.loop-popped.self c.pop_some.new.self c.args.values.now c.loop-popped.values c.pop_some.new.values c.loop-popped.popped c.in-Ok.count

@@ -11,7 +11,7 @@ use Rattle.any_values.specs.declared.any.AnyValues.{AnyValues}
 use Rattle.any_values.specs.Any.{permits_of, PushCause, PopCause, ShutCause}
 use Rattle.owned_values.specs.declared.seats.ValueSeat.{ValueSeat}
 use Rattle.owned_values.specs.Owned.{queue_of, seat_of}
-use Rattle.msq_c.specs.declared.word_seats.OwnWords.{OwnWords}
+use Rattle.msq_c.specs.declared.word_blocks.WordsBlock.{WordsBlock}
 use Rattle.msq_c.specs.declared.troubles.Trouble.{Trouble}
 use Rattle.msq_c.specs.declared.troubles.Trouble.TheVariants.{Refused, BadSize, NoRole}
 
@@ -21,7 +21,7 @@ Owned T g = ValueSeat (AnyValues T) T (Seat T) g
 
 -- the same, as a handle owns it
 abbrev pub Own : (T : Type 0) → Ghosts (AnyValues T) T (Seat T) → Type 0
-Own T g = OwnWords (AnyValues T) T (Seat T) g
+Own T g = WordsBlock (AnyValues T) T (Seat T) g
 
 module _ {T : Type 0} {g : Ghosts (AnyValues T) T (Seat T)} where
   -- the seat with its share

@@ -1,7 +1,7 @@
 -- What was pushed before, and what was pushed of the rest.
 use Rattle.std.proofs.Common.{arith}
 use Rattle.msq_c.proofs.Batches.{pushed_more, pushed_all, pushed_until}
-use Rattle.msq_c.proofs.own_seats.OwnSeat.push_all.Goals as goal
+use Rattle.msq_c.proofs.seat_blocks.SeatBlock.push_all.Goals as goal
 
 pub loop-pushed-preserved : goal.loop-pushed-preserved
 loop-pushed-preserved c = pushed_more c.args.self.now c.loop-pushed.self c.push_some.new.self c.args.numbers.now c.loop-pushed.pushed c.in-Ok.count

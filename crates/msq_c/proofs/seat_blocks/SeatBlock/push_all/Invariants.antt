@@ -1,6 +1,6 @@
 use Rattle.std.proofs.Common.{◌-◌, length}
 use Rattle.msq_c.specs.Many.{PushedSo}
-use Rattle.msq_c.proofs.own_seats.OwnSeat.push_all.Given as goal
+use Rattle.msq_c.proofs.seat_blocks.SeatBlock.push_all.Given as goal
 
 abbrev pub invariant-loop-pushed : goal.invariant-loop-pushed
 invariant-loop-pushed l = PushedSo l.fn.self l.numbers l.pushed l.self

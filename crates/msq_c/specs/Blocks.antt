@@ -11,7 +11,7 @@ use Rattle.history.specs.declared.queues.Fifo.{Ghosts}
 use Rattle.any_queue.specs.Picked.{IsPickedSeat, PickedPushRefused, PickedPopRefused, PickedShutRefused}
 use Rattle.ring_queue.specs.Queues.{IsQueueSeat, push_causes, pop_causes, shut_causes}
 use Rattle.either_queue.specs.Either.{IsEitherSeat, EitherCause}
-use Rattle.msq_c.specs.declared.own_seats.OwnSeat.{OwnSeat}
+use Rattle.msq_c.specs.declared.seat_blocks.SeatBlock.{SeatBlock}
 use Rattle.msq_c.specs.declared.troubles.Trouble.{Trouble}
 use Rattle.msq_c.specs.declared.troubles.Trouble.TheVariants.{Refused, BadSize, NoRole}
 use Rattle.msq_c.specs.Queues.{Queue, SeatOf, known_of, permits_of}
@@ -32,32 +32,32 @@ abbrev pub Owned : Type 0
 Owned = OwnedSeat Queue SeatOf fifo
 
 -- the seat with its share
-abbrev pub owned_in : OwnSeat → Owned
+abbrev pub owned_in : SeatBlock → Owned
 owned_in s = s.owned
 
 -- the queue of a seat
-abbrev pub queue_in : OwnSeat → Queue
+abbrev pub queue_in : SeatBlock → Queue
 queue_in s = queue_of s.owned
 
 -- the seat itself
-abbrev pub seat_in : OwnSeat → SeatOf
+abbrev pub seat_in : SeatBlock → SeatOf
 seat_in s = seat_of s.owned
 
 -- where a seat of a ring keeps what it pops at one step
-abbrev pub room_in : OwnSeat → Vec Taken
+abbrev pub room_in : SeatBlock → Vec Taken
 room_in s = s.room
 
 -- what a seat knows
-abbrev pub known_in : OwnSeat → Known
+abbrev pub known_in : SeatBlock → Known
 known_in s = known_of (seat_in s)
 
 -- what each seat of its queue may do
-abbrev pub permits_in : OwnSeat → List Permit
+abbrev pub permits_in : SeatBlock → List Permit
 permits_in s = permits_of (queue_in s)
 
 -- why a push is refused: by the queue, for its cause; or a number is out of its range, or the seat may not push, and nothing
 -- changed
-abbrev pub RefusesPush : OwnSeat → OwnSeat → (body turns : ℕ) → Trouble → Type 0
+abbrev pub RefusesPush : SeatBlock → SeatBlock → (body turns : ℕ) → Trouble → Type 0
 RefusesPush s t body turns (Refused refusal) =
     StopsPush refusal × PushRefused (known_in s) refusal (known_in t) × EitherCause PickedPushRefused push_causes (queue_in s) (seat_in s) (seat_in t) turns refusal
 RefusesPush s t body turns BadSize = ((turns ≡ 0) ⊎ (2 ^ body_bits ≤ body)) × (t ≡ s)
@@ -65,7 +65,7 @@ RefusesPush s t body turns NoRole = (MayPush (permits_in s) (known_in s).number 
 RefusesPush s t body turns _ = ⊥
 
 -- why a pop is refused: by the queue, for its cause; or the turns are none, or the seat may not pop, and nothing changed
-abbrev pub RefusesPop : OwnSeat → OwnSeat → (turns : ℕ) → Trouble → Type 0
+abbrev pub RefusesPop : SeatBlock → SeatBlock → (turns : ℕ) → Trouble → Type 0
 RefusesPop s t turns (Refused refusal) =
     StopsPop refusal × PopRefused (known_in s) refusal (known_in t) × EitherCause PickedPopRefused pop_causes (queue_in s) (seat_in s) (seat_in t) turns refusal
 RefusesPop s t turns BadSize = (turns ≡ 0) × (t ≡ s)
@@ -73,7 +73,7 @@ RefusesPop s t turns NoRole = (MayPop (permits_in s) (known_in s).number → ⊥
 RefusesPop s t turns _ = ⊥
 
 -- why a shut is refused: by the queue, for its cause; or the turns are none, or the seat may not push, and nothing changed
-abbrev pub RefusesShut : OwnSeat → OwnSeat → (turns : ℕ) → Trouble → Type 0
+abbrev pub RefusesShut : SeatBlock → SeatBlock → (turns : ℕ) → Trouble → Type 0
 RefusesShut s t turns (Refused refusal) =
     StopsShut refusal × PushRefused (known_in s) refusal (known_in t) × EitherCause PickedShutRefused shut_causes (queue_in s) (seat_in s) (seat_in t) turns refusal
 RefusesShut s t turns BadSize = (turns ≡ 0) × (t ≡ s)

@@ -32,22 +32,22 @@ pub(crate) const APART: usize = 16;
 /// has room for what it pops at one step, so that no pop takes memory.
 #[repr(C)]
 #[derive(Drop)]
-pub struct OwnSeat {
+pub struct SeatBlock {
     pub(crate) owned: OwnedSeat<Queue>,
     pub(crate) room: Vec<Taken>,
     apart: [u64; APART],
 }
 
-impl OwnSeat {
-    ghost use Rattle.msq_c.specs.Own.{queue_in, seat_in, known_in, owned_in};
-    ghost use Rattle.msq_c.specs.Own.{RefusesPush, RefusesPop, RefusesShut};
+impl SeatBlock {
+    ghost use Rattle.msq_c.specs.Blocks.{queue_in, seat_in, known_in, owned_in};
+    ghost use Rattle.msq_c.specs.Blocks.{RefusesPush, RefusesPop, RefusesShut};
     ghost use Rattle.msq_c.specs.Queues.{IsEnough, IsRing};
     ghost use Rattle.msq_c.specs.Ends.{HasAnyRoom, IsRoomless};
 
-    pub(crate) fn new(owned: OwnedSeat<Queue>, room: Vec<Taken>) -> OwnSeat
+    pub(crate) fn new(owned: OwnedSeat<Queue>, room: Vec<Taken>) -> SeatBlock
         ensures { owned_in result ≡ owned }
     {
-        OwnSeat {
+        SeatBlock {
             owned,
             room,
             apart: [0; APART],
@@ -57,7 +57,7 @@ impl OwnSeat {
     pub(crate) fn into_owned(self) -> OwnedSeat<Queue>
         ensures { result ≡ owned_in self }
     {
-        let OwnSeat {
+        let SeatBlock {
             owned,
             room: _,
             apart: _,
@@ -130,7 +130,7 @@ impl OwnSeat {
         }
     }
 
-    pub(crate) fn meet(&mut self, other: &mut OwnSeat)
+    pub(crate) fn meet(&mut self, other: &mut SeatBlock)
         requires { queue_in other.old ≡ queue_in self.old }
         ensures queue { queue_in self.new ≡ queue_in self.old }
         ensures other_queue { queue_in other.new ≡ queue_in other.old }
