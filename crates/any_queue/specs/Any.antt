@@ -9,7 +9,7 @@ use Rattle.node_arena.specs.declared.seats.Seat.{Seat}
 use Rattle.node_arena.specs.Seats.{IsReady, permits_of}
 use Rattle.arena_queue.specs.declared.algorithms.Algorithm.{Ghosts}
 use Rattle.arena_queue.specs.Queues.{arena_of}
-use Rattle.arena_queue.specs.Answers.{PushRefused, PopRefused, ShutRefused}
+use Rattle.arena_queue.specs.Answers.{PushCaused, PopCaused, ShutCaused}
 use Rattle.nonblocking.specs.declared.algorithm.NonBlockingAlgorithm.{NonBlockingAlgorithm}
 use Rattle.two_lock.specs.declared.algorithm.TwoLockAlgorithm.{TwoLockAlgorithm}
 use Rattle.nonblocking.specs.contracts.algorithm.NonBlockingAlgorithmAlgorithm.TheImpl as ms_algorithm
@@ -37,20 +37,20 @@ IsAnySeat q s = IsReady (any_arena_of q) s
 -- why a push is refused: for a cause of its kind
 abbrev pub AnyPushRefused : {bits : ℕ} {ms : Ghosts NonBlockingAlgorithm bits} {two : Ghosts TwoLockAlgorithm bits} → AnyQueueOf bits ms two
     → Seat (Unit {0}) → Seat (Unit {0}) → (turns : ℕ) → Refusal → Type 0
-AnyPushRefused {ms = ms} (NonBlocking q) s t turns refusal = PushRefused ms.push_worn (arena_of q) s t turns refusal
-AnyPushRefused {two = two} (TwoLock q) s t turns refusal = PushRefused two.push_worn (arena_of q) s t turns refusal
+AnyPushRefused {ms = ms} (NonBlocking q) s t turns refusal = PushCaused ms.push_worn (arena_of q) s t turns refusal
+AnyPushRefused {two = two} (TwoLock q) s t turns refusal = PushCaused two.push_worn (arena_of q) s t turns refusal
 
 -- why a pop is refused: for a cause of its kind
 abbrev pub AnyPopRefused : {bits : ℕ} {ms : Ghosts NonBlockingAlgorithm bits} {two : Ghosts TwoLockAlgorithm bits} → AnyQueueOf bits ms two
     → Seat (Unit {0}) → Seat (Unit {0}) → (turns : ℕ) → Refusal → Type 0
-AnyPopRefused {ms = ms} (NonBlocking q) s t turns refusal = PopRefused ms.pop_worn (arena_of q) s t turns refusal
-AnyPopRefused {two = two} (TwoLock q) s t turns refusal = PopRefused two.pop_worn (arena_of q) s t turns refusal
+AnyPopRefused {ms = ms} (NonBlocking q) s t turns refusal = PopCaused ms.pop_worn (arena_of q) s t turns refusal
+AnyPopRefused {two = two} (TwoLock q) s t turns refusal = PopCaused two.pop_worn (arena_of q) s t turns refusal
 
 -- why a shut is refused: for a cause of its kind
 abbrev pub AnyShutRefused : {bits : ℕ} {ms : Ghosts NonBlockingAlgorithm bits} {two : Ghosts TwoLockAlgorithm bits} → AnyQueueOf bits ms two
     → Seat (Unit {0}) → Seat (Unit {0}) → (turns : ℕ) → Refusal → Type 0
-AnyShutRefused {ms = ms} (NonBlocking q) s t turns refusal = ShutRefused ms.shut_worn (arena_of q) s t turns refusal
-AnyShutRefused {two = two} (TwoLock q) s t turns refusal = ShutRefused two.shut_worn (arena_of q) s t turns refusal
+AnyShutRefused {ms = ms} (NonBlocking q) s t turns refusal = ShutCaused ms.shut_worn (arena_of q) s t turns refusal
+AnyShutRefused {two = two} (TwoLock q) s t turns refusal = ShutCaused two.shut_worn (arena_of q) s t turns refusal
 
 -- what causes a shut to be refused Closed is cause for a push to be refused so
 pub any_closed_alike : {bits : ℕ} {ms : Ghosts NonBlockingAlgorithm bits} {two : Ghosts TwoLockAlgorithm bits} (q : AnyQueueOf bits ms two) (s t : Seat (Unit {0})) (turns : ℕ)

@@ -6,10 +6,10 @@ use Rattle.node_arena.specs.Arenas.{Arena}
 use Rattle.node_arena.specs.declared.seats.Seat.{Seat}
 use Rattle.node_arena.specs.Seats as seats
 use Rattle.node_arena.specs.Seats.{IsReady, HasNoSlot, carries_of}
-use Rattle.arena_queue.specs.Answers.{PopRefused, ShutRefused}
+use Rattle.arena_queue.specs.Answers.{PopCaused, ShutCaused}
 use Rattle.nonblocking.specs.Worn as ms
 use Rattle.two_lock.specs.Worn as two
-use Rattle.value_queue.specs.Pushes.{PushRefused}
+use Rattle.value_queue.specs.Pushes.{PushCaused}
 use Rattle.picked_values.specs.Queues as picked
 use Rattle.any_values.specs.TwoLocks as two_locks
 use Rattle.any_values.specs.declared.any.AnyValues.{AnyValues}
@@ -36,15 +36,15 @@ module _ {T : Type 0} where
 
   -- why a push is refused: for a cause of its kind
   abbrev pub PushCause : AnyValues T → Seat T → Seat T → (turns : ℕ) → Refusal → Type 0
-  PushCause (NonBlocking q) = PushRefused ms.push_worn (picked.arena_of q)
-  PushCause (TwoLock q) = PushRefused two.push_worn (two_locks.arena_of q)
+  PushCause (NonBlocking q) = PushCaused ms.push_worn (picked.arena_of q)
+  PushCause (TwoLock q) = PushCaused two.push_worn (two_locks.arena_of q)
 
   -- why a pop is refused: for a cause of its kind
   abbrev pub PopCause : AnyValues T → Seat T → Seat T → (turns : ℕ) → Refusal → Type 0
-  PopCause (NonBlocking q) = PopRefused ms.pop_worn (picked.arena_of q)
-  PopCause (TwoLock q) = PopRefused two.pop_worn (two_locks.arena_of q)
+  PopCause (NonBlocking q) = PopCaused ms.pop_worn (picked.arena_of q)
+  PopCause (TwoLock q) = PopCaused two.pop_worn (two_locks.arena_of q)
 
   -- why a shut is refused: for a cause of its kind
   abbrev pub ShutCause : AnyValues T → Seat T → Seat T → (turns : ℕ) → Refusal → Type 0
-  ShutCause (NonBlocking q) = ShutRefused ms.shut_worn (picked.arena_of q)
-  ShutCause (TwoLock q) = ShutRefused two.shut_worn (two_locks.arena_of q)
+  ShutCause (NonBlocking q) = ShutCaused ms.shut_worn (picked.arena_of q)
+  ShutCause (TwoLock q) = ShutCaused two.shut_worn (two_locks.arena_of q)

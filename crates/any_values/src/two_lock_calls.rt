@@ -33,9 +33,9 @@ impl<T> TwoLockValues<T> {
 //= values/any
 impl<T: Send> Carrier for TwoLockValues<T> {
     ghost use Rattle.two_lock.specs.Worn.{push_worn, pop_worn, shut_worn};
-    ghost use Rattle.arena_queue.specs.Answers.{PopRefused, ShutRefused};
+    ghost use Rattle.arena_queue.specs.Answers.{PopCaused, ShutCaused};
     ghost use Rattle.value_queue.specs.ValuesSeen.{known_by};
-    ghost use Rattle.value_queue.specs.Pushes.{PushRefused};
+    ghost use Rattle.value_queue.specs.Pushes.{PushCaused};
     ghost use Rattle.value_queue.specs.Sound.{sound-seat, IsQueueSeat-prop};
     ghost use Rattle.any_values.specs.TwoLocks.{arena_of, permits_of, IsQueueSeat, carries};
 
@@ -49,11 +49,11 @@ impl<T: Send> Carrier for TwoLockValues<T> {
 
     ghost known = { known_by };
 
-    ghost push_cause = { λ q. PushRefused push_worn (arena_of q) };
+    ghost push_cause = { λ q. PushCaused push_worn (arena_of q) };
 
-    ghost pop_cause = { λ q. PopRefused pop_worn (arena_of q) };
+    ghost pop_cause = { λ q. PopCaused pop_worn (arena_of q) };
 
-    ghost shut_cause = { λ q. ShutRefused shut_worn (arena_of q) };
+    ghost shut_cause = { λ q. ShutCaused shut_worn (arena_of q) };
 
     ghost sound = { λ q s h. sound-seat (arena_of q) (carries q) s h.0.seat };
 

@@ -1,10 +1,10 @@
 -- The registers with which a call goes on.
 use Rattle.std.proofs.Common.{◌≡◌, ap}
 use Rattle.line_table.specs.declared.lines.Line.{Line}
-use Rattle.arena_lines.specs.declared.outcomes.Outcome.{Outcome}
-use Rattle.arena_lines.specs.declared.outcomes.Outcome.TheVariants.{Goes, Ends}
+use Rattle.arena_lines.specs.declared.outcomes.RowOutcome.{RowOutcome}
+use Rattle.arena_lines.specs.declared.outcomes.RowOutcome.TheVariants.{Goes, Ends}
 
-registers_or : {A : Type 0} → A → Outcome A → A
+registers_or : {A : Type 0} → A → RowOutcome A → A
 registers_or d (Goes l a) = a
 registers_or d (Ends reply) = d
 

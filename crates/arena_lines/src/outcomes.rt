@@ -19,7 +19,7 @@ pub enum Reply {
 
 /// What a line leads to.
 #[derive(Clone, Copy)]
-pub enum Outcome<A: Copy> {
+pub enum RowOutcome<A: Copy> {
     /// The call goes on at a line, with these registers.
     Goes(Line, A),
     /// The call ends.
@@ -27,39 +27,39 @@ pub enum Outcome<A: Copy> {
 }
 
 #[inline(always)]
-pub fn goes<A: Copy>(line: Line, a: A) -> Outcome<A>
-    ensures { result ≡ Outcome.Goes line a }
+pub fn goes<A: Copy>(line: Line, a: A) -> RowOutcome<A>
+    ensures { result ≡ RowOutcome.Goes line a }
 {
-    Outcome::Goes(line, a)
+    RowOutcome::Goes(line, a)
 }
 
 #[inline(always)]
-pub fn ends<A: Copy>(reply: Reply, _: A) -> Outcome<A>
-    ensures { result ≡ Outcome.Ends reply }
+pub fn ends<A: Copy>(reply: Reply, _: A) -> RowOutcome<A>
+    ensures { result ≡ RowOutcome.Ends reply }
 {
-    Outcome::Ends(reply)
+    RowOutcome::Ends(reply)
 }
 
 /// A word is worn out.
 #[inline(always)]
-pub fn worn<A: Copy>(word: WornWord, a: A) -> Outcome<A>
-    ensures { result ≡ Outcome.Ends (Reply.Refused (WornOut word)) }
+pub fn worn<A: Copy>(word: WornWord, a: A) -> RowOutcome<A>
+    ensures { result ≡ RowOutcome.Ends (Reply.Refused (WornOut word)) }
 {
     ends(Reply::Refused(Refusal::WornOut(word)), a)
 }
 
 /// The queue is shut.
 #[inline(always)]
-pub fn closed<A: Copy>(a: A) -> Outcome<A>
-    ensures { result ≡ Outcome.Ends (Reply.Refused Closed) }
+pub fn closed<A: Copy>(a: A) -> RowOutcome<A>
+    ensures { result ≡ RowOutcome.Ends (Reply.Refused Closed) }
 {
     ends(Reply::Refused(Refusal::Closed), a)
 }
 
 /// The node in hand is free or set aside: what frees a node is a call of its own.
 #[inline(always)]
-pub fn frees<A: Copy>(_: Kind, a: A) -> Outcome<A>
-    ensures { result ≡ Outcome.Ends Reply.Done }
+pub fn frees<A: Copy>(_: Kind, a: A) -> RowOutcome<A>
+    ensures { result ≡ RowOutcome.Ends Reply.Done }
 {
     ends(Reply::Done, a)
 }

@@ -8,7 +8,7 @@ use Rattle.history.specs.declared.operations.Taken.{Taken}
 use Rattle.history.specs.declared.refusals.Refusal.{Refusal}
 use Rattle.history.specs.declared.refusals.Refusal.TheVariants.{WornOut, Busy, Closed}
 use Rattle.history.specs.declared.refusals.WornWord.{WornWord}
-use Rattle.history.specs.Answers.{PopAnswers, FoundEmpty, StopsPop, PopRefused as RefusedPop}
+use Rattle.history.specs.Answers.{PopAnswers, FoundEmpty, StopsPop, PopRefused}
 use Rattle.history.proofs.Learning.{answers_then}
 use Rattle.line_table.specs.declared.lines.Line.TheVariants.{F1}
 use Rattle.node_arena.specs.Machine.{Held, Actor, value_of, to_pocket, busy_or}
@@ -249,7 +249,7 @@ module _ (worn : WornWord → Type 0) where
       stops Closed f = tt
       stops _ f = absurd f
 
-      learns : (refusal : Refusal) → StopsAPop s x refusal → RefusedPop (known_of s) refusal (known_of x)
+      learns : (refusal : Refusal) → StopsAPop s x refusal → PopRefused (known_of s) refusal (known_of x)
       learns Closed h = h.found
       learns _ h = sees_on (view s) (view x) (added s x) h
 

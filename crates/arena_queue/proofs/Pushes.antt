@@ -5,7 +5,7 @@ use Rattle.history.specs.declared.refusals.Refusal.{Refusal}
 use Rattle.history.specs.declared.refusals.Refusal.TheVariants.{WornOut, Busy, Closed}
 use Rattle.history.specs.declared.refusals.WornWord.{WornWord}
 use Rattle.history.specs.declared.refusals.WornWord.TheVariants.{Free as OfFree, Next as OfNext, Tail as OfTail, Head as OfHead}
-use Rattle.history.specs.Answers.{StopsPush, PushRefused as RefusedPush}
+use Rattle.history.specs.Answers.{StopsPush, PushRefused}
 use Rattle.node_arena.specs.Machine.{Held}
 use Rattle.node_arena.specs.Traces.{Event}
 use Rattle.node_arena.specs.Arenas.{Arena}
@@ -15,7 +15,7 @@ use Rattle.node_arena.specs.Turns.{failed_turns}
 use Rattle.node_arena.specs.Paths.{ExtendsPath, FindsShut, StopsAPush, Acts, HadNoEffect, added}
 use Rattle.free_list.specs.Takes.{TakeRefused}
 use Rattle.node_arena.proofs.Paths.{walk_then, then_act, then_shut, added_path, sees_on, met_behind, failed-append, failed_behind, ends_failed}
-use Rattle.arena_queue.specs.Answers.{PushMoves, PushWithNodeCaused, PushesWithNodeAnd, PushesWithNode, PushRefused, AnswersPush}
+use Rattle.arena_queue.specs.Answers.{PushMoves, PushWithNodeCaused, PushesWithNodeAnd, PushesWithNode, PushCaused, AnswersPush}
 use Rattle.arena_queue.proofs.Queues.{same_number}
 
 -- what a call that was refused added to its seat's path
@@ -29,12 +29,12 @@ stops_behind s t u es w e Closed h = subst (FindsShut (view s) (view u)) (sym e)
 stops_behind s t u es w e _ h = subst (ExtendsPath (view s) (view u)) (sym e) (walk_then (view s) (view t) (view u) es (added t u) w h)
 
 -- what its seat then knows
-pub learns : {T : Type 0} (s t : Seat T) (refusal : Refusal) → StopsAPush s t refusal → RefusedPush (known_of s) refusal (known_of t)
+pub learns : {T : Type 0} (s t : Seat T) (refusal : Refusal) → StopsAPush s t refusal → PushRefused (known_of s) refusal (known_of t)
 learns s t Closed h = h.found
 learns s t _ h = sees_on (view s) (view t) (added s t) h
 
 -- and after a take that was refused
-pub learns_of_take : {T : Type 0} (r : Arena) (s t : Seat T) (turns : ℕ) (refusal : Refusal) → HadNoEffect s t → TakeRefused r s t turns refusal → RefusedPush (known_of s) refusal (known_of t)
+pub learns_of_take : {T : Type 0} (r : Arena) (s t : Seat T) (turns : ℕ) (refusal : Refusal) → HadNoEffect s t → TakeRefused r s t turns refusal → PushRefused (known_of s) refusal (known_of t)
 learns_of_take r s t turns Closed w h = absurd h
 learns_of_take r s t turns _ w h = sees_on (view s) (view t) (added s t) w
 
@@ -114,7 +114,7 @@ module _ (worn : WornWord → Option Held → Type 0) where
       stops Closed x = tt
       stops _ x = absurd x
 
-      by_cause : (refusal : Refusal) → PushWithNodeCaused worn r s t node 0 turns refusal → PushRefused worn r s t turns refusal
+      by_cause : (refusal : Refusal) → PushWithNodeCaused worn r s t node 0 turns refusal → PushCaused worn r s t turns refusal
       by_cause Busy x = ((let f = x.0 in omega arith), x.1)
       by_cause (WornOut OfFree) x = x.0
       by_cause (WornOut OfNext) x = (x.0, x.1)

@@ -8,7 +8,7 @@ use Rattle.history.specs.declared.refusals.Refusal.{Refusal}
 use Rattle.history.specs.declared.refusals.Refusal.TheVariants.{WornOut, Busy, Closed}
 use Rattle.history.specs.declared.refusals.WornWord.{WornWord}
 use Rattle.history.specs.declared.refusals.WornWord.TheVariants.{Free as OfFree, Tail as OfTail}
-use Rattle.history.specs.Answers.{Pushed, PopAnswers, PushRefused as RefusedPush, PopRefused as RefusedPop, StopsPush, StopsPop}
+use Rattle.history.specs.Answers.{Pushed, PopAnswers, PushRefused, PopRefused, StopsPush, StopsPop}
 use Rattle.node_arena.specs.Machine.{Held}
 use Rattle.node_arena.specs.Arenas.{Arena}
 use Rattle.node_arena.specs.declared.seats.Seat.{Seat}
@@ -58,11 +58,11 @@ PushesWithNode worn r s t node body spent turns out = PushesWithNodeAnd (PushMov
 
 -- the cause of each refusal of a push is that of a take, or of the push of the node that it has: a word worn out, or the queue
 -- shut
-abbrev pub PushRefused : {T : Type 0} (worn : WornWord → Option Held → Type 0) → Arena → Seat T → Seat T → (turns : ℕ) → Refusal → Type 0
-PushRefused worn r s t turns (WornOut OfFree) = TakeRefused r s t turns (WornOut OfFree)
-PushRefused worn r s t turns (WornOut word) = MetCause r s t (WornOut word) × worn word (pocket_of t)
-PushRefused worn r s t turns Closed = MetCause r s t Closed
-PushRefused worn r s t turns refusal = TakeRefused r s t turns refusal
+abbrev pub PushCaused : {T : Type 0} (worn : WornWord → Option Held → Type 0) → Arena → Seat T → Seat T → (turns : ℕ) → Refusal → Type 0
+PushCaused worn r s t turns (WornOut OfFree) = TakeRefused r s t turns (WornOut OfFree)
+PushCaused worn r s t turns (WornOut word) = MetCause r s t (WornOut word) × worn word (pocket_of t)
+PushCaused worn r s t turns Closed = MetCause r s t Closed
+PushCaused worn r s t turns refusal = TakeRefused r s t turns refusal
 
 -- fewer turns than allowed failed
 abbrev pub FailsFewer : {T : Type 0} → Seat T → Seat T → (turns : ℕ) → Type 0
@@ -76,9 +76,9 @@ pub record AnswersPush {T : Type 0} (worn : WornWord → Option Held → Type 0)
   pub pushed : OnOk out (Pushed (known_of s) body (known_of t))
   pub few : OnOk out (FailsFewer s t turns)
   pub pocket : OnOk out (pocket_of t ≡ None)
-  pub refused : IfErr out (λ refusal. RefusedPush (known_of s) refusal (known_of t))
+  pub refused : IfErr out (λ refusal. PushRefused (known_of s) refusal (known_of t))
   pub refusal : IfErr out StopsPush
-  pub caused : IfErr out (PushRefused worn r s t turns)
+  pub caused : IfErr out (PushCaused worn r s t turns)
 
 -- why a pop with an empty pocket is refused, where so many turns failed before: all turns failed, the last one at the last
 -- step, or a word of which `worn` says so was found worn out at the last step
@@ -122,8 +122,8 @@ abbrev pub FreesItsNode : {T : Type 0} → Seat T → Seat T → (turns : ℕ) �
 FreesItsNode s t turns = (pocket_of t ≡ None) ⊎ (failed_turns (added s t) ≡ turns)
 
 -- why a pop is refused
-abbrev pub PopRefused : {T : Type 0} (worn : WornWord → Type 0) → Arena → Seat T → Seat T → (turns : ℕ) → Refusal → Type 0
-PopRefused worn r s t turns refusal = PopWithoutNodeCaused worn r s t 0 turns refusal
+abbrev pub PopCaused : {T : Type 0} (worn : WornWord → Type 0) → Arena → Seat T → Seat T → (turns : ℕ) → Refusal → Type 0
+PopCaused worn r s t turns refusal = PopWithoutNodeCaused worn r s t 0 turns refusal
 
 -- what a pop answers
 pub record AnswersPop {T : Type 0} (worn : WornWord → Type 0) (r : Arena) (s t : Seat T) (turns : ℕ) (out : Result (Option Taken) Refusal) : Type 0 where
@@ -134,9 +134,9 @@ pub record AnswersPop {T : Type 0} (worn : WornWord → Type 0) (r : Arena) (s t
   pub few : OnOk out (FailsFew s t turns)
   pub freed : keeps_of s ≡ false → OnOk out (FreesItsNode s t turns)
   pub kept : keeps_of s ≡ true → IfOk out (KeepsItsNode t)
-  pub refused : IfErr out (λ refusal. RefusedPop (known_of s) refusal (known_of t))
+  pub refused : IfErr out (λ refusal. PopRefused (known_of s) refusal (known_of t))
   pub refusal : IfErr out StopsPop
-  pub caused : IfErr out (PopRefused worn r s t turns)
+  pub caused : IfErr out (PopCaused worn r s t turns)
 
 -- a call shut the queue
 abbrev pub Shuts : {T : Type 0} (s t : Seat T) → Type 0
@@ -144,11 +144,11 @@ Shuts s t = Acts (view s) (view t) (Shut (view s).number) (added s t)
 
 -- why a shut is refused: all turns failed, the last one at the last step; or Tail was found worn out at the last step, where
 -- `worn` says that this stops one; or the queue was found shut at the last step
-abbrev pub ShutRefused : {T : Type 0} (worn : Type 0) → Arena → Seat T → Seat T → (turns : ℕ) → Refusal → Type 0
-ShutRefused worn r s t turns Busy = (failed_turns (added s t) ≡ turns) × EndsFailed s t
-ShutRefused worn r s t turns (WornOut OfTail) = MetCause r s t (WornOut OfTail) × worn
-ShutRefused worn r s t turns Closed = MetCause r s t Closed
-ShutRefused worn r s t turns _ = ⊥
+abbrev pub ShutCaused : {T : Type 0} (worn : Type 0) → Arena → Seat T → Seat T → (turns : ℕ) → Refusal → Type 0
+ShutCaused worn r s t turns Busy = (failed_turns (added s t) ≡ turns) × EndsFailed s t
+ShutCaused worn r s t turns (WornOut OfTail) = MetCause r s t (WornOut OfTail) × worn
+ShutCaused worn r s t turns Closed = MetCause r s t Closed
+ShutCaused worn r s t turns _ = ⊥
 
 -- what a shut answers: what is in the pocket stays there
 pub record AnswersShut {T : Type 0} (worn : Type 0) (r : Arena) (s t : Seat T) (turns : ℕ) (out : Result (Unit {0}) Refusal) : Type 0 where
@@ -158,4 +158,4 @@ pub record AnswersShut {T : Type 0} (worn : Type 0) (r : Arena) (s t : Seat T) (
   pub pocket : pocket_of t ≡ pocket_of s
   pub shut : OnOk out (Shuts s t)
   pub few : OnOk out (FailsFewer s t turns)
-  pub refused : IfErr out (λ refusal. StopsAPush s t refusal × ShutRefused worn r s t turns refusal)
+  pub refused : IfErr out (λ refusal. StopsAPush s t refusal × ShutCaused worn r s t turns refusal)

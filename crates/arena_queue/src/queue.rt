@@ -92,12 +92,12 @@ impl<A: Algorithm<B>, const B: u32> Fifo for ArenaQueueOf<A, B> {
     ghost use Rattle.std.specs.List.{All};
     ghost use Rattle.history.specs.Seats.{MayPush, MayPop};
     ghost use Rattle.history.specs.Answers.{Pushed, PopAnswers, DidShut, StopsPush, StopsPop, StopsShut};
-    ghost use Rattle.history.specs.Answers.{PushRefused as RefusedPush, PopRefused as RefusedPop};
+    ghost use Rattle.history.specs.Answers.{PushRefused, PopRefused};
     ghost use Rattle.node_arena.specs.Seats.{known_of, pocket_of, keeps_of, view};
     ghost use Rattle.node_arena.proofs.Seens.{sound_of};
     ghost use Rattle.node_arena.proofs.OneProof.{IsReady-prop};
-    ghost use Rattle.arena_queue.specs.Answers.{FailsFewer, PushRefused, FailsFew, FreesItsNode, KeepsItsNode};
-    ghost use Rattle.arena_queue.specs.Answers.{PopRefused, ShutRefused};
+    ghost use Rattle.arena_queue.specs.Answers.{FailsFewer, PushCaused, FailsFew, FreesItsNode, KeepsItsNode};
+    ghost use Rattle.arena_queue.specs.Answers.{PopCaused, ShutCaused};
     ghost use Rattle.arena_queue.specs.Queues.{arena_of, permits_of, IsQueueSeat};
 
     type Seat = Seat;
@@ -108,11 +108,11 @@ impl<A: Algorithm<B>, const B: u32> Fifo for ArenaQueueOf<A, B> {
 
     ghost known = { known_of };
 
-    ghost push_cause = { λ q. PushRefused A.push_worn (arena_of q) };
+    ghost push_cause = { λ q. PushCaused A.push_worn (arena_of q) };
 
-    ghost pop_cause = { λ q. PopRefused A.pop_worn (arena_of q) };
+    ghost pop_cause = { λ q. PopCaused A.pop_worn (arena_of q) };
 
-    ghost shut_cause = { λ q. ShutRefused A.shut_worn (arena_of q) };
+    ghost shut_cause = { λ q. ShutCaused A.shut_worn (arena_of q) };
 
     ghost sound = { λ q s h. sound_of (arena_of q).plan (view s) h.seat.sits.fitted };
 
@@ -139,14 +139,14 @@ impl<A: Algorithm<B>, const B: u32> Fifo for ArenaQueueOf<A, B> {
         ensures few { OnOk result (FailsFewer seat.old seat.new turns) }
         ensures pocket { OnOk result (pocket_of seat.new ≡ None) }
         ensures refused { IfErr result
-            (λ refusal. RefusedPush (known_of seat.old) refusal (known_of seat.new)) }
+            (λ refusal. PushRefused (known_of seat.old) refusal (known_of seat.new)) }
         ensures refusal { IfErr result StopsPush }
         //= atomics/met_cause
         //= queues/queue_causes: A push, a pop and a shut of either queue are refused only with [their
         //=   cause](../crates/arena_queue/CALLING.md#the-causes-of-refusals): in a reachable world before the call's
         //=   last step or, of `Busy`, in the call's turns.
         ensures caused { IfErr result
-            (PushRefused A.push_worn (arena_of self.now) seat.old seat.new turns) }
+            (PushCaused A.push_worn (arena_of self.now) seat.old seat.new turns) }
     {
         let (held, spent) = match seat.pocket() {
             Some(held) => (held, 0),
@@ -177,12 +177,12 @@ impl<A: Algorithm<B>, const B: u32> Fifo for ArenaQueueOf<A, B> {
             OnOk result (FreesItsNode seat.old seat.new turns) }
         ensures kept { keeps_of seat.old ≡ true → IfOk result (KeepsItsNode seat.new) }
         ensures refused { IfErr result
-            (λ refusal. RefusedPop (known_of seat.old) refusal (known_of seat.new)) }
+            (λ refusal. PopRefused (known_of seat.old) refusal (known_of seat.new)) }
         ensures refusal { IfErr result StopsPop }
         //= atomics/met_cause
         //= queues/queue_causes
         ensures caused { IfErr result
-            (PopRefused A.pop_worn (arena_of self.now) seat.old seat.new turns) }
+            (PopCaused A.pop_worn (arena_of self.now) seat.old seat.new turns) }
     {
         let spent = match seat.pocket() {
             None => 0,
@@ -210,12 +210,12 @@ impl<A: Algorithm<B>, const B: u32> Fifo for ArenaQueueOf<A, B> {
         ensures few { OnOk result (FailsFewer seat.old seat.new turns) }
         ensures pocket { pocket_of seat.new ≡ pocket_of seat.old }
         ensures refused { IfErr result
-            (λ refusal. RefusedPush (known_of seat.old) refusal (known_of seat.new)) }
+            (λ refusal. PushRefused (known_of seat.old) refusal (known_of seat.new)) }
         ensures refusal { IfErr result StopsShut }
         //= atomics/met_cause
         //= queues/queue_causes
         ensures caused { IfErr result
-            (ShutRefused A.shut_worn (arena_of self.now) seat.old seat.new turns) }
+            (ShutCaused A.shut_worn (arena_of self.now) seat.old seat.new turns) }
     {
         A::shut(&self.arena, seat, turns)
     }

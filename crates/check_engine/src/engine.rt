@@ -10,7 +10,7 @@ use crate::texts::HistoryTexts;
 use history::{Cause, Refusal, Stamped, Verdict, check};
 use report::history_table;
 use std::alloc::Global;
-use text_io::{Line, Sink, Source, parse_source, send};
+use text_io::{LineBuffer, Sink, Source, parse_source, send};
 
 /// Judges the history whose text the reader gives, and writes the verdict: for Yes the table of the
 /// history, and else one line, `no` with the operation's place in the list and what is wrong with it.
@@ -100,10 +100,10 @@ fn tell<W: Sink>(
 }
 
 #[tactic(auto, unfolding(crate::specs::Checks::no_text))]
-fn no_line(place: u64, cause: Cause) -> Line
+fn no_line(place: u64, cause: Cause) -> LineBuffer
     ensures { result ≡ no_text place cause }
 {
-    let mut line = Line::new();
+    let mut line = LineBuffer::new();
     line.push(b"no ");
     line.push_number(place);
     line.push(b" ");

@@ -7,7 +7,7 @@ ghost use Rattle.colours.specs.Plain.{Colours, plain};
 use crate::styles::{Drawing, Shown, code_of};
 use history::Refusal;
 use std::io;
-use text_io::{LINE_ROOM, Line, Sink};
+use text_io::{LINE_ROOM, LineBuffer, Sink};
 
 /// How many bytes a byte takes at most, with the code before it.
 const ROOM_OF_ONE: usize = 10;
@@ -24,7 +24,7 @@ pub struct Coloured<W> {
     inner: W,
     drawing: Drawing,
     /// The bytes to be handed on next, with their colours.
-    held: Line,
+    held: LineBuffer,
     /// How many of these were handed on.
     from: usize,
     last: Shown,
@@ -41,7 +41,7 @@ impl<W> Coloured<W> {
         Coloured {
             inner,
             drawing,
-            held: Line::new(),
+            held: LineBuffer::new(),
             from: 0,
             last: Shown::before(),
             is_full: false,
@@ -126,11 +126,11 @@ impl<W: Sink> Coloured<W> {
 }
 
 /// Bytes from the front of these with their colours, behind one that looks so; the last one of them, and how many they are.
-fn with_colours(drawing: Drawing, before: Shown, bytes: &[u8]) -> (Line, Shown, usize)
+fn with_colours(drawing: Drawing, before: Shown, bytes: &[u8]) -> (LineBuffer, Shown, usize)
     ensures bound { result.2 ≤ length bytes.now }
     ensures coloured { Colours result.0 (take result.2 bytes.now) }
 {
-    let mut line = Line::new();
+    let mut line = LineBuffer::new();
     line.push(code_of(before.look));
     let mut last = before;
     let mut count = 0;

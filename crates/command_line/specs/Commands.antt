@@ -18,7 +18,7 @@ use Rattle.command_line.specs.declared.commands.Command.{Command}
 use Rattle.command_line.specs.declared.commands.Crew.{Crew}
 use Rattle.command_line.specs.declared.commands.Task.{Task}
 use Rattle.command_line.specs.declared.commands.Task.TheVariants.{Run, Expand, Trace, Show, Check, Place, Work, Post, Explain}
-use Rattle.command_line.specs.declared.commands.View.{View}
+use Rattle.command_line.specs.declared.commands.ShowOptions.{ShowOptions}
 use Rattle.command_line.specs.declared.options.Placing.{Placing}
 
 -- whether a task tells the steps of a schedule
@@ -216,7 +216,7 @@ pub record IsPlacingOf (options : List Row) (placing : Placing) : Type 0 where
   pub why : SaysFlag (one_of (codes "WHY") options) placing.tells_why
 
 -- what a command's options say of a picture
-pub record IsViewOf (options : List Row) (view : View) : Type 0 where
+pub record IsViewOf (options : List Row) (view : ShowOptions) : Type 0 where
   pub width : SaysNumber (one_of (codes "WIDTH") options) 80 view.width
   pub first : SaysNumberIn 64 (one_of (codes "FROM") options) 1 view.from
   pub last : SaysNumberIn 64 (one_of (codes "TO") options) 0 view.to

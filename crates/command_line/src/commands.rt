@@ -46,7 +46,7 @@ pub enum Colours {
 
 /// What `show` shows.
 #[derive(Clone, Copy, Debug)]
-pub struct View {
+pub struct ShowOptions {
     /// How many columns a row has at most.
     pub width: u32,
     /// The first step.
@@ -77,7 +77,7 @@ pub enum Task {
     /// Tells each step of the schedule in it.
     Trace,
     /// Draws the run of the schedule in it, the timeline of the history, or what is found of a recorded one.
-    Show(View),
+    Show(ShowOptions),
     /// Judges the history in it.
     Check,
     /// Finds linearization points for the recorded history in it.

@@ -3,7 +3,7 @@ ghost use Rattle.std.specs.Prelude.{◌≡◌, codes};
 ghost use Rattle.clap.specs.Words.{first_of, found_of, one_of, rows_of, subcommand_rows_of};
 ghost use Rattle.command_line.specs.Commands.{colours_by, colours_named, kind_by, kind_named, AsksForCauses, IsCrewOf, IsPlacingOf, IsViewOf, SaysFlag, SaysNumber, SaysNumberIn};
 
-use crate::commands::{Colours, Crew, View};
+use crate::commands::{Colours, Crew, ShowOptions};
 use clap::ArgMatches;
 use line_table::Kind;
 use queue_kinds::QueueKind;
@@ -33,10 +33,10 @@ pub struct Placing {
 }
 
 /// What is shown, among the options of `show`.
-pub(crate) fn view_in(options: &ArgMatches<'_>) -> View
+pub(crate) fn view_in(options: &ArgMatches<'_>) -> ShowOptions
     ensures { IsViewOf (rows_of (found_of options.now)) result }
 {
-    View {
+    ShowOptions {
         width: number_in(options, "WIDTH", USUAL_WIDTH),
         from: wide_number_in(options, "FROM", USUAL_FROM),
         to: wide_number_in(options, "TO", 0),

@@ -13,7 +13,7 @@ use Rattle.line_table.specs.declared.lines.Line.TheVariants.{F1, F2, F3, D2, B1}
 use Rattle.history.specs.declared.operations.Op.TheVariants.{Deq}
 use Rattle.history.specs.declared.operations.Reply.{Reply}
 use Rattle.history.specs.declared.refusals.Refusal.TheVariants.{Busy}
-use Rattle.node_arena.specs.Machine.{Setup, Held, Actor, Outcome as MachineOutcome, World, IsFree, IsSetAside, dequeues, from_pocket, raised, one_if}
+use Rattle.node_arena.specs.Machine.{Setup, Held, Actor, Outcome, World, IsFree, IsSetAside, dequeues, from_pocket, raised, one_if}
 use Rattle.node_arena.specs.Machine.{aside_after, sets_aside, freed, empties_hand, goes, busy_or, to_pocket}
 use Rattle.node_arena.specs.Prologues.{Prologue, continues, at_rest, out_of, gave_up, after_prologue}
 use Rattle.node_arena.specs.Arenas.{Arena}
@@ -26,8 +26,8 @@ use Rattle.node_arena.proofs.Noting.{none_due}
 use Rattle.node_arena.proofs.Paths.{added_is, ends_failed, kept_seat, now_kept, event, after, to_is, failed_last, now_holds}
 use Rattle.node_arena.proofs.Known.{by_known, empty_before}
 use Rattle.node_arena.proofs.Told.{was_in_range, actor_was_in_range, first_is_free, raised_names}
-use Rattle.arena_lines.specs.declared.outcomes.Outcome.{Outcome}
-use Rattle.arena_lines.specs.declared.outcomes.Outcome.TheVariants.{Goes, Ends}
+use Rattle.arena_lines.specs.declared.outcomes.RowOutcome.{RowOutcome}
+use Rattle.arena_lines.specs.declared.outcomes.RowOutcome.TheVariants.{Goes, Ends}
 use Rattle.arena_lines.specs.declared.outcomes.Reply.TheVariants.{Done}
 use Rattle.arena_lines.proofs.Registers.{same_registers}
 use Rattle.free_list.specs.Registers.{Running}
@@ -94,10 +94,10 @@ module _ {T : Type 0} (r : Arena) (s t : Seat T) (prologue : Prologue) (a : Runn
   b = after_prologue r.plan.setup (view s).number prologue (view s).actor
 
   -- F1
-  abbrev first : (now : ℕ) → Ref → Bool → Option Reply → MachineOutcome
+  abbrev first : (now : ℕ) → Ref → Bool → Option Reply → Outcome
   first now top p due = if p then sets_aside (freed r.plan.setup.kind now due (record b { top = top })) else goes F2 (record b { top = top })
 
-  pub after_f1 : (h : Held) (out : Outcome Running) → StartsGive r s prologue h → in_hand a ≡ h → Follows r s t prologue F1 a out → Sets r s t h out
+  pub after_f1 : (h : Held) (out : RowOutcome Running) → StartsGive r s prologue h → in_hand a ≡ h → Follows r s t prologue F1 a out → Sets r s t h out
   after_f1 h out st e f = subst (Sets r s t h) (sym f.leads_to) (go (nat_eq (ref_of r.plan.setup.bits f.found).count r.plan.setup.limit) refl)
     where
       free : ref_of r.plan.setup.bits f.found ≡ f.did.told.was.world.shared.free
@@ -145,10 +145,10 @@ module _ {T : Type 0} (r : Arena) (s t : Seat T) (prologue : Prologue) (a : Runn
       }
 
   -- F3
-  abbrev third : (now : ℕ) → Bool → Option Reply → MachineOutcome
+  abbrev third : (now : ℕ) → Bool → Option Reply → Outcome
   third now p due = if p then freed r.plan.setup.kind now due (empties_hand b) else goes F1 b
 
-  pub after_f3 : (out : Outcome Running) → CallIsAt r s prologue F3 a → Follows r s t prologue F3 a out → GiveTurns r s t 0 (in_hand a) (gave_of out)
+  pub after_f3 : (out : RowOutcome Running) → CallIsAt r s prologue F3 a → Follows r s t prologue F3 a out → GiveTurns r s t 0 (in_hand a) (gave_of out)
   after_f3 out h f = subst (λ o. GiveTurns r s t 0 (in_hand a) (gave_of o)) (sym f.leads_to) (go (same_ref (ref_of r.plan.setup.bits f.found) a.top) refl)
     where
       same : (p : Bool) → same_ref (ref_of r.plan.setup.bits f.found) a.top ≡ p → same_ref f.did.told.was.world.shared.free b.top ≡ p

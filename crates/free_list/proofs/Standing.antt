@@ -12,7 +12,7 @@ use Rattle.history.specs.declared.refusals.WornWord.TheVariants.{Free as OfFree}
 use Rattle.history.specs.declared.refusals.Refusal.{Refusal}
 use Rattle.history.specs.declared.refusals.Refusal.TheVariants.{NoNode, WornOut}
 use Rattle.history.specs.declared.operations.Reply.TheVariants.{Refused}
-use Rattle.node_arena.specs.Machine.{Actor, Outcome as MachineOutcome, entry_or, with_node, goes, ends, worn, fills_hand, IsFree}
+use Rattle.node_arena.specs.Machine.{Actor, Outcome, entry_or, with_node, goes, ends, worn, fills_hand, IsFree}
 use Rattle.node_arena.specs.Traces.{Event, outcome_at}
 use Rattle.node_arena.specs.Prologues.{Prologue, continues, after_prologue}
 use Rattle.node_arena.specs.Arenas.{Arena}
@@ -23,8 +23,8 @@ use Rattle.node_arena.proofs.Paths.{no_walk, event, to_is, ended_at, stopped_at,
 use Rattle.node_arena.proofs.Known.{by_known, empty_before}
 use Rattle.node_arena.proofs.Told.{first_is_free}
 use Rattle.node_arena.proofs.Tracing.{traced_reached}
-use Rattle.arena_lines.specs.declared.outcomes.Outcome.{Outcome}
-use Rattle.arena_lines.specs.declared.outcomes.Outcome.TheVariants.{Goes, Ends}
+use Rattle.arena_lines.specs.declared.outcomes.RowOutcome.{RowOutcome}
+use Rattle.arena_lines.specs.declared.outcomes.RowOutcome.TheVariants.{Goes, Ends}
 use Rattle.arena_lines.specs.declared.outcomes.Reply.TheVariants.{Refused as IsRefused}
 use Rattle.arena_lines.proofs.Registers.{same_registers}
 use Rattle.free_list.specs.declared.outcomes.Turn.TheVariants.{Took, Failed}
@@ -51,11 +51,11 @@ module _ {T : Type 0} (r : Arena) (s t : Seat T) (prologue : Prologue) where
   b = after_prologue r.plan.setup (view s).number prologue (view s).actor
 
   -- the actor after a step with this outcome
-  pub settled_as : (l : Line) (n : ℕ) (d : DidStep r s t prologue l n) (o : MachineOutcome)
+  pub settled_as : (l : Line) (n : ℕ) (d : DidStep r s t prologue l n) (o : Outcome)
       → outcome_at r.plan.setup d.told.was (view s).number b l ≡ o → (x : Option ℕ) × ((view t).actor ≡ record o.actor { entry = x })
   settled_as l n d o e = (
     Some (entry_or b.entry (length d.told.was.world.operations)),
-    d.told.actor ∙ ap (λ (p : MachineOutcome). record p.actor { entry = Some (entry_or b.entry (length d.told.was.world.operations)) }) e,
+    d.told.actor ∙ ap (λ (p : Outcome). record p.actor { entry = Some (entry_or b.entry (length d.told.was.world.operations)) }) e,
   )
 
   -- a turn ends at N4 or N5
@@ -109,14 +109,14 @@ module _ {T : Type 0} (r : Arena) (s t : Seat T) (prologue : Prologue) where
         }
 
     -- N2
-    abbrev second_outcome : (now : ℕ) → Ref → (p q u : Bool) → MachineOutcome
+    abbrev second_outcome : (now : ℕ) → Ref → (p q u : Bool) → Outcome
     second_outcome now top p q u =
         if p
         then if q then goes N5 (record b { top = top }) else ends now (Refused NoNode) (record b { top = top })
         else if u then worn now OfFree (record b { top = top })
         else goes N3 (record b { top = top })
 
-    abbrev second : Ref → (p q u : Bool) → Outcome Running
+    abbrev second : Ref → (p q u : Bool) → RowOutcome Running
     second top p q u =
         if p
         then if q then Goes N5 (record a { top = top }) else Ends (IsRefused NoNode)
@@ -130,10 +130,10 @@ module _ {T : Type 0} (r : Arena) (s t : Seat T) (prologue : Prologue) where
       abbrev free : Ref
       free = d.told.was.world.shared.free
 
-      abbrev here : MachineOutcome
+      abbrev here : Outcome
       here = outcome_at r.plan.setup d.told.was (view s).number b N2
 
-      on : (l : Line) (o : MachineOutcome) → here ≡ o → o.actor.line ≡ Some l → ((c : Actor) (x : Option ℕ) → c ≡ record o.actor { entry = x }
+      on : (l : Line) (o : Outcome) → here ≡ o → o.actor.line ≡ Some l → ((c : Actor) (x : Option ℕ) → c ≡ record o.actor { entry = x }
           → AgreesAt l c (record a { top = free })) → GoesTo r s t l (record a { top = free })
       on l o e line knows =
           let z = settled_as N2 n d o e in
@@ -170,7 +170,7 @@ module _ {T : Type 0} (r : Arena) (s t : Seat T) (prologue : Prologue) where
           (looked (is_null free) (nat_lt a.f r.plan.setup.size) (nat_eq free.count r.plan.setup.limit)
           (ap (λ k. second_outcome now free (is_null free) (nat_lt k r.plan.setup.size) (nat_eq free.count r.plan.setup.limit)) h.knows))
 
-    pub after_n2 : (out : Outcome Running) → CallIsAt r s prologue N2 a → Follows r s t prologue N2 a out → Looks r s t out
+    pub after_n2 : (out : RowOutcome Running) → CallIsAt r s prologue N2 a → Follows r s t prologue N2 a out → Looks r s t out
     after_n2 out h f = subst (Looks r s t) (sym f.leads_to) (looks f.found f.did h)
 
     -- N3
@@ -187,10 +187,10 @@ module _ {T : Type 0} (r : Arena) (s t : Seat T) (prologue : Prologue) where
         }
 
     -- N4
-    abbrev fourth : Bool → MachineOutcome
+    abbrev fourth : Bool → Outcome
     fourth p = if p then goes (with_node r.plan.setup.kind) (fills_hand b.top.node b.next.count b) else goes N1 b
 
-    pub after_n4 : (out : Outcome Running) → CallIsAt r s prologue N4 a → Follows r s t prologue N4 a out → Turns r s t 0 (turn_of out)
+    pub after_n4 : (out : RowOutcome Running) → CallIsAt r s prologue N4 a → Follows r s t prologue N4 a out → Turns r s t 0 (turn_of out)
     after_n4 out h f = subst (λ o. Turns r s t 0 (turn_of o)) (sym f.leads_to) (go (same_ref (ref_of r.plan.setup.bits f.found) a.top) refl)
       where
         same : (p : Bool) → same_ref (ref_of r.plan.setup.bits f.found) a.top ≡ p → same_ref f.did.told.was.world.shared.free b.top ≡ p
@@ -218,10 +218,10 @@ module _ {T : Type 0} (r : Arena) (s t : Seat T) (prologue : Prologue) where
         go false e = fell N4 f.found f.did (refl, tt, refl) (λ o. refl) (ap (λ c. c.line) (settled_as N4 f.found f.did (fourth false) (ap fourth (same false e))).1)
 
     -- N5
-    abbrev fifth : Bool → MachineOutcome
+    abbrev fifth : Bool → Outcome
     fifth p = if p then goes (with_node r.plan.setup.kind) (fills_hand (b.f + 1) 0 b) else goes N1 b
 
-    pub after_n5 : (out : Outcome Running) → CallIsAt r s prologue N5 a → Follows r s t prologue N5 a out → Turns r s t 0 (turn_of out)
+    pub after_n5 : (out : RowOutcome Running) → CallIsAt r s prologue N5 a → Follows r s t prologue N5 a out → Turns r s t 0 (turn_of out)
     after_n5 out h f = subst (λ o. Turns r s t 0 (turn_of o)) (sym f.leads_to) (go (nat_eq f.found a.f) refl)
       where
         same : (p : Bool) → nat_eq f.found a.f ≡ p → nat_eq f.did.told.was.world.shared.fresh b.f ≡ p

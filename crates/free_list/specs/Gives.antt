@@ -11,8 +11,8 @@ use Rattle.node_arena.specs.declared.seats.Seat.{Seat}
 use Rattle.node_arena.specs.Seats.{IsSeat, IsReady, KeepsName, KeepsSlots, view, pocket_of, failed_of}
 use Rattle.node_arena.specs.Turns.{failed_turns}
 use Rattle.node_arena.specs.Paths.{HadNoEffect, SeesNoMore, added, FailedAt, NowHolds, EndsFailed}
-use Rattle.arena_lines.specs.declared.outcomes.Outcome.{Outcome}
-use Rattle.arena_lines.specs.declared.outcomes.Outcome.TheVariants.{Goes, Ends}
+use Rattle.arena_lines.specs.declared.outcomes.RowOutcome.{RowOutcome}
+use Rattle.arena_lines.specs.declared.outcomes.RowOutcome.TheVariants.{Goes, Ends}
 use Rattle.free_list.specs.Registers.{Running}
 use Rattle.free_list.specs.declared.outcomes.Gave.{Gave}
 use Rattle.free_list.specs.declared.outcomes.Gave.TheVariants.{Back, Again}
@@ -50,7 +50,7 @@ pub record GiveTurns {T : Type 0} (r : Arena) (s t : Seat T) (n : ℕ) (h : Held
   pub turned : GiveTurned r t way.lines h out
 
 -- after F1 the call stands before F2, with its node, or the node left the hand
-abbrev pub Sets : {T : Type 0} → Arena → Seat T → Seat T → Held → Outcome Running → Type 0
+abbrev pub Sets : {T : Type 0} → Arena → Seat T → Seat T → Held → RowOutcome Running → Type 0
 Sets r s t h (Goes F2 a) = GoesTo r s t F2 a × (in_hand a ≡ h)
 Sets r s t h (Goes l a) = ⊥
 Sets r s t h (Ends reply) = GiveTurns r s t 0 h Back

@@ -15,8 +15,8 @@ use Rattle.node_arena.specs.Seats.{IsBefore, IsReady, KeepsStored, KeepsName, Ke
 use Rattle.node_arena.specs.Turns.{failed_turns}
 use Rattle.node_arena.specs.Paths.{Passes, HadNoEffect, SeesNoMore, added}
 use Rattle.arena_lines.specs.declared.outcomes.Reply.TheVariants.{Done, Refused as IsRefused}
-use Rattle.arena_lines.specs.declared.outcomes.Outcome.{Outcome}
-use Rattle.arena_lines.specs.declared.outcomes.Outcome.TheVariants.{Goes, Ends}
+use Rattle.arena_lines.specs.declared.outcomes.RowOutcome.{RowOutcome}
+use Rattle.arena_lines.specs.declared.outcomes.RowOutcome.TheVariants.{Goes, Ends}
 use Rattle.free_list.specs.Registers.{Running}
 use Rattle.free_list.specs.declared.outcomes.Turn.{Turn}
 use Rattle.free_list.specs.declared.outcomes.Turn.TheVariants.{Took, Failed, Refused}
@@ -34,7 +34,7 @@ giving zero = begins Deq
 giving (suc n) = continues
 
 -- what a running call makes of the number found at a line
-abbrev pub follow : Setup → Running → Line → ℕ → Outcome Running
+abbrev pub follow : Setup → Running → Line → ℕ → RowOutcome Running
 follow z a N1 n = Goes N2 (record a { f = n })
 follow z a N2 n =
     let b = record a { top = ref_of z.bits n } in
@@ -56,14 +56,14 @@ abbrev pub in_hand : Running → Held
 in_hand a = record { node = a.node; mark = a.mark }
 
 -- the turn of a take that ends so: it failed where it is back at N1, and else has its node
-abbrev pub turn_of : Outcome Running → Turn
+abbrev pub turn_of : RowOutcome Running → Turn
 turn_of (Goes N1 a) = Failed
 turn_of (Goes l a) = Took (in_hand a)
 turn_of (Ends (IsRefused refusal)) = Refused refusal
 turn_of (Ends reply) = Failed
 
 -- the turn of a give back that ends so
-abbrev pub gave_of : Outcome Running → Gave
+abbrev pub gave_of : RowOutcome Running → Gave
 gave_of (Goes l a) = Again
 gave_of (Ends reply) = Back
 
@@ -95,7 +95,7 @@ pub record StartsGive {T : Type 0} (r : Arena) (s : Seat T) (prologue : Prologue
   pub frees : Frees (after_prologue r.plan.setup (view s).number prologue (view s).actor) h
 
 -- the seat made its step at a line, and the call made of the number found what the line says
-pub record Follows {T : Type 0} (r : Arena) (s t : Seat T) (prologue : Prologue) (l : Line) (a : Running) (out : Outcome Running) : Type 0 where
+pub record Follows {T : Type 0} (r : Arena) (s t : Seat T) (prologue : Prologue) (l : Line) (a : Running) (out : RowOutcome Running) : Type 0 where
   pub found : ℕ
   pub did : DidStep r s t prologue l found
   pub leads_to : out ≡ follow r.plan.setup a l found

@@ -12,8 +12,8 @@ use Rattle.node_arena.specs.declared.seats.Seat.{Seat}
 use Rattle.node_arena.specs.Seats.{IsSeat, IsBefore, view, pocket_of, failed_of}
 use Rattle.node_arena.specs.Turns.{failed_turns}
 use Rattle.node_arena.specs.Paths.{added, EndedAt, FailedAt, LastHeld, NowHolds, IsRefusedAt, MetCause, EndsFailed, IsSole}
-use Rattle.arena_lines.specs.declared.outcomes.Outcome.{Outcome}
-use Rattle.arena_lines.specs.declared.outcomes.Outcome.TheVariants.{Goes, Ends}
+use Rattle.arena_lines.specs.declared.outcomes.RowOutcome.{RowOutcome}
+use Rattle.arena_lines.specs.declared.outcomes.RowOutcome.TheVariants.{Goes, Ends}
 use Rattle.free_list.specs.Registers.{Running}
 use Rattle.free_list.specs.declared.outcomes.Turn.{Turn}
 use Rattle.free_list.specs.declared.outcomes.Turn.TheVariants.{Took, Failed, Refused}
@@ -85,7 +85,7 @@ pub record Turns {T : Type 0} (r : Arena) (s t : Seat T) (n : ℕ) (out : Turn) 
   pub turned : Turned r s t way.lines out
 
 -- after N2 the call stands before N3 or N5, or its turn ends
-abbrev pub Looks : {T : Type 0} → Arena → Seat T → Seat T → Outcome Running → Type 0
+abbrev pub Looks : {T : Type 0} → Arena → Seat T → Seat T → RowOutcome Running → Type 0
 Looks r s t (Goes N3 a) = GoesTo r s t N3 a
 Looks r s t (Goes N5 a) = GoesTo r s t N5 a
 Looks r s t (Goes l a) = ⊥

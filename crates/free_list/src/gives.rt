@@ -10,7 +10,7 @@ ghost use Rattle.free_list.specs.Runs.{CallIsAt, Follows, GoesTo, StartsGive, gi
 ghost use Rattle.free_list.specs.Gives.{Sets, GiveTurns, GiveAnswers, IsGivenBack, GiveBackRefused};
 
 use crate::outcomes::{ActorOf, Gave, given, registers};
-use arena_lines::{Outcome, access, first_row, frees, frees_aside, goes, onward, row};
+use arena_lines::{RowOutcome, access, first_row, frees, frees_aside, goes, onward, row};
 use counted_ref::CountedRefOf;
 use history::Refusal;
 use line_table::{Line, line_table};
@@ -22,7 +22,7 @@ fn f1<const B: u32, T>(
     seat: &mut Seat<T>,
     held: Held,
     index: u32,
-) -> Outcome<ActorOf<B>>
+) -> RowOutcome<ActorOf<B>>
     requires stands { StartsGive arena.now seat.old (giving index) held }
     ensures { Sets arena.now seat.old seat.new held result }
 {
@@ -45,7 +45,7 @@ fn f3<const B: u32, T>(
     arena: &ArenaOf<B, T>,
     seat: &mut Seat<T>,
     a: ActorOf<B>,
-) -> Outcome<ActorOf<B>>
+) -> RowOutcome<ActorOf<B>>
     requires stands { CallIsAt arena.now seat.old continues lines.F3 a }
     ensures { Follows arena.now seat.old seat.new continues lines.F3 a.entry result }
 {
@@ -64,11 +64,11 @@ fn give_turn<const B: u32, T>(
     ensures { GiveTurns arena.now seat.old seat.new 0 held result }
 {
     match f1(arena, seat, held, index) {
-        Outcome::Goes(_, a) => {
+        RowOutcome::Goes(_, a) => {
             let a = f2(arena, seat, a);
             given(f3(arena, seat, a))
         }
-        Outcome::Ends(_) => Gave::Back,
+        RowOutcome::Ends(_) => Gave::Back,
     }
 }
 

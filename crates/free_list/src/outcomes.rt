@@ -2,7 +2,7 @@
 ghost use Rattle.std.specs.Prelude.{◌≡◌};
 ghost use Rattle.free_list.specs.Runs.{in_hand, turn_of, gave_of};
 
-use arena_lines::{Outcome, Reply};
+use arena_lines::{RowOutcome, Reply};
 use counted_ref::CountedRefOf;
 use history::Refusal;
 use line_table::Line;
@@ -73,26 +73,26 @@ impl<const B: u32> ActorOf<B> {
 }
 
 /// The turn of a take that ends so.
-pub(crate) fn turned<const B: u32>(outcome: Outcome<ActorOf<B>>) -> Turn
+pub(crate) fn turned<const B: u32>(outcome: RowOutcome<ActorOf<B>>) -> Turn
     ensures { result ≡ turn_of outcome.entry }
 {
     match outcome {
-        Outcome::Goes(Line::N1, _) => Turn::Failed,
-        Outcome::Goes(_, a) => Turn::Took(Held {
+        RowOutcome::Goes(Line::N1, _) => Turn::Failed,
+        RowOutcome::Goes(_, a) => Turn::Took(Held {
             node: a.node,
             mark: a.mark,
         }),
-        Outcome::Ends(Reply::Refused(refusal)) => Turn::Refused(refusal),
-        Outcome::Ends(_) => Turn::Failed,
+        RowOutcome::Ends(Reply::Refused(refusal)) => Turn::Refused(refusal),
+        RowOutcome::Ends(_) => Turn::Failed,
     }
 }
 
 /// The turn of a give back that ends so.
-pub(crate) fn given<const B: u32>(outcome: Outcome<ActorOf<B>>) -> Gave
+pub(crate) fn given<const B: u32>(outcome: RowOutcome<ActorOf<B>>) -> Gave
     ensures { result ≡ gave_of outcome.entry }
 {
     match outcome {
-        Outcome::Ends(_) => Gave::Back,
-        Outcome::Goes(..) => Gave::Again,
+        RowOutcome::Ends(_) => Gave::Back,
+        RowOutcome::Goes(..) => Gave::Again,
     }
 }

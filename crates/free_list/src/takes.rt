@@ -10,7 +10,7 @@ ghost use Rattle.free_list.specs.Runs.{CallIsAt, Follows, GoesTo, taking};
 ghost use Rattle.free_list.specs.Takes.{Looks, Turns, AnswersTake, IsTaken, TakeRefused, FailsFewer};
 
 use crate::outcomes::{ActorOf, Turn, registers, turned};
-use arena_lines::{Outcome, Reply, access, ends, first_row, goes, onward, row, with_node, worn};
+use arena_lines::{RowOutcome, Reply, access, ends, first_row, goes, onward, row, with_node, worn};
 use history::{Refusal, WornWord};
 use line_table::{Line, line_table};
 use node_arena::{ArenaOf, Held, Seat, raised_unless_shut as raised};
@@ -29,7 +29,7 @@ fn n2<const B: u32, T>(
     arena: &ArenaOf<B, T>,
     seat: &mut Seat<T>,
     mut a: ActorOf<B>,
-) -> Outcome<ActorOf<B>>
+) -> RowOutcome<ActorOf<B>>
     requires stands { CallIsAt arena.now seat.old continues lines.N2 a }
     ensures { Looks arena.now seat.old seat.new result }
 {
@@ -49,7 +49,7 @@ fn n4<const B: u32, T>(
     arena: &ArenaOf<B, T>,
     seat: &mut Seat<T>,
     mut a: ActorOf<B>,
-) -> Outcome<ActorOf<B>>
+) -> RowOutcome<ActorOf<B>>
     requires stands { CallIsAt arena.now seat.old continues lines.N4 a }
     ensures { Follows arena.now seat.old seat.new continues lines.N4 a.entry result }
 {
@@ -61,7 +61,7 @@ fn n5<const B: u32, T>(
     arena: &ArenaOf<B, T>,
     seat: &mut Seat<T>,
     mut a: ActorOf<B>,
-) -> Outcome<ActorOf<B>>
+) -> RowOutcome<ActorOf<B>>
     requires stands { CallIsAt arena.now seat.old continues lines.N5 a }
     ensures { Follows arena.now seat.old seat.new continues lines.N5 a.entry result }
 {
@@ -76,14 +76,14 @@ fn take_turn<const B: u32, T>(arena: &ArenaOf<B, T>, seat: &mut Seat<T>, index: 
 {
     let a = n1(arena, seat, index);
     match n2(arena, seat, a) {
-        Outcome::Goes(next, a) => match next {
+        RowOutcome::Goes(next, a) => match next {
             Line::N5 => turned(n5(arena, seat, a)),
             _ => {
                 let a = n3(arena, seat, a);
                 turned(n4(arena, seat, a))
             }
         },
-        Outcome::Ends(reply) => turned::<B>(Outcome::Ends(reply)),
+        RowOutcome::Ends(reply) => turned::<B>(RowOutcome::Ends(reply)),
     }
 }
 

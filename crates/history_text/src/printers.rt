@@ -5,7 +5,7 @@ ghost use Rattle.history_text.specs.HistoryText.{call_text, step_text, refusal_t
 ghost use Rattle.history_text.specs.HistoryText.{operation_text, header_text, history_text};
 
 use history::{Op, Refusal, Reply, Stamped, WornWord};
-use text_io::{Block, LINE_ROOM, Line, Sink};
+use text_io::{Block, LINE_ROOM, LineBuffer, Sink};
 
 /// Writes the text of a history: a line with the number of its operations, then a line for each, in
 /// the order of the list.
@@ -26,10 +26,10 @@ pub fn print_history<W: Sink>(history: &[Stamped], writer: &mut W) -> Result<(),
 }
 
 #[tactic(auto, unfolding(crate::specs::HistoryText::header_text))]
-fn header_line(count: u64) -> Line
+fn header_line(count: u64) -> LineBuffer
     ensures { result ≡ header_text count }
 {
-    let mut line = Line::new();
+    let mut line = LineBuffer::new();
     line.push(b"history ");
     line.push_number(count);
     line.push(b"\n");
@@ -37,10 +37,10 @@ fn header_line(count: u64) -> Line
 }
 
 #[tactic(auto, unfolding(crate::specs::HistoryText::operation_text))]
-fn operation_line(operation: &Stamped) -> Line
+fn operation_line(operation: &Stamped) -> LineBuffer
     ensures { result ≡ operation_text operation.now }
 {
-    let mut line = Line::new();
+    let mut line = LineBuffer::new();
     line.push_number(u64::from(operation.actor));
     line.push(b" ");
     push_call(&mut line, operation.op);
@@ -57,7 +57,7 @@ fn operation_line(operation: &Stamped) -> Line
 }
 
 /// Puts a call at the end of a line: `enq` and its body, `deq`, or `shut`. It takes no memory.
-pub fn push_call(line: &mut Line, op: Op)
+pub fn push_call(line: &mut LineBuffer, op: Op)
     requires { length line.old + 24 ≤ LINE_ROOM }
     ensures text { line.new ≡ line.old ++ call_text op }
     ensures short { length line.new ≤ length line.old + 24 }
@@ -72,7 +72,7 @@ pub fn push_call(line: &mut Line, op: Op)
     }
 }
 
-fn push_step(line: &mut Line, step: Option<u64>)
+fn push_step(line: &mut LineBuffer, step: Option<u64>)
     requires { length line.old + 20 ≤ LINE_ROOM }
     ensures text { line.new ≡ line.old ++ step_text step }
     ensures short { length line.new ≤ length line.old + 20 }
@@ -85,7 +85,7 @@ fn push_step(line: &mut Line, step: Option<u64>)
 
 /// Puts a reply at the end of a line, or a dash where there is none: a value with its pusher and its
 /// body, a refusal with its number and a worn word's name. It takes no memory.
-pub fn push_reply(line: &mut Line, reply: Option<Reply>)
+pub fn push_reply(line: &mut LineBuffer, reply: Option<Reply>)
     requires { length line.old + 47 ≤ LINE_ROOM }
     ensures text { line.new ≡ line.old ++ reply_text reply }
     ensures short { length line.new ≤ length line.old + 47 }

@@ -6,7 +6,7 @@ use Rattle.job_results.specs.declared.jobs.Job.{Job}
 use Rattle.node_arena.specs.Seats.{known_of}
 use Rattle.any_queue.specs.Any.{AnyQueue, IsAnySeat}
 use Rattle.ring_queue.specs.declared.queue.RingQueue.{RingQueue}
-use Rattle.ring_queue.specs.Queues.{IsQueueSeat}
+use Rattle.ring_queue.specs.Queues.{IsNumberSeat}
 use Rattle.ring_queue.specs.Seats.{known_of as ring_known_of}
 use Rattle.either_queue.specs.declared.either.EitherQueue.{EitherQueue}
 use Rattle.either_queue.specs.declared.either.EitherQueue.TheVariants.{First, Second}
@@ -25,7 +25,7 @@ pub record IsOver {Q S : Type 0} (is_seat : Q → S → Type 0) (known : S → K
 -- the same of a queue of either kind
 abbrev pub WereOver : (workers jobs : ℕ) → EitherQueue AnyQueue (RingQueue (Unit {0})) → CrewSeats → Type 0
 WereOver workers jobs (First q) (Linked seats) = IsOver IsAnySeat known_of q workers jobs seats.items
-WereOver workers jobs (Second q) (Ring seats) = IsOver IsQueueSeat ring_known_of q workers jobs seats.items
+WereOver workers jobs (Second q) (Ring seats) = IsOver IsNumberSeat ring_known_of q workers jobs seats.items
 WereOver workers jobs q seats = ⊥
 
 -- known bytes were the text of jobs, and these went over a queue

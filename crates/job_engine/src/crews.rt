@@ -10,7 +10,7 @@ ghost use Rattle.dispatcher.specs.Workers.{IsTaker, IsGiver, StopsWorkers};
 ghost use Rattle.dispatcher.specs.Goings.{WentOver};
 ghost use Rattle.any_queue.specs.Any.{IsAnySeat};
 ghost use Rattle.node_arena.specs.Seats.{known_of};
-ghost use Rattle.ring_queue.specs.Queues.{IsQueueSeat};
+ghost use Rattle.ring_queue.specs.Queues.{IsNumberSeat};
 ghost use Rattle.ring_queue.specs.Seats.{known_of as ring_known_of};
 ghost use Rattle.job_engine.specs.Crews.{crew_roles, ring_crew_roles, crew_plan, IsCrew, IsCrewRing, IsCrewQueue};
 ghost use Rattle.job_engine.specs.Overs.{IsOver, WereOver};
@@ -153,7 +153,7 @@ fn results_by_ring<'a, R: Threads + Wait + Sync>(
     requires few { length jobs.now ≤ 1000000 }
     ensures rows { IfOk result (λ r. map row_of r.0.results.items ≡ job_rows 1 jobs.now) }
     ensures went { IfOk result
-        (λ r. IsOver IsQueueSeat ring_known_of r.1 workers (length jobs.now) r.0.seats.items) }
+        (λ r. IsOver IsNumberSeat ring_known_of r.1 workers (length jobs.now) r.0.seats.items) }
     ensures over { IfOk result (λ r. IsCrewRing values workers r.1) }
     ensures refusal { IfErr result StopsWorkers }
 {

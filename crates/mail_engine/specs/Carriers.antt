@@ -20,7 +20,7 @@ use Rattle.queue_kinds.specs.declared.kinds.QueueKind.{QueueKind}
 use Rattle.queue_kinds.specs.declared.kinds.QueueKind.TheVariants.{Linked, Ring}
 use Rattle.ring_queue.specs.declared.queue.RingQueue.{RingQueue}
 use Rattle.ring_queue.specs.declared.seats.Seat.{Seat as RingSeat}
-use Rattle.ring_queue.specs.Queues.{IsQueueSeat as IsRingSeat, permits_in}
+use Rattle.ring_queue.specs.Queues.{IsNumberSeat, permits_in}
 use Rattle.ring_queue.specs.Seats.{known_of as ring_known}
 use Rattle.mail_engine.specs.Posts.{said_by, IsTextOf}
 
@@ -48,7 +48,7 @@ pub record Carried (kind : Kind) (senders : ℕ) (letters : List SaidLetter) (ar
 pub record RingCarried (senders : ℕ) (letters : List SaidLetter) (queue : RingQueue (Unit {0})) (seat : RingSeat (Unit {0})) : Type 0 where
   pub seats : List (RingSeat (Unit {0}))
   pub made : IsMailRing (length letters + senders + 2) senders queue seats
-  pub carried : CarriedBy IsRingSeat permits_in ring_known senders letters queue seat
+  pub carried : CarriedBy IsNumberSeat permits_in ring_known senders letters queue seat
 
 -- a queue of the kind asked for was made for these letters of so many senders, and its receiver's seat carried them
 abbrev pub CarriedIn : QueueKind → (senders : ℕ) → List SaidLetter → Carrier → Type 0

@@ -14,7 +14,7 @@ use Rattle.ring_queue.specs.declared.queue.RingQueue.{RingQueue}
 use Rattle.ring_queue.specs.declared.roles.Role.{Role as RingRole}
 use Rattle.ring_queue.specs.declared.roles.Role.TheVariants as ring
 use Rattle.ring_queue.specs.declared.seats.Seat.{Seat as RingSeat}
-use Rattle.ring_queue.specs.NewRings.{IsMade, NewRefused as RingRefused}
+use Rattle.ring_queue.specs.NewRings.{IsMade, RingRefused}
 use Rattle.node_arena.specs.NewArenas.{plan, NewRefused}
 use Rattle.mailbox.specs.Openings.{CanSend, CanReceive}
 

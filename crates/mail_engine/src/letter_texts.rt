@@ -6,7 +6,7 @@ ghost use Rattle.mail_engine.specs.Posts.{count_text, sender_text, letter_text, 
 
 use history::Refusal;
 use mailbox::Letter;
-use text_io::{Block, Line, Sink};
+use text_io::{Block, LineBuffer, Sink};
 
 /// Writes how many letters there are, and a line for each: by rising sender, those of one sender in their order.
 ///
@@ -65,7 +65,7 @@ fn put_letters<W: Sink>(
     Ok(())
 }
 
-// Puts the line of a letter. It is longer than a `Line` may be, so it goes in three parts.
+// Puts the line of a letter. It is longer than a `LineBuffer` may be, so it goes in three parts.
 fn put_letter<W: Sink>(block: &mut Block, writer: &mut W, letter: Letter) -> Result<(), Refusal>
     ensures { Puts (W.state writer.old) (W.state writer.new)
         (block.old ++ letter_text letter.entry) block.new result }
@@ -76,10 +76,10 @@ fn put_letter<W: Sink>(block: &mut Block, writer: &mut W, letter: Letter) -> Res
 }
 
 #[tactic(auto, unfolding(crate::specs::Posts::count_text))]
-fn count_line(count: usize) -> Line
+fn count_line(count: usize) -> LineBuffer
     ensures { result ≡ count_text count }
 {
-    let mut line = Line::new();
+    let mut line = LineBuffer::new();
     line.push(b"letters ");
     line.push_number(count as u64);
     line.push(b"\n");
@@ -87,10 +87,10 @@ fn count_line(count: usize) -> Line
 }
 
 #[tactic(auto, unfolding(crate::specs::Posts::sender_text))]
-fn sender_part(from: u16) -> Line
+fn sender_part(from: u16) -> LineBuffer
     ensures { result ≡ sender_text from }
 {
-    let mut line = Line::new();
+    let mut line = LineBuffer::new();
     line.push_number(u64::from(from));
     line.push(b" ");
     line

@@ -4,7 +4,7 @@ ghost use Rattle.node_arena.specs.NewArenas.{plan};
 ghost use Rattle.node_arena.specs.Plans.{IsPlanned};
 ghost use Rattle.node_arena.specs.Seats.{known_of};
 ghost use Rattle.arena_queue.specs.Queues.{permits_of, IsQueueSeat, IsQueueMade};
-ghost use Rattle.ring_queue.specs.Queues.{IsQueueSeat as IsRingSeat, permits_in};
+ghost use Rattle.ring_queue.specs.Queues.{IsNumberSeat, permits_in};
 ghost use Rattle.ring_queue.specs.Seats.{known_of as ring_known};
 ghost use Rattle.mail_engine.specs.Rows.{giver_and_taker_roles, IsOpened, OpenRefused};
 ghost use Rattle.mail_engine.specs.Rows.{ring_roles, IsMailRing, OpenRingRefused};
@@ -64,7 +64,7 @@ pub fn mail_ring(
     //=   seats asked for; each sender may push, the receiver alone may pop, and all are new. It is refused by
     //=   `Memory`, or by `BadSize` only where a size is out of its range.
     ensures made { IfOk result (λ r. IsMailRing values senders r.0 (r.1.items ++ r.2 ∷ [])) }
-    ensures opened { IfOk result (λ r. IsOpened IsRingSeat permits_in ring_known
+    ensures opened { IfOk result (λ r. IsOpened IsNumberSeat permits_in ring_known
         senders r.0 r.1.items r.2) }
     ensures refused { IfErr result (OpenRingRefused values senders) }
 {

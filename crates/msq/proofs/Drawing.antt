@@ -7,7 +7,7 @@ use Rattle.std.specs.Io.KnownBytes.{Appends, Keeps}
 use Rattle.colours.specs.declared.coloured.Coloured.{Coloured}
 use Rattle.colours.specs.Plain.{plain}
 use Rattle.colours.specs.Colouring.{IsUnused, plain_of, state_of}
-use Rattle.command_line.specs.declared.commands.View.{View as Asked}
+use Rattle.command_line.specs.declared.commands.ShowOptions.{ShowOptions}
 use Rattle.show_engine.specs.declared.frames.Meaning.{Meaning}
 use Rattle.text_io.specs.Devices.{SinkState}
 use Rattle.msq.specs.declared.options.Frames.{Frames}
@@ -43,7 +43,7 @@ Appends-carried before (Some x) (Some y) None bytes same kept grown = absurd kep
 Appends-carried before (Some x) (Some y) (Some z) bytes same kept grown = subst (λ o. Appends o (Some z) bytes) (sym same) (kept ∙ grown)
 
 -- what was drawn to one sink, as another one has it that kept as much
-pub Draws-carried : (options : Asked) (frames : Frames) (meanings : List Meaning) (given : Option (List ℕ)) (before a b after : SinkState)
+pub Draws-carried : (options : ShowOptions) (frames : Frames) (meanings : List Meaning) (given : Option (List ℕ)) (before a b after : SinkState)
     → before.contents ≡ a.contents → Keeps b.contents after.contents → Draws options frames meanings given a b → Draws options frames meanings given before after
 Draws-carried options frames meanings given before a b after same kept d =
     let carried : (bytes : List ℕ) → Appends a.contents b.contents bytes → Appends before.contents after.contents bytes =

@@ -3,7 +3,7 @@ use Rattle.std.specs.Prelude.{◌≡◌, ℕ, Bool, List, [], Option, None, Some
 use Rattle.command_line.specs.declared.commands.Colours.{Colours}
 use Rattle.command_line.specs.declared.commands.Colours.TheVariants.{Auto, Always, Never}
 use Rattle.std.specs.Borrow.{Bor}
-use Rattle.command_line.specs.declared.commands.View.{View as Asked}
+use Rattle.command_line.specs.declared.commands.ShowOptions.{ShowOptions}
 use Rattle.text_io.specs.Devices.{SinkState}
 use Rattle.page_engine.specs.Pages.{WritesPage}
 use Rattle.page_engine.specs.Histories.{WritesHistoryPage}
@@ -19,7 +19,7 @@ use Rattle.place_engine.specs.Places.{TellsPlaces}
 use Rattle.place_engine.specs.HeldTexts.{TellsHolding}
 
 -- a view is the one of a run or of a history that options ask for, with these meanings where they ask for a legend
-pub record IsViewOf (options : Asked) (meanings : List Meaning) (view : View) : Type 0 where
+pub record IsViewOf (options : ShowOptions) (meanings : List Meaning) (view : View) : Type 0 where
   pub width : view.width ≡ options.width
   pub first : view.from ≡ options.from
   pub last : view.to ≡ options.to
@@ -33,13 +33,13 @@ colours_at Always is_usual = true
 colours_at Never is_usual = false
 
 -- whether what options ask for has colours, where they are usual or aren't: a page has none
-abbrev pub has_colours : Asked → (is_usual : Bool) → Bool
+abbrev pub has_colours : ShowOptions → (is_usual : Bool) → Bool
 has_colours options is_usual = if options.is_page then false else colours_at options.colours is_usual
 
 -- known bytes were the text of a history, if the options say so, or else of a schedule; its page in its frame was written, or its
 -- timeline or its picture of the view that they ask for, or what is found of a recorded history, if they say so. A page, or a picture
 -- of what is found, tells of a search of at most a million steps
-pub record Draws (options : Asked) (frames : Frames) (meanings : List Meaning) (given : Option (List ℕ)) (old new : SinkState) : Type 0 where
+pub record Draws (options : ShowOptions) (frames : Frames) (meanings : List Meaning) (given : Option (List ℕ)) (old new : SinkState) : Type 0 where
   pub view : View
   pub asked : IsViewOf options meanings view
   pub timeline : options.is_history ≡ true → options.is_page ≡ false → options.draws_reason ≡ false → WritesTimeline view given old new

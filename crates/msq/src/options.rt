@@ -14,7 +14,7 @@ ghost use Rattle.place_engine.specs.Places.{TellsPlaces};
 ghost use Rattle.msq.specs.Options.{Draws, PlacesBy, has_colours, held_texts};
 
 use colours::{Coloured, Drawing};
-use command_line::{Colours, Crew, Placing, View as Asked};
+use command_line::{Colours, Crew, Placing, ShowOptions};
 use engine_faults::Fault;
 use history::Refusal;
 use job_engine::{JobQueue, work_text};
@@ -40,7 +40,7 @@ pub(crate) struct Frames<'a> {
 }
 
 /// The meanings that are told behind a picture.
-fn legend_by<'a>(options: Asked, meanings: &'a [Meaning<'a>]) -> &'a [Meaning<'a>]
+fn legend_by<'a>(options: ShowOptions, meanings: &'a [Meaning<'a>]) -> &'a [Meaning<'a>]
     ensures { result.now ≡ (if options.has_legend then meanings.now else []) }
 {
     if options.has_legend { meanings } else { &[] }
@@ -50,7 +50,7 @@ fn legend_by<'a>(options: Asked, meanings: &'a [Meaning<'a>]) -> &'a [Meaning<'a
 /// these meanings of lines where they ask for a legend; or writes the page of a schedule or a history, in its frame.
 pub(crate) fn show_by<'a, S: Source, W: Sink>(
     alloc: Global,
-    options: Asked,
+    options: ShowOptions,
     frames: &Frames<'_>,
     meanings: &'a [Meaning<'a>],
     reader: &mut S,
@@ -87,7 +87,7 @@ pub(crate) fn show_by<'a, S: Source, W: Sink>(
 /// Writes the page of the schedule, or of the history, that a source gives, in its frame.
 fn page_by<S: Source, W: Sink>(
     alloc: Global,
-    options: Asked,
+    options: ShowOptions,
     frames: &Frames<'_>,
     reader: &mut S,
     writer: &mut W,
@@ -128,7 +128,7 @@ pub(crate) fn place_by<S: Source, W: Sink>(
 }
 
 /// Whether what is drawn has colours; usual is where it may have some. A page has none.
-pub(crate) fn wants_colours(options: Asked, is_usual: bool) -> bool
+pub(crate) fn wants_colours(options: ShowOptions, is_usual: bool) -> bool
     //= program/colours: `wants_colours` answers no for a page; else yes for `--color always`, no for `--color never`, and
     //=   without either whether colours are usual, as it is told.
     ensures { result ≡ has_colours options is_usual }
@@ -142,7 +142,7 @@ pub(crate) fn wants_colours(options: Asked, is_usual: bool) -> bool
 }
 
 /// What is drawn by the options of `show`.
-fn drawing_by(options: Asked) -> Drawing {
+fn drawing_by(options: ShowOptions) -> Drawing {
     match (options.draws_reason, options.is_history) {
         (true, _) => Drawing::Reason,
         (false, true) => Drawing::Timeline,
@@ -169,7 +169,7 @@ fn finished<W: Sink>(drawn: Result<(), Fault>, sink: &mut Coloured<W>) -> Result
 /// Draws with colours: a sink takes what `show_by` would write, with colours between the bytes. The sink comes back.
 pub(crate) fn show_coloured<'a, S: Source, W: Sink>(
     alloc: Global,
-    options: Asked,
+    options: ShowOptions,
     frames: &Frames<'_>,
     meanings: &'a [Meaning<'a>],
     reader: &mut S,

@@ -9,7 +9,7 @@ use Rattle.owned_seats.specs.declared.seats.OwnedSeat.{OwnedSeat}
 use Rattle.owned_seats.specs.Owned.{queue_of, seat_of}
 use Rattle.history.specs.declared.queues.Fifo.{Ghosts}
 use Rattle.any_queue.specs.Picked.{IsPickedSeat, PickedPushRefused, PickedPopRefused, PickedShutRefused}
-use Rattle.ring_queue.specs.Queues.{IsQueueSeat, push_causes, pop_causes, shut_causes}
+use Rattle.ring_queue.specs.Queues.{IsNumberSeat, push_causes, pop_causes, shut_causes}
 use Rattle.either_queue.specs.Either.{IsEitherSeat, EitherCause}
 use Rattle.msq_c.specs.declared.seat_blocks.SeatBlock.{SeatBlock}
 use Rattle.msq_c.specs.declared.troubles.Trouble.{Trouble}
@@ -19,7 +19,7 @@ use Rattle.msq_c.specs.Queues.{Queue, SeatOf, known_of, permits_of}
 -- what a queue of any kind names as a queue with seats
 abbrev pub fifo : Ghosts Queue SeatOf
 fifo = record {
-  is_seat = IsEitherSeat IsPickedSeat IsQueueSeat;
+  is_seat = IsEitherSeat IsPickedSeat IsNumberSeat;
   permits = permits_of;
   known = known_of;
   push_cause = EitherCause PickedPushRefused push_causes;

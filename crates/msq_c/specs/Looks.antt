@@ -10,8 +10,8 @@ use Rattle.arena_queue.specs.declared.left.Left.{Left}
 use Rattle.arena_queue.specs.Lefts.{HasLeft}
 use Rattle.any_queue.specs.declared.picked.PickedQueue.{PickedQueue}
 use Rattle.any_queue.specs.Picked.{picked_arena_of}
-use Rattle.ring_queue.specs.declared.lengths.Emptiness.{Emptiness as Found}
-use Rattle.ring_queue.specs.declared.lengths.Emptiness.TheVariants.{Empty, ShutEmpty, Holds, Moved, Unfilled}
+use Rattle.ring_queue.specs.declared.lengths.RingEmptiness.{RingEmptiness}
+use Rattle.ring_queue.specs.declared.lengths.RingEmptiness.TheVariants.{Empty, ShutEmpty, Holds, Moved, Unfilled}
 use Rattle.ring_queue.specs.Lengths as ring
 use Rattle.either_queue.specs.declared.either.EitherQueue.TheVariants.{First, Second}
 use Rattle.msq_c.specs.declared.bounds.MsqLen.{MsqLen}
@@ -25,7 +25,7 @@ use Rattle.msq_c.specs.Seats.{known_at, queue_at, KeepsHandle, NeedsHandle}
 
 -- the code of whether a queue is empty, which is that of a pop's answer there: 0 where it holds a value, 32 where it is empty, 16
 -- where it is shut too, 3 where others were popping, or the place at the front of a ring that is shut wasn't filled
-abbrev pub emptiness_code : Result Found Trouble → ℕ
+abbrev pub emptiness_code : Result RingEmptiness Trouble → ℕ
 emptiness_code (Ok Holds) = 0
 emptiness_code (Ok Empty) = 32
 emptiness_code (Ok ShutEmpty) = 16
@@ -40,14 +40,14 @@ len_code (Ok None) = 42
 len_code (Err refusal) = code_of refusal
 
 -- what a queue of nodes was found to be, as one of any kind
-abbrev pub widened : Emptiness → Found
+abbrev pub widened : Emptiness → RingEmptiness
 widened arena.Empty = Empty
 widened arena.ShutEmpty = ShutEmpty
 widened arena.Holds = Holds
 widened arena.Moved = Moved
 
 -- a queue tells whether it is empty, as its kind does
-abbrev pub TellsEmptiness : Queue → Known → Found → Known → Type 0
+abbrev pub TellsEmptiness : Queue → Known → RingEmptiness → Known → Type 0
 TellsEmptiness (First q) k told k' = (found : Emptiness) × (told ≡ widened found) × FoundSo k found k'
 TellsEmptiness (Second q) k told k' = ring.FoundSo q.plan k told k'
 

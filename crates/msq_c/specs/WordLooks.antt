@@ -9,7 +9,7 @@ use Rattle.node_arena.specs.Seats.{setup_of}
 use Rattle.value_queue.specs.Looks.{FoundSoOf, WasSoLongOf}
 use Rattle.any_values.specs.declared.any.AnyValues.{AnyValues}
 use Rattle.any_values.specs.Any.{arena_of}
-use Rattle.ring_queue.specs.declared.lengths.Emptiness.{Emptiness as Found}
+use Rattle.ring_queue.specs.declared.lengths.RingEmptiness.{RingEmptiness}
 use Rattle.msq_c.specs.declared.bounds.MsqLen.{MsqLen}
 use Rattle.msq_c.specs.declared.troubles.Trouble.{Trouble}
 use Rattle.msq_c.specs.declared.troubles.Trouble.TheVariants.{NoHandle}
@@ -19,7 +19,7 @@ use Rattle.msq_c.specs.WordSeats.{known_at, queue_at, KeepsHandle, NeedsHandle}
 
 module _ {T : Type 0} where
   -- a queue of words tells whether it is empty
-  abbrev pub TellsEmptiness : AnyValues T → KnownOf T → Found → KnownOf T → Type 0
+  abbrev pub TellsEmptiness : AnyValues T → KnownOf T → RingEmptiness → KnownOf T → Type 0
   TellsEmptiness q k told k' = (found : Emptiness) × (told ≡ widened found) × FoundSoOf k found k'
 
   -- a queue of words tells its length between two bounds, and none exactly where it is a two-lock one

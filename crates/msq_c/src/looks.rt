@@ -9,20 +9,20 @@ use crate::seat_blocks::{Queue, QueueSeat};
 use crate::troubles::{EMPTY, Trouble};
 use either_queue::{EitherQueue, EitherSeat};
 use history::Refusal;
-use node_arena::Emptiness as Found;
+use node_arena::Emptiness;
 use owned_seats::Look;
-use ring_queue::Emptiness;
+use ring_queue::RingEmptiness;
 use std::alloc::Global;
 
 /// What a queue of nodes was found to be, as one of any kind.
-pub(crate) fn widened(found: Found) -> Emptiness
+pub(crate) fn widened(found: Emptiness) -> RingEmptiness
     ensures { result ≡ looks.widened found }
 {
     match found {
-        Found::Empty => Emptiness::Empty,
-        Found::ShutEmpty => Emptiness::ShutEmpty,
-        Found::Holds => Emptiness::Holds,
-        Found::Moved => Emptiness::Moved,
+        Emptiness::Empty => RingEmptiness::Empty,
+        Emptiness::ShutEmpty => RingEmptiness::ShutEmpty,
+        Emptiness::Holds => RingEmptiness::Holds,
+        Emptiness::Moved => RingEmptiness::Moved,
     }
 }
 
@@ -30,11 +30,11 @@ pub(crate) fn widened(found: Found) -> Emptiness
 pub(crate) struct ForValues;
 
 impl Look<Queue> for ForValues {
-    type Told = Emptiness;
+    type Told = RingEmptiness;
 
     ghost tells = { TellsEmptiness };
 
-    fn look(queue: &Queue, seat: &mut QueueSeat) -> Emptiness {
+    fn look(queue: &Queue, seat: &mut QueueSeat) -> RingEmptiness {
         match (queue, seat) {
             (EitherQueue::First(queue), EitherSeat::First(seat)) => widened(queue.emptiness(seat)),
             (EitherQueue::Second(queue), EitherSeat::Second(seat)) => queue.emptiness(seat),
@@ -105,14 +105,16 @@ pub(crate) fn look<L: Look<Queue>>(alloc: Global, slot: &mut MsqSeat) -> Result<
 }
 
 /// The code of whether a queue is empty: that which a pop there is answered.
-pub(crate) fn code_of_emptiness(found: Result<Emptiness, Trouble>) -> u32
+pub(crate) fn code_of_emptiness(found: Result<RingEmptiness, Trouble>) -> u32
     ensures { result ≡ emptiness_code found }
 {
     match found {
-        Ok(Emptiness::Holds) => 0,
-        Ok(Emptiness::Empty) => EMPTY,
-        Ok(Emptiness::ShutEmpty) => Trouble::Refused(Refusal::Closed).code(),
-        Ok(Emptiness::Moved) | Ok(Emptiness::Unfilled) => Trouble::Refused(Refusal::Busy).code(),
+        Ok(RingEmptiness::Holds) => 0,
+        Ok(RingEmptiness::Empty) => EMPTY,
+        Ok(RingEmptiness::ShutEmpty) => Trouble::Refused(Refusal::Closed).code(),
+        Ok(RingEmptiness::Moved) | Ok(RingEmptiness::Unfilled) => Trouble::Refused(
+            Refusal::Busy,
+        ).code(),
         Err(refusal) => refusal.code(),
     }
 }

@@ -4,7 +4,7 @@ ghost use Rattle.std.specs.List.{All};
 ghost use Rattle.history.specs.Openings.{AreNew};
 ghost use Rattle.either_queue.specs.Either.{IsEitherSeat};
 ghost use Rattle.any_queue.specs.Picked.{IsPickedSeat};
-ghost use Rattle.ring_queue.specs.Queues.{IsQueueSeat};
+ghost use Rattle.ring_queue.specs.Queues.{IsNumberSeat};
 ghost use Rattle.msq_c.specs.Queues.{known_of, permits_of};
 ghost use Rattle.msq_c.specs.Ends.{AreEmpty, IsMemory};
 ghost use Rattle.msq_c.specs.Made as made;
@@ -187,7 +187,7 @@ fn new_linked(
     requires few { kind ≤ 1 }
     ensures new { IfOk result (λ r. IsNew kind nodes limit numbers.now r.0 r.1.items) }
     ensures seats { IfOk result
-        (λ r. All (IsEitherSeat IsPickedSeat IsQueueSeat r.0) r.1.items) }
+        (λ r. All (IsEitherSeat IsPickedSeat IsNumberSeat r.0) r.1.items) }
     ensures unused { IfOk result (λ r. AreNew (permits_of r.0) (map known_of r.1.items)) }
     ensures only_memory { IfErr result IsMemory }
 {
@@ -213,7 +213,7 @@ fn new_ring(
     requires { Asks 2 values limit numbers.now }
     ensures new { IfOk result (λ r. IsNew 2 values limit numbers.now r.0 r.1.items) }
     ensures seats { IfOk result
-        (λ r. All (IsEitherSeat IsPickedSeat IsQueueSeat r.0) r.1.items) }
+        (λ r. All (IsEitherSeat IsPickedSeat IsNumberSeat r.0) r.1.items) }
     ensures unused { IfOk result (λ r. AreNew (permits_of r.0) (map known_of r.1.items)) }
     ensures only_memory { IfErr result IsMemory }
 {
@@ -239,7 +239,7 @@ fn new_queue(
     requires { Asks kind nodes limit numbers.now }
     ensures new { IfOk result (λ r. IsNew kind nodes limit numbers.now r.0 r.1.items) }
     ensures seats { IfOk result
-        (λ r. All (IsEitherSeat IsPickedSeat IsQueueSeat r.0) r.1.items) }
+        (λ r. All (IsEitherSeat IsPickedSeat IsNumberSeat r.0) r.1.items) }
     ensures unused { IfOk result (λ r. AreNew (permits_of r.0) (map known_of r.1.items)) }
     ensures only_memory { IfErr result IsMemory }
 {

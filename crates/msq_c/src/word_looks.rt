@@ -9,18 +9,18 @@ use crate::word_blocks::WordsBlock;
 use any_values::AnyValues;
 use node_arena::Seat;
 use owned_values::Look;
-use ring_queue::Emptiness;
+use ring_queue::RingEmptiness;
 use std::alloc::Global;
 
 /// A look at whether the queue is empty.
 pub(crate) struct ForWords;
 
 impl<T: Send + Drop> Look<AnyValues<T>> for ForWords {
-    type Told = Emptiness;
+    type Told = RingEmptiness;
 
     ghost tells = { TellsEmptiness };
 
-    fn look(queue: &AnyValues<T>, seat: &mut Seat<T>) -> Emptiness {
+    fn look(queue: &AnyValues<T>, seat: &mut Seat<T>) -> RingEmptiness {
         widened(queue.emptiness(seat))
     }
 }
@@ -62,7 +62,7 @@ fn look<T: Send + Drop, L: Look<AnyValues<T>>, H: Slot<WordsBlock<AnyValues<T>>>
 pub(crate) fn emptiness<T: Send + Drop, H: Slot<WordsBlock<AnyValues<T>>>>(
     alloc: Global,
     slot: &mut H,
-) -> Result<Emptiness, Trouble>
+) -> Result<RingEmptiness, Trouble>
     ensures { AnswersLook H.holds H.own TellsEmptiness slot.old slot.new result }
 {
     look::<T, ForWords, H>(alloc, slot)

@@ -8,7 +8,7 @@ use Rattle.history.specs.declared.operations.Reply.TheVariants as reply
 use Rattle.history.specs.declared.refusals.Refusal.{Refusal}
 use Rattle.history.specs.declared.refusals.Refusal.TheVariants.{WornOut, Closed}
 use Rattle.history.specs.declared.refusals.WornWord.TheVariants.{Head as OfHead, Tail as OfTail}
-use Rattle.node_arena.specs.Machine.{Actor, Outcome as MachineOutcome, goes, ends, worn, closed, fills_hand}
+use Rattle.node_arena.specs.Machine.{Actor, Outcome, goes, ends, worn, closed, fills_hand}
 use Rattle.node_arena.specs.Traces.{outcome_at, entries_at}
 use Rattle.node_arena.specs.Prologues.{Prologue, continues, after_prologue}
 use Rattle.node_arena.specs.Arenas.{Arena}
@@ -19,8 +19,8 @@ use Rattle.node_arena.proofs.Paths.{settled, goes_on}
 use Rattle.node_arena.proofs.Told.{head_is_not_worn}
 use Rattle.nonblocking.specs.Values.{IsNonBlocking}
 use Rattle.node_arena.specs.Machine.{value_of}
-use Rattle.arena_lines.specs.declared.outcomes.Outcome.{Outcome}
-use Rattle.arena_lines.specs.declared.outcomes.Outcome.TheVariants.{Goes, Ends}
+use Rattle.arena_lines.specs.declared.outcomes.RowOutcome.{RowOutcome}
+use Rattle.arena_lines.specs.declared.outcomes.RowOutcome.TheVariants.{Goes, Ends}
 use Rattle.arena_lines.specs.declared.outcomes.Reply.TheVariants.{Empty as IsEmpty, Refused as IsRefused}
 use Rattle.nonblocking.specs.Pops.{Running, AgreesAt, CallIsAt}
 use Rattle.nonblocking.proofs.PopSteps.{ref_d2, ref_d3, ref_d4, ref_d5, value_d12, ref_d13}
@@ -34,17 +34,17 @@ module _ {T : Type 0} (r : Arena) (s t : Seat T) (prologue : Prologue) (n : ℕ)
   b = after_prologue r.plan.setup (view s).number prologue (view s).actor
 
   -- what the machine makes of the step
-  abbrev out_at : (l : Line) → DidStep r s t prologue l n → MachineOutcome
+  abbrev out_at : (l : Line) → DidStep r s t prologue l n → Outcome
   out_at l d = outcome_at r.plan.setup d.told.was (view s).number b l
 
   -- a step with this outcome leads on to a line
-  leads : (l : Line) (d : DidStep r s t prologue l n) (o : MachineOutcome) → out_at l d ≡ o → (k : Line) (c : Running) → o.actor.line ≡ Some k
+  leads : (l : Line) (d : DidStep r s t prologue l n) (o : Outcome) → out_at l d ≡ o → (k : Line) (c : Running) → o.actor.line ≡ Some k
       → ((x : Option ℕ) → AgreesAt k (record o.actor { entry = x }) c) → CallIsAt r t continues k c
   leads l d o e k c line knows = record { before = goes_on r s t prologue l n d o e k line; knows = settled r s t prologue l n d o e (λ x. AgreesAt k x c) knows }
 
   -- a call that ends has an empty pocket, where its outcome keeps that of its actor
   over : (l : Line) → CallIsAt r s prologue l a → (after_prologue r.plan.setup (view s).number prologue (view s).actor).pocket ≡ None
-      → (d : DidStep r s t prologue l n) (o : MachineOutcome) → out_at l d ≡ o → o.actor.line ≡ None → o.actor.pocket ≡ b.pocket
+      → (d : DidStep r s t prologue l n) (o : Outcome) → out_at l d ≡ o → o.actor.line ≡ None → o.actor.pocket ≡ b.pocket
       → ((view t).actor.line ≡ None) × ((view t).actor.pocket ≡ None)
   over l h none d o e line pocket = settled r s t prologue l n d o e (λ x. (x.line ≡ None) × (x.pocket ≡ None)) (λ x. (line, pocket ∙ none))
 
@@ -82,7 +82,7 @@ module _ {T : Type 0} (r : Arena) (s t : Seat T) (prologue : Prologue) (n : ℕ)
     pub empty : (view t).actor.pocket ≡ None
     pub replies : (out_at D5 d).reply ≡ Some (reply.Refused Closed)
 
-  abbrev pub Fifth : DidStep r s t prologue D5 n → Outcome Running → Type 0
+  abbrev pub Fifth : DidStep r s t prologue D5 n → RowOutcome Running → Type 0
   Fifth d (Goes D2 c) = On d D2 c
   Fifth d (Goes D10 c) = On d D10 c
   Fifth d (Goes D12 c) = On d D12 c
@@ -92,13 +92,13 @@ module _ {T : Type 0} (r : Arena) (s t : Seat T) (prologue : Prologue) (n : ℕ)
   Fifth d (Ends (IsRefused refusal)) = FoundWorn d refusal
   Fifth d (Ends reply) = ⊥
 
-  abbrev fifth_outcome : (now : ℕ) → (p q u c w : Bool) → MachineOutcome
+  abbrev fifth_outcome : (now : ℕ) → (p q u c w : Bool) → Outcome
   fifth_outcome now p q u c w =
       if p
       then if q then if u then ends now reply.Empty b else if c then closed now b else if w then worn now OfTail b else goes D10 b else goes D12 b
       else goes D2 b
 
-  abbrev fifth : (p q u c w : Bool) → Outcome Running
+  abbrev fifth : (p q u c w : Bool) → RowOutcome Running
   fifth p q u c w =
       if p
       then if q then if u then Ends IsEmpty else if c then Ends (IsRefused Closed) else if w then Ends (IsRefused (WornOut OfTail)) else Goes D10 a else Goes D12 a
@@ -150,7 +150,7 @@ module _ {T : Type 0} (r : Arena) (s t : Seat T) (prologue : Prologue) (n : ℕ)
   after_d10 h d = goes_on r s t prologue D10 n d (out_at D10 d) refl D2 refl
 
   module _ (h : CallIsAt r s prologue D12 a) (d : DidStep r s t prologue D12 n) where
-    abbrev twelfth : Bool → MachineOutcome
+    abbrev twelfth : Bool → Outcome
     twelfth p = let x = record b { val = value_of n } in if p then worn (d.told.was.world.steps + 1) OfHead x else goes D13 x
 
     twelfth_is : (p : Bool) → nat_eq a.head.count r.plan.setup.limit ≡ p → out_at D12 d ≡ twelfth p
@@ -180,7 +180,7 @@ module _ {T : Type 0} (r : Arena) (s t : Seat T) (prologue : Prologue) (n : ℕ)
     pub adds : entries_at r.plan.setup d.told.was (view s).number b D13 ≡ []
 
   module _ (h : CallIsAt r s prologue D13 a) (d : DidStep r s t prologue D13 n) where
-    abbrev thirteenth : Bool → MachineOutcome
+    abbrev thirteenth : Bool → Outcome
     thirteenth p = if p then record (goes F1 (fills_hand b.head.node b.next.count (record b { due = Some (reply.Value b.val) }))) { at = Some (d.told.was.world.steps + 1) } else goes D2 b
 
     same : (p : Bool) → same_ref (ref_of r.plan.setup.bits n) a.head ≡ p → same_ref d.told.was.world.shared.head b.head ≡ p

@@ -26,8 +26,8 @@ use Rattle.node_arena.proofs.Paths.{then_shut_empty, shut_empty_on, no_walk, wal
 use Rattle.node_arena.proofs.Paths.{stopped_behind, failed_behind, failed-append, event, walk_one, walk_on, act_on, stopped_at}
 use Rattle.nonblocking.specs.Values.{IsNonBlocking}
 use Rattle.node_arena.specs.Machine.{value_of}
-use Rattle.arena_lines.specs.declared.outcomes.Outcome.{Outcome}
-use Rattle.arena_lines.specs.declared.outcomes.Outcome.TheVariants.{Goes, Ends}
+use Rattle.arena_lines.specs.declared.outcomes.RowOutcome.{RowOutcome}
+use Rattle.arena_lines.specs.declared.outcomes.RowOutcome.TheVariants.{Goes, Ends}
 use Rattle.arena_lines.specs.declared.outcomes.Reply.TheVariants.{Done as IsDone, Value as IsValue, Empty as IsEmpty, Refused as IsRefused}
 use Rattle.nonblocking.specs.declared.pop_outcomes.Turn.{Turn}
 use Rattle.nonblocking.specs.declared.pop_outcomes.Turn.TheVariants as turn
@@ -63,7 +63,7 @@ module _ {T : Type 0} (r : Arena) (s t x : Seat T) (l : Line) (n : ℕ) (d : Did
       }
 
 -- the lines D2 to D5
-module _ {T : Type 0} (r : Arena) (s u t v x : Seat T) (prologue : Prologue) (a b c d : Running) (l k j : Line) (out : Outcome Running)
+module _ {T : Type 0} (r : Arena) (s u t v x : Seat T) (prologue : Prologue) (a b c d : Running) (l k j : Line) (out : RowOutcome Running)
     (h : IsBefore r s prologue D2) (f2 : Follows r s u prologue D2 a (Goes l b)) (f3 : Follows r u t continues D3 b (Goes k c))
     (f4 : Follows r t v continues D4 c (Goes j d)) (f5 : Follows r v x continues D5 d out) where
   abbrev two : Event
@@ -124,7 +124,7 @@ module _ {T : Type 0} (r : Arena) (s u t v x : Seat T) (prologue : Prologue) (a 
     },
   )
 
-  by_outcome : (o : Outcome Running) → Fifth r v x continues f5.found d f5.did o → ((view x).actor.pocket ≡ None) × Looked r s x (reads ++ five ∷ []) o
+  by_outcome : (o : RowOutcome Running) → Fifth r v x continues f5.found d f5.did o → ((view x).actor.pocket ≡ None) × Looked r s x (reads ++ five ∷ []) o
   by_outcome (Goes D2 e) f = (empty_before r x continues D2 f.stands.before, fell r s v x D5 f5.found f5.did reads walked refl refl (five_walk None f.quiet refl) f.stands.before)
   by_outcome (Goes D10 e) f = (empty_before r x continues D10 f.stands.before, record { stands = f.stands; walks = on_walk None f.quiet refl; never = counts (Some D10) f.stands.before.line })
   by_outcome (Goes D12 e) f = (empty_before r x continues D12 f.stands.before, record { stands = f.stands; walks = on_walk None f.quiet refl; never = counts (Some D12) f.stands.before.line })
@@ -166,7 +166,7 @@ module _ {T : Type 0} (r : Arena) (s u t v x : Seat T) (prologue : Prologue) (a 
       }
 
 -- Tail is moved, and the turn failed
-pub moves_tail : {T : Type 0} (r : Arena) (s t : Seat T) (a : Running) (out : Outcome Running) → CallIsAt r s continues D10 a → Follows r s t continues D10 a out → Turns r s t (turn_of out)
+pub moves_tail : {T : Type 0} (r : Arena) (s t : Seat T) (a : Running) (out : RowOutcome Running) → CallIsAt r s continues D10 a → Follows r s t continues D10 a out → Turns r s t (turn_of out)
 moves_tail r s t a out h f =
     let before : IsBefore r t continues D2 = after_d10 r s t continues f.found a h f.did in
     subst (λ o. Turns r s t (turn_of o)) (sym f.leads_to)
@@ -180,7 +180,7 @@ moves_tail r s t a out h f =
     }
 
 -- Head is never worn out at D12
-pub never_worn : {T : Type 0} (r : Arena) (s t : Seat T) (a : Running) (out : Outcome Running) → IsNonBlocking r → CallIsAt r s continues D12 a
+pub never_worn : {T : Type 0} (r : Arena) (s t : Seat T) (a : Running) (out : RowOutcome Running) → IsNonBlocking r → CallIsAt r s continues D12 a
     → Follows r s t continues D12 a out → ((l : Line) (b : Running) → out ≡ Goes l b → ⊥) → ⊥
 never_worn r s t a out kind h f other = go (nat_eq a.head.count r.plan.setup.limit) refl f.leads_to
   where
@@ -203,7 +203,7 @@ module _ {T : Type 0} (r : Arena) (s t : Seat T) (a b : Running) (l : Line) (h :
   read_walk : ExtendsPath (view s) (view t) (twelve ∷ [])
   read_walk = walk_on r s t continues D12 f.found f.did refl tt
 
-  pub moves_head : (x : Seat T) (out : Outcome Running) → Follows r t x continues D13 b out → Turns r s x (turn_of out)
+  pub moves_head : (x : Seat T) (out : RowOutcome Running) → Follows r t x continues D13 b out → Turns r s x (turn_of out)
   moves_head x out g =
       let all = go (same_ref (ref_of r.plan.setup.bits g.found) b.head) refl in
       record {

@@ -9,7 +9,7 @@ use Rattle.history.specs.declared.refusals.Refusal.{Refusal}
 use Rattle.history.specs.declared.refusals.Refusal.TheVariants.{WornOut, Closed}
 use Rattle.history.specs.declared.refusals.WornWord.{WornWord}
 use Rattle.history.specs.declared.refusals.WornWord.TheVariants.{Next as OfNext, Tail as OfTail}
-use Rattle.node_arena.specs.Machine.{Held, Actor, Outcome as MachineOutcome, node_at, goes, ends, worn, closed, empties_hand, sets_aside, to_pocket}
+use Rattle.node_arena.specs.Machine.{Held, Actor, Outcome, node_at, goes, ends, worn, closed, empties_hand, sets_aside, to_pocket}
 use Rattle.history.specs.declared.operations.Reply.TheVariants as reply
 use Rattle.node_arena.specs.Traces.{outcome_at, entries_at}
 use Rattle.node_arena.specs.Prologues.{Prologue, continues, after_prologue}
@@ -19,8 +19,8 @@ use Rattle.node_arena.specs.Seats.{DidStep, view}
 use Rattle.node_arena.proofs.Noting.{IsSilent}
 use Rattle.node_arena.proofs.Known.{empty_before}
 use Rattle.node_arena.proofs.Paths.{settled, goes_on}
-use Rattle.arena_lines.specs.declared.outcomes.Outcome.{Outcome}
-use Rattle.arena_lines.specs.declared.outcomes.Outcome.TheVariants.{Goes, Ends}
+use Rattle.arena_lines.specs.declared.outcomes.RowOutcome.{RowOutcome}
+use Rattle.arena_lines.specs.declared.outcomes.RowOutcome.TheVariants.{Goes, Ends}
 use Rattle.arena_lines.specs.declared.outcomes.Reply.TheVariants.{Done as IsDone, Refused as IsRefused}
 use Rattle.nonblocking.specs.Pushes.{Running, in_hand, follow, HasNode, AgreesAt, CallIsAt}
 use Rattle.nonblocking.proofs.PushSteps.{ref_e3, ref_e5, ref_e6, ref_e7, ref_e9}
@@ -30,11 +30,11 @@ module _ {T : Type 0} (r : Arena) (s t : Seat T) (prologue : Prologue) (l : Line
   b = after_prologue r.plan.setup (view s).number prologue (view s).actor
 
   -- what the machine makes of the step
-  abbrev out : MachineOutcome
+  abbrev out : Outcome
   out = outcome_at r.plan.setup d.told.was (view s).number b l
 
   -- a step with this outcome leads on to a line
-  leads : (o : MachineOutcome) → out ≡ o → (k : Line) (c : Running) → o.actor.line ≡ Some k → HasNode o.actor c
+  leads : (o : Outcome) → out ≡ o → (k : Line) (c : Running) → o.actor.line ≡ Some k → HasNode o.actor c
       → ((x : Option ℕ) → AgreesAt k (record o.actor { entry = x }) c) → CallIsAt r t continues k c
   leads o e k c line hand knows =
       record {
@@ -56,7 +56,7 @@ module _ {T : Type 0} (r : Arena) (s t : Seat T) (prologue : Prologue) (n : ℕ)
 
   -- a call that ends has an empty pocket, where its outcome keeps that of its actor
   over : (l : Line) → CallIsAt r s prologue l a → (after_prologue r.plan.setup (view s).number prologue (view s).actor).pocket ≡ None
-      → (d : DidStep r s t prologue l n) (o : MachineOutcome) → outcome_at r.plan.setup d.told.was (view s).number b1 l ≡ o → o.actor.line ≡ None
+      → (d : DidStep r s t prologue l n) (o : Outcome) → outcome_at r.plan.setup d.told.was (view s).number b1 l ≡ o → o.actor.line ≡ None
       → o.actor.pocket ≡ b1.pocket → ((view t).actor.line ≡ None) × ((view t).actor.pocket ≡ None)
   over l h none d o e line pocket = settled r s t prologue l n d o e (λ x. (x.line ≡ None) × (x.pocket ≡ None)) (λ x. (line, pocket ∙ none))
 
@@ -77,13 +77,13 @@ module _ {T : Type 0} (r : Arena) (s t : Seat T) (prologue : Prologue) (n : ℕ)
 
   -- E3: the node is ready, or its own next is worn out
   module _ (h : CallIsAt r s prologue E3 a) (d : DidStep r s t prologue E3 n) where
-    abbrev pub Third : Outcome Running → Type 0
+    abbrev pub Third : RowOutcome Running → Type 0
     Third (Goes E5 c) = CallIsAt r t continues E5 c × (c.node ≡ a.node) × (c.val ≡ a.val)
     Third (Goes l c) = ⊥
     Third (Ends (IsRefused refusal)) = Worn r s t prologue E3 n a h d None OfNext refusal
     Third (Ends reply) = ⊥
 
-    abbrev third : ℕ → Ref → Bool → MachineOutcome
+    abbrev third : ℕ → Ref → Bool → Outcome
     third now x p = let c = record b1 { mark = x.count } in if p then sets_aside (worn now OfNext c) else goes E5 c
 
     pub after_e3 : Third (follow r.plan.setup a E3 n)
@@ -118,7 +118,7 @@ module _ {T : Type 0} (r : Arena) (s t : Seat T) (prologue : Prologue) (n : ℕ)
       pub pocket : (view t).actor.pocket ≡ Some (in_hand a)
       pub replies : (outcome_at r.plan.setup d.told.was (view s).number b1 E7).reply ≡ Some (reply.Refused Closed)
 
-    abbrev pub Seventh : Outcome Running → Type 0
+    abbrev pub Seventh : RowOutcome Running → Type 0
     Seventh (Goes E9 c) = CallIsAt r t continues E9 c × (c ≡ a) × Quiet
     Seventh (Goes E13 c) = CallIsAt r t continues E13 c × (c ≡ a) × Quiet
     Seventh (Goes E5 c) = CallIsAt r t continues E5 c × (c ≡ a) × Quiet
@@ -127,10 +127,10 @@ module _ {T : Type 0} (r : Arena) (s t : Seat T) (prologue : Prologue) (n : ℕ)
     Seventh (Ends (IsRefused refusal)) = Worn r s t prologue E7 n a h d (Some (in_hand a)) OfTail refusal × Quiet
     Seventh (Ends reply) = ⊥
 
-    abbrev seventh : ℕ → (p q c u : Bool) → MachineOutcome
+    abbrev seventh : ℕ → (p q c u : Bool) → Outcome
     seventh now p q c u = if p then if q then goes E9 b1 else if c then closed now (to_pocket b1) else if u then worn now OfTail (to_pocket b1) else goes E13 b1 else goes E5 b1
 
-    abbrev leads_to : (p q c u : Bool) → Outcome Running
+    abbrev leads_to : (p q c u : Bool) → RowOutcome Running
     leads_to p q c u = if p then if q then Goes E9 a else if c then Ends (IsRefused Closed) else if u then Ends (IsRefused (WornOut OfTail)) else Goes E13 a else Goes E5 a
 
     pub after_e7 : Seventh (follow r.plan.setup a E7 n)
@@ -148,7 +148,7 @@ module _ {T : Type 0} (r : Arena) (s t : Seat T) (prologue : Prologue) (n : ℕ)
         on : (p q c u : Bool) → out r s t prologue E7 n a h d ≡ seventh now p q c u → IsSilent (seventh now p q c u).reply → (k : Line)
             → (seventh now p q c u).actor.line ≡ Some k → HasNode (seventh now p q c u).actor a
             → ((x : Option ℕ) → AgreesAt k (record (seventh now p q c u).actor { entry = x }) a) → CallIsAt r t continues k a × (a ≡ a) × Quiet
-        on p q c u e quiet k line hand knows = (leads r s t prologue E7 n a h d (seventh now p q c u) e k a line hand knows, refl, subst (λ (m : MachineOutcome). IsSilent m.reply) (sym e) quiet)
+        on p q c u e quiet k line hand knows = (leads r s t prologue E7 n a h d (seventh now p q c u) e k a line hand knows, refl, subst (λ (m : Outcome). IsSilent m.reply) (sym e) quiet)
 
         go : (p q c u : Bool) → same_ref (ref_of r.plan.setup.bits n) a.tail ≡ p → is_null a.next ≡ q → is_shut r.plan.setup.bits a.next ≡ c
             → nat_eq a.tail.count r.plan.setup.limit ≡ u → Seventh (leads_to p q c u)
@@ -162,7 +162,7 @@ module _ {T : Type 0} (r : Arena) (s t : Seat T) (prologue : Prologue) (n : ℕ)
             let e = o true false false true x y v w in
             let k = settled r s t prologue E7 n d (seventh now true false false true) e (λ c. (c.line ≡ None) × (c.pocket ≡ Some (in_hand a)))
             (λ z. (refl, λ i. Some (record { node = h.hand.node i; mark = h.hand.mark i }))) in
-            (record { over = k.0; pocket = k.1; is = refl; replies = ap (λ c. c.reply) e }, subst (λ (m : MachineOutcome). IsSilent m.reply) (sym e) tt)
+            (record { over = k.0; pocket = k.1; is = refl; replies = ap (λ c. c.reply) e }, subst (λ (m : Outcome). IsSilent m.reply) (sym e) tt)
         go true false false false x y v w = on true false false false (o true false false false x y v w) tt E13 refl h.hand (λ z. h.knows)
         go false q c u x y v w = on false q c u (o false q c u x y v w) tt E5 refl h.hand (λ z. tt)
 
@@ -174,19 +174,19 @@ module _ {T : Type 0} (r : Arena) (s t : Seat T) (prologue : Prologue) (n : ℕ)
     abbrev Lost : Type 0
     Lost = entries_at r.plan.setup d.told.was (view s).number b1 E9 ≡ []
 
-    abbrev pub Ninth : Outcome Running → Type 0
+    abbrev pub Ninth : RowOutcome Running → Type 0
     Ninth (Goes E17 c) = CallIsAt r t continues E17 c × Won
     Ninth (Goes E5 c) = CallIsAt r t continues E5 c × (c ≡ a) × Lost
     Ninth (Goes l c) = ⊥
     Ninth (Ends IsDone) = ((view t).actor.line ≡ None) × ((view t).actor.pocket ≡ None) × Won
     Ninth (Ends reply) = ⊥
 
-    abbrev ninth : ℕ → (p u : Bool) → MachineOutcome
+    abbrev ninth : ℕ → (p u : Bool) → Outcome
     ninth now p u =
         let c = empties_hand (record b1 { due = Some reply.Done }) in
         if p then record (if u then ends now reply.Done c else goes E17 c) { at = Some now } else goes E5 b1
 
-    abbrev gone : (p u : Bool) → Outcome Running
+    abbrev gone : (p u : Bool) → RowOutcome Running
     gone p u = if p then if u then Ends IsDone else Goes E17 (record a { due = Some IsDone }) else Goes E5 a
 
     pub after_e9 : Ninth (follow r.plan.setup a E9 n)

@@ -20,8 +20,8 @@ use Rattle.node_arena.proofs.Loads.{kept_slots, kept_gives, then_gives}
 use Rattle.node_arena.proofs.Paths.{walk_then, then_act, then_stored, then_slots, added_is, added_path, failed-append, failed_behind, stopped_behind, then_shut, last_held, kept_seat, ends_failed}
 use Rattle.nonblocking.specs.Values.{IsNonBlocking}
 use Rattle.node_arena.specs.Machine.{value_of}
-use Rattle.arena_lines.specs.declared.outcomes.Outcome.{Outcome}
-use Rattle.arena_lines.specs.declared.outcomes.Outcome.TheVariants.{Goes, Ends}
+use Rattle.arena_lines.specs.declared.outcomes.RowOutcome.{RowOutcome}
+use Rattle.arena_lines.specs.declared.outcomes.RowOutcome.TheVariants.{Goes, Ends}
 use Rattle.arena_lines.specs.declared.outcomes.Reply.{Reply}
 use Rattle.arena_lines.specs.declared.outcomes.Reply.TheVariants.{Done as IsDone, Value as IsValue, Empty as IsEmpty, Refused as IsRefused}
 use Rattle.nonblocking.specs.declared.push_outcomes.Turn.{Turn}
@@ -65,7 +65,7 @@ pushes_out r s h from body val a is i full kind small same word = subst (λ (x :
         }
 
 -- the node's own next is worn out
-pub fill_worn : {T : Type 0} (r : Arena) (s t : Seat T) (a : Running) (out : Outcome Running) (refusal : Refusal) (node body spent turns : ℕ)
+pub fill_worn : {T : Type 0} (r : Arena) (s t : Seat T) (a : Running) (out : RowOutcome Running) (refusal : Refusal) (node body spent turns : ℕ)
     → out ≡ Ends (IsRefused refusal) → Fills r s t a out → PushesWithNode push_worn r s (keeping t None spent) node body spent turns (Err refusal)
 fill_worn r s t a out refusal node body spent turns is f =
     let k : FoundWorn r s t None f.lines OfNext refusal = subst (Filled r s t a f.lines) is f.filled in
@@ -83,7 +83,7 @@ fill_worn r s t a out refusal node body spent turns is f =
     }
 
 -- E2 and E3 end in no other way
-pub fill_ends : {T : Type 0} (r : Arena) (s t : Seat T) (a : Running) (out : Outcome Running) (answer : Reply) → out ≡ Ends answer
+pub fill_ends : {T : Type 0} (r : Arena) (s t : Seat T) (a : Running) (out : RowOutcome Running) (answer : Reply) → out ≡ Ends answer
     → ((refusal : Refusal) → answer ≡ IsRefused refusal → ⊥) → Fills r s t a out → ⊥
 fill_ends r s t a out answer is other f = go answer other (subst (Filled r s t a f.lines) is f.filled)
   where
@@ -94,7 +94,7 @@ fill_ends r s t a out answer is other f = go answer other (subst (Filled r s t a
     go (IsRefused refusal) other k = absurd (other refusal refl)
 
 -- the node is ready
-module _ {T : Type 0} (r : Arena) (s t : Seat T) (a : Running) (out : Outcome Running) (l : Line) (c : Running) (is : out ≡ Goes l c) (f : Fills r s t a out) where
+module _ {T : Type 0} (r : Arena) (s t : Seat T) (a : Running) (out : RowOutcome Running) (l : Line) (c : Running) (is : out ≡ Goes l c) (f : Fills r s t a out) where
   ready_at : (l : Line) → Filled r s t a f.lines (Goes l c) → CallIsAt r t continues E5 c × (c.node ≡ a.node) × (c.val ≡ a.val) × (failed_turns f.lines ≡ 0)
   ready_at E5 k = k
   ready_at _ k = absurd k

@@ -23,8 +23,8 @@ use Rattle.node_arena.proofs.Paths.{then_shut, event, walk_on, walk_silent, shut
 use Rattle.node_arena.specs.Loads.{GivesSlot}
 use Rattle.node_arena.proofs.Loads.{gives_slot, gives_then, then_gives}
 use Rattle.node_arena.specs.Machine.{value_of}
-use Rattle.arena_lines.specs.declared.outcomes.Outcome.{Outcome}
-use Rattle.arena_lines.specs.declared.outcomes.Outcome.TheVariants.{Goes, Ends}
+use Rattle.arena_lines.specs.declared.outcomes.RowOutcome.{RowOutcome}
+use Rattle.arena_lines.specs.declared.outcomes.RowOutcome.TheVariants.{Goes, Ends}
 use Rattle.arena_lines.specs.declared.outcomes.Reply.{Reply}
 use Rattle.arena_lines.specs.declared.outcomes.Reply.TheVariants.{Done as IsDone, Value as IsValue, Empty as IsEmpty, Refused as IsRefused}
 use Rattle.nonblocking.specs.declared.push_outcomes.Turn.{Turn}
@@ -55,7 +55,7 @@ module _ {T : Type 0} (r : Arena) (s u t : Seat T) (l : Line) (n : ℕ) (a : Run
       }
 
 -- E2 and E3
-module _ {T : Type 0} (r : Arena) (s u t : Seat T) (prologue : Prologue) (l : Line) (a b : Running) (out : Outcome Running)
+module _ {T : Type 0} (r : Arena) (s u t : Seat T) (prologue : Prologue) (l : Line) (a b : Running) (out : RowOutcome Running)
     (h : CallIsAt r s prologue E2 a) (f : Follows r s u prologue E2 a (Goes l b)) (g : Follows r u t continues E3 b out) where
   abbrev one : Event
   one = event r s u prologue E2 f.found f.did
@@ -69,7 +69,7 @@ module _ {T : Type 0} (r : Arena) (s u t : Seat T) (prologue : Prologue) (l : Li
   at : CallIsAt r u continues E3 b × (b ≡ a)
   at = to_e3 r s u prologue l a b h f
 
-  filled : (o : Outcome Running) → Third r u t continues g.found b at.0 g.did o → Filled r s t a (one ∷ two ∷ []) o
+  filled : (o : RowOutcome Running) → Third r u t continues g.found b at.0 g.did o → Filled r s t a (one ∷ two ∷ []) o
   filled (Goes E5 c) k = (k.0, k.1 ∙ ap (λ (x : Running). x.node) at.1, k.2 ∙ ap (λ (x : Running). x.val) at.1, refl)
   filled (Goes _ c) k = absurd k
   filled (Ends IsDone) k = absurd k
@@ -121,7 +121,7 @@ module _ {T : Type 0} (r : Arena) (s t : Seat T) (l : Line) (n : ℕ) (d : DidSt
       }
 
 -- E5 to E7
-module _ {T : Type 0} (r : Arena) (s u v t : Seat T) (l k : Line) (a b c : Running) (out : Outcome Running) (h : CallIsAt r s continues E5 a)
+module _ {T : Type 0} (r : Arena) (s u v t : Seat T) (l k : Line) (a b c : Running) (out : RowOutcome Running) (h : CallIsAt r s continues E5 a)
     (f : Follows r s u continues E5 a (Goes l b)) (g : Follows r u v continues E6 b (Goes k c)) (m : Follows r v t continues E7 c out) where
   abbrev five : Event
   five = event r s u continues E5 f.found f.did
@@ -174,7 +174,7 @@ module _ {T : Type 0} (r : Arena) (s u v t : Seat T) (l k : Line) (a b c : Runni
       })
   worn_or _ y = (three_lines y.1, worn_at _ y.0)
 
-  looked : (o : Outcome Running) → Seventh r v t continues m.found c at7.0 m.did o → Looked r s t a (before ++ seven ∷ []) o
+  looked : (o : RowOutcome Running) → Seventh r v t continues m.found c at7.0 m.did o → Looked r s t a (before ++ seven ∷ []) o
   looked (Goes E9 x) y = (three_lines y.2, record { stands = y.0; hand = ap in_hand y.1 ∙ hand; val = ap (λ (z : Running). z.val) y.1 ∙ val; never = counts (Some E9) y.0.before.line })
   looked (Goes E13 x) y = (three_lines y.2, record { stands = y.0; hand = ap in_hand y.1 ∙ hand; val = ap (λ (z : Running). z.val) y.1 ∙ val; never = counts (Some E13) y.0.before.line })
   looked (Goes E5 x) y = (three_lines y.2, slips r v t E7 m.found m.did before refl refl a (stands_e5 r t a x (ap in_hand y.1 ∙ hand) (ap (λ (z : Running). z.val) y.1 ∙ val) y.0))
@@ -195,14 +195,14 @@ module _ {T : Type 0} (r : Arena) (s u v t : Seat T) (l k : Line) (a b c : Runni
       }
 
 -- E9, and E17 where it is to be made
-module _ {T : Type 0} (r : Arena) (s t : Seat T) (a : Running) (out : Outcome Running) (h : CallIsAt r s continues E9 a) (f : Follows r s t continues E9 a out) where
+module _ {T : Type 0} (r : Arena) (s t : Seat T) (a : Running) (out : RowOutcome Running) (h : CallIsAt r s continues E9 a) (f : Follows r s t continues E9 a out) where
   abbrev nine : Event
   nine = event r s t continues E9 f.found f.did
 
   ninth : Ninth r s t continues f.found a h f.did out
   ninth = subst (Ninth r s t continues f.found a h f.did) (sym f.leads_to) (after_e9 r s t continues f.found a h f.did)
 
-  at_ninth : (o : Outcome Running) → out ≡ o → Ninth r s t continues f.found a h f.did o
+  at_ninth : (o : RowOutcome Running) → out ≡ o → Ninth r s t continues f.found a h f.did o
   at_ninth o e = subst (Ninth r s t continues f.found a h f.did) e ninth
 
   acts : entries_at r.plan.setup f.did.told.was (view s).number (view s).actor E9 ≡ Push (view s).number (view s).actor.val.body ∷ []
@@ -251,7 +251,7 @@ module _ {T : Type 0} (r : Arena) (s t : Seat T) (a : Running) (out : Outcome Ru
   to_e17 l b e is = (at_ninth (Goes E17 b) (e ∙ ap (λ k. Goes k b) is)).0
 
   -- it was won, and E17 was made
-  pub links : (u : Seat T) (l : Line) (b : Running) (last : Outcome Running) → out ≡ Goes l b → l ≡ E17 → Follows r t u continues E17 b last → Turns r s u a Pushed
+  pub links : (u : Seat T) (l : Line) (b : Running) (last : RowOutcome Running) → out ≡ Goes l b → l ≡ E17 → Follows r t u continues E17 b last → Turns r s u a Pushed
   links u l b last e is g =
       let k = at_ninth (Goes E17 b) (e ∙ ap (λ k. Goes k b) is) in
       let over = after_e17 r t u continues g.found b k.0 g.did in
@@ -270,8 +270,8 @@ module _ {T : Type 0} (r : Arena) (s t : Seat T) (a : Running) (out : Outcome Ru
       }
 
 -- a whole turn
-module _ {T : Type 0} (r : Arena) (s t : Seat T) (a : Running) (out : Outcome Running) (f : Looks r s t a out) where
-  looked_as : (o : Outcome Running) → out ≡ o → Looked r s t a f.lines o
+module _ {T : Type 0} (r : Arena) (s t : Seat T) (a : Running) (out : RowOutcome Running) (f : Looks r s t a out) where
+  looked_as : (o : RowOutcome Running) → out ≡ o → Looked r s t a f.lines o
   looked_as o e = subst (Looked r s t a f.lines) e f.looked
 
   -- it comes to E9
@@ -290,7 +290,7 @@ module _ {T : Type 0} (r : Arena) (s t : Seat T) (a : Running) (out : Outcome Ru
   turn_ended (IsRefused refusal) other e = absurd (other refusal refl)
 
   -- Tail was swung
-  pub turn_swings : (u : Seat T) (l : Line) (c : Running) (last : Outcome Running) → out ≡ Goes l c → l ≡ E13 → Follows r t u continues E13 c last → Turns r s u a Failed
+  pub turn_swings : (u : Seat T) (l : Line) (c : Running) (last : RowOutcome Running) → out ≡ Goes l c → l ≡ E13 → Follows r t u continues E13 c last → Turns r s u a Failed
   turn_swings u l c last e is g =
       let both = looked_as (Goes E13 c) (e ∙ ap (λ k. Goes k c) is) in
       let k = both.1 in

@@ -15,7 +15,7 @@ use Rattle.node_arena.specs.Paths.{ExtendsPath, FindsShut, StopsAPush, Acts, add
 use Rattle.node_arena.proofs.Paths.{no_walk, walk_then, then_act, then_stored, no_slots, then_slots, then_shut, added_is, added_path, last_held}
 use Rattle.node_arena.proofs.Paths.{ends_failed, stopped_behind, failed-append, failed_behind, kept_seat}
 use Rattle.node_arena.proofs.Loads.{kept_slots}
-use Rattle.arena_queue.specs.Answers.{ShutRefused, AnswersShut}
+use Rattle.arena_queue.specs.Answers.{ShutCaused, AnswersShut}
 use Rattle.nonblocking.specs.Values.{IsNonBlocking}
 use Rattle.nonblocking.specs.declared.shut_outcomes.Turn.TheVariants as turn
 use Rattle.nonblocking.specs.Shuts.{HasPocket, SawWorn, Stops, Turns, Trying}
@@ -113,18 +113,18 @@ module _ {T : Type 0} (r : Arena) (s t x : Seat T) (p : Option Held) (n turns : 
       over Closed k = k.over
       over _ k = k.over
 
-      by_cause : (refusal : Refusal) → Stops r t x d.lines refusal → StopsAPush s (keeping x p n) refusal × ShutRefused shut_worn r s (keeping x p n) turns refusal
+      by_cause : (refusal : Refusal) → Stops r t x d.lines refusal → StopsAPush s (keeping x p n) refusal × ShutCaused shut_worn r s (keeping x p n) turns refusal
       by_cause Closed k =
           let finds : FindsShut (view s) (view x) es = then_shut (view s) (view t) (view x) g.lines d.lines g.walks k.finds in
           let e : added s x ≡ es = added_path s x es finds.path in
           (subst (FindsShut (view s) (view x)) (sym e) finds, last_held r s (keeping x p n) es _ e (stopped_behind r s t g.lines d.lines Closed g.walks k.cause))
       by_cause _ k = worn _ k
         where
-          worn : (refusal : Refusal) → SawWorn r t x d.lines refusal → StopsAPush s (keeping x p n) refusal × ShutRefused shut_worn r s (keeping x p n) turns refusal
+          worn : (refusal : Refusal) → SawWorn r t x d.lines refusal → StopsAPush s (keeping x p n) refusal × ShutCaused shut_worn r s (keeping x p n) turns refusal
           worn refusal k =
               let all : ExtendsPath (view s) (view x) es = walk_then (view s) (view t) (view x) g.lines d.lines g.walks k.walks in
               let e : added s x ≡ es = added_is s x es all in
-              subst (λ y. StopsAPush s (keeping x p n) y × ShutRefused shut_worn r s (keeping x p n) turns y) (sym k.is) (
+              subst (λ y. StopsAPush s (keeping x p n) y × ShutCaused shut_worn r s (keeping x p n) turns y) (sym k.is) (
                 subst (ExtendsPath (view s) (view x)) (sym e) all,
                 (last_held r s (keeping x p n) es _ e (stopped_behind r s t g.lines d.lines (WornOut OfTail) g.walks k.cause), tt),
               )

@@ -8,7 +8,7 @@ use Rattle.history.specs.declared.operations.Reply.TheVariants as reply
 use Rattle.history.specs.declared.refusals.Refusal.{Refusal}
 use Rattle.history.specs.declared.refusals.Refusal.TheVariants.{WornOut, Closed}
 use Rattle.history.specs.declared.refusals.WornWord.TheVariants.{Tail as OfTail}
-use Rattle.node_arena.specs.Machine.{Actor, Outcome as MachineOutcome, node_at, goes, ends, worn, closed}
+use Rattle.node_arena.specs.Machine.{Actor, Outcome, node_at, goes, ends, worn, closed}
 use Rattle.node_arena.specs.Traces.{outcome_at, entries_at}
 use Rattle.node_arena.specs.Prologues.{Prologue, continues, after_prologue}
 use Rattle.node_arena.specs.Arenas.{Arena}
@@ -16,8 +16,8 @@ use Rattle.node_arena.specs.declared.seats.Seat.{Seat}
 use Rattle.node_arena.specs.Seats.{DidStep, view, pocket_of}
 use Rattle.node_arena.proofs.Noting.{IsSilent}
 use Rattle.node_arena.proofs.Paths.{settled, goes_on}
-use Rattle.arena_lines.specs.declared.outcomes.Outcome.{Outcome}
-use Rattle.arena_lines.specs.declared.outcomes.Outcome.TheVariants.{Goes, Ends}
+use Rattle.arena_lines.specs.declared.outcomes.RowOutcome.{RowOutcome}
+use Rattle.arena_lines.specs.declared.outcomes.RowOutcome.TheVariants.{Goes, Ends}
 use Rattle.arena_lines.specs.declared.outcomes.Reply.TheVariants.{Done as IsDone, Refused as IsRefused}
 use Rattle.nonblocking.specs.Shuts.{Running, follow, AgreesAt, HasPocket, CallIsAt}
 use Rattle.nonblocking.proofs.ShutSteps.{ref_s1, ref_s2, ref_s3, ref_s4}
@@ -27,15 +27,15 @@ module _ {T : Type 0} (r : Arena) (s t : Seat T) (prologue : Prologue) (n : ℕ)
   b = after_prologue r.plan.setup (view s).number prologue (view s).actor
 
   -- what the machine makes of the step
-  abbrev out_at : (l : Line) → DidStep r s t prologue l n → MachineOutcome
+  abbrev out_at : (l : Line) → DidStep r s t prologue l n → Outcome
   out_at l d = outcome_at r.plan.setup d.told.was (view s).number b l
 
   -- an outcome that leaves its actor's pocket alone
-  holds : (l : Line) → HasPocket r s prologue → (d : DidStep r s t prologue l n) (o : MachineOutcome) → out_at l d ≡ o → o.actor.pocket ≡ b.pocket → HasPocket r t continues
+  holds : (l : Line) → HasPocket r s prologue → (d : DidStep r s t prologue l n) (o : Outcome) → out_at l d ≡ o → o.actor.pocket ≡ b.pocket → HasPocket r t continues
   holds l h d o e same = settled r s t prologue l n d o e (λ x. x.pocket ≡ pocket_of t) (λ x. same ∙ h ∙ sym d.stored.pocket)
 
   -- a step with such an outcome leads on to a line
-  leads : (l : Line) → CallIsAt r s prologue l a → (d : DidStep r s t prologue l n) (o : MachineOutcome) → out_at l d ≡ o → (k : Line) (c : Running)
+  leads : (l : Line) → CallIsAt r s prologue l a → (d : DidStep r s t prologue l n) (o : Outcome) → out_at l d ≡ o → (k : Line) (c : Running)
       → o.actor.line ≡ Some k → o.actor.pocket ≡ b.pocket → ((x : Option ℕ) → AgreesAt k (record o.actor { entry = x }) c)
       → CallIsAt r t continues k c
   leads l h d o e k c line same knows =
@@ -46,7 +46,7 @@ module _ {T : Type 0} (r : Arena) (s t : Seat T) (prologue : Prologue) (n : ℕ)
       }
 
   -- or ends the call
-  over : (l : Line) → CallIsAt r s prologue l a → (d : DidStep r s t prologue l n) (o : MachineOutcome) → out_at l d ≡ o → o.actor.line ≡ None
+  over : (l : Line) → CallIsAt r s prologue l a → (d : DidStep r s t prologue l n) (o : Outcome) → out_at l d ≡ o → o.actor.line ≡ None
       → o.actor.pocket ≡ b.pocket → ((view t).actor.line ≡ None) × HasPocket r t continues
   over l h d o e line same = (settled r s t prologue l n d o e (λ x. x.line ≡ None) (λ x. line), holds l h.pocket d o e same)
 
@@ -71,7 +71,7 @@ module _ {T : Type 0} (r : Arena) (s t : Seat T) (prologue : Prologue) (n : ℕ)
       pub pocket : HasPocket r t continues
       pub replies : (out_at S3 d).reply ≡ Some (reply.Refused refusal)
 
-    abbrev pub Third : Outcome Running → Type 0
+    abbrev pub Third : RowOutcome Running → Type 0
     Third (Goes S1 c) = CallIsAt r t continues S1 c × Quiet
     Third (Goes S4 c) = CallIsAt r t continues S4 c × Quiet
     Third (Goes S5 c) = CallIsAt r t continues S5 c × Quiet
@@ -80,10 +80,10 @@ module _ {T : Type 0} (r : Arena) (s t : Seat T) (prologue : Prologue) (n : ℕ)
     Third (Ends (IsRefused refusal)) = Stopped (WornOut OfTail) × (refusal ≡ WornOut OfTail)
     Third (Ends reply) = ⊥
 
-    abbrev third : ℕ → (p q c u : Bool) → MachineOutcome
+    abbrev third : ℕ → (p q c u : Bool) → Outcome
     third now p q c u = if p then if q then goes S4 b else if c then closed now b else if u then worn now OfTail b else goes S5 b else goes S1 b
 
-    abbrev leads_to : (p q c u : Bool) → Outcome Running
+    abbrev leads_to : (p q c u : Bool) → RowOutcome Running
     leads_to p q c u = if p then if q then Goes S4 a else if c then Ends (IsRefused Closed) else if u then Ends (IsRefused (WornOut OfTail)) else Goes S5 a else Goes S1 a
 
     pub after_s3 : Third (follow r.plan.setup a S3 n)
@@ -100,12 +100,12 @@ module _ {T : Type 0} (r : Arena) (s t : Seat T) (prologue : Prologue) (n : ℕ)
         on : (p q c u : Bool) → out_at S3 d ≡ third now p q c u → IsSilent (third now p q c u).reply → (k : Line)
             → (third now p q c u).actor.line ≡ Some k → (third now p q c u).actor.pocket ≡ b.pocket
             → ((x : Option ℕ) → AgreesAt k (record (third now p q c u).actor { entry = x }) a) → CallIsAt r t continues k a × Quiet
-        on p q c u e quiet k line same knows = (leads S3 h d (third now p q c u) e k a line same knows, subst (λ (m : MachineOutcome). IsSilent m.reply) (sym e) quiet)
+        on p q c u e quiet k line same knows = (leads S3 h d (third now p q c u) e k a line same knows, subst (λ (m : Outcome). IsSilent m.reply) (sym e) quiet)
 
         stops : (p q c u : Bool) (refusal : Refusal) → out_at S3 d ≡ third now p q c u → (third now p q c u).actor.line ≡ None
             → (third now p q c u).actor.pocket ≡ b.pocket → (third now p q c u).reply ≡ Some (reply.Refused refusal) → Stopped refusal
         stops p q c u refusal e line same replies = let k = over S3 h d (third now p q c u) e line same in record
-            { over = k.0; pocket = k.1; replies = ap (λ (m : MachineOutcome). m.reply) e ∙ replies }
+            { over = k.0; pocket = k.1; replies = ap (λ (m : Outcome). m.reply) e ∙ replies }
 
         go : (p q c u : Bool) → same_ref (ref_of r.plan.setup.bits n) a.tail ≡ p → is_null a.next ≡ q → is_shut r.plan.setup.bits a.next ≡ c
             → nat_eq a.tail.count r.plan.setup.limit ≡ u → Third (leads_to p q c u)
@@ -123,13 +123,13 @@ module _ {T : Type 0} (r : Arena) (s t : Seat T) (prologue : Prologue) (n : ℕ)
     abbrev Lost : Type 0
     Lost = entries_at r.plan.setup d.told.was (view s).number b S4 ≡ []
 
-    abbrev pub Fourth : Outcome Running → Type 0
+    abbrev pub Fourth : RowOutcome Running → Type 0
     Fourth (Goes S1 c) = CallIsAt r t continues S1 c × Lost
     Fourth (Goes l c) = ⊥
     Fourth (Ends IsDone) = ((view t).actor.line ≡ None) × HasPocket r t continues × Won
     Fourth (Ends reply) = ⊥
 
-    abbrev fourth : ℕ → Bool → MachineOutcome
+    abbrev fourth : ℕ → Bool → Outcome
     fourth now p = if p then record (ends now reply.Done b) { at = Some now } else goes S1 b
 
     pub after_s4 : Fourth (follow r.plan.setup a S4 n)

@@ -18,8 +18,8 @@ use Rattle.node_arena.proofs.Noting.{IsSilent}
 use Rattle.node_arena.proofs.Paths.{walk_then, then_act, then_stored, then_slots, quiet_slots, then_shut, stopped_behind, failed_behind}
 use Rattle.node_arena.proofs.Paths.{failed-append, event, walk_on, walk_silent, shut_on, act_on, stopped_at}
 use Rattle.node_arena.proofs.Loads.{shut_slots}
-use Rattle.arena_lines.specs.declared.outcomes.Outcome.{Outcome}
-use Rattle.arena_lines.specs.declared.outcomes.Outcome.TheVariants.{Goes, Ends}
+use Rattle.arena_lines.specs.declared.outcomes.RowOutcome.{RowOutcome}
+use Rattle.arena_lines.specs.declared.outcomes.RowOutcome.TheVariants.{Goes, Ends}
 use Rattle.arena_lines.specs.declared.outcomes.Reply.TheVariants.{Done as IsDone, Value as IsValue, Empty as IsEmpty, Refused as IsRefused}
 use Rattle.arena_lines.proofs.Registers.{same_registers}
 use Rattle.nonblocking.specs.declared.shut_outcomes.Turn.{Turn}
@@ -37,7 +37,7 @@ pub to_s3 : {T : Type 0} (r : Arena) (s t : Seat T) (l : Line) (a b : Running) �
 to_s3 r s t l a b h f = subst (CallIsAt r t continues S3) (sym (same_registers l S3 b (record a { next = ref_of r.plan.setup.bits f.found }) f.leads_to)) (after_s2 r s t continues f.found a h f.did)
 
 -- the lines S1 to S3
-module _ {T : Type 0} (r : Arena) (s u v t : Seat T) (prologue : Prologue) (l k : Line) (a b c : Running) (out : Outcome Running)
+module _ {T : Type 0} (r : Arena) (s u v t : Seat T) (prologue : Prologue) (l k : Line) (a b c : Running) (out : RowOutcome Running)
     (h : CallIsAt r s prologue S1 a) (f : Follows r s u prologue S1 a (Goes l b)) (g : Follows r u v continues S2 b (Goes k c))
     (m : Follows r v t continues S3 c out) where
   abbrev one : Event
@@ -85,7 +85,7 @@ module _ {T : Type 0} (r : Arena) (s u v t : Seat T) (prologue : Prologue) (l k 
     },
   )
 
-  by_outcome : (o : Outcome Running) → Third r v t continues m.found c at_s3 m.did o → HasPocket r t continues × Looked r s t (before ++ three ∷ []) o
+  by_outcome : (o : RowOutcome Running) → Third r v t continues m.found c at_s3 m.did o → HasPocket r t continues × Looked r s t (before ++ three ∷ []) o
   by_outcome (Goes S1 x) y = (
     y.0.pocket,
     record {
@@ -117,11 +117,11 @@ module _ {T : Type 0} (r : Arena) (s u v t : Seat T) (prologue : Prologue) (l k 
       }
 
 -- the line S4
-module _ {T : Type 0} (r : Arena) (s t : Seat T) (a : Running) (out : Outcome Running) (h : CallIsAt r s continues S4 a) (f : Follows r s t continues S4 a out) where
+module _ {T : Type 0} (r : Arena) (s t : Seat T) (a : Running) (out : RowOutcome Running) (h : CallIsAt r s continues S4 a) (f : Follows r s t continues S4 a out) where
   abbrev four : Event
   four = event r s t continues S4 f.found f.did
 
-  ended : (o : Outcome Running) → Fourth r s t continues f.found a h f.did o → HasPocket r t continues × Turned r s t (four ∷ []) (turn_of o)
+  ended : (o : RowOutcome Running) → Fourth r s t continues f.found a h f.did o → HasPocket r t continues × Turned r s t (four ∷ []) (turn_of o)
   ended (Goes S1 x) y = (
     y.0.pocket,
     record {
@@ -150,7 +150,7 @@ module _ {T : Type 0} (r : Arena) (s t : Seat T) (a : Running) (out : Outcome Ru
       record { seat = f.did.seat; pocket = all.0; stored = f.did.stored; slots = shut_slots r s t continues S4 f.found f.did (view s).number _ refl; lines = four ∷ []; turned = all.1 }
 
 -- Tail is swung on, and the turn failed
-pub swings : {T : Type 0} (r : Arena) (s t : Seat T) (a : Running) (out : Outcome Running) → CallIsAt r s continues S5 a → Follows r s t continues S5 a out → Turns r s t turn.Failed
+pub swings : {T : Type 0} (r : Arena) (s t : Seat T) (a : Running) (out : RowOutcome Running) → CallIsAt r s continues S5 a → Follows r s t continues S5 a out → Turns r s t turn.Failed
 swings r s t a out h f =
     let k : CallIsAt r t continues S1 a = after_s5 r s t continues f.found a h f.did in
     record {

@@ -24,8 +24,8 @@ use Rattle.node_arena.specs.Paths.{ExtendsPath, FindsShutEmpty, Acts, FailedAt, 
 use Rattle.node_arena.specs.Machine.{value_of}
 use Rattle.arena_queue.specs.Answers.{PopsWithoutNode}
 use Rattle.nonblocking.specs.Worn.{pop_worn}
-use Rattle.arena_lines.specs.declared.outcomes.Outcome.{Outcome}
-use Rattle.arena_lines.specs.declared.outcomes.Outcome.TheVariants.{Goes, Ends}
+use Rattle.arena_lines.specs.declared.outcomes.RowOutcome.{RowOutcome}
+use Rattle.arena_lines.specs.declared.outcomes.RowOutcome.TheVariants.{Goes, Ends}
 use Rattle.arena_lines.specs.declared.outcomes.Reply.{Reply}
 use Rattle.arena_lines.specs.declared.outcomes.Reply.TheVariants.{Value as IsValue, Empty as IsEmpty, Refused as IsRefused}
 use Rattle.nonblocking.specs.declared.pop_outcomes.Turn.{Turn}
@@ -47,7 +47,7 @@ popping zero = begins Deq
 popping (suc n) = continues
 
 -- what a running pop makes of the number found at a line
-abbrev pub follow : Setup → Running → Line → ℕ → Outcome Running
+abbrev pub follow : Setup → Running → Line → ℕ → RowOutcome Running
 follow z a D2 n = Goes D3 (record a { head = ref_of z.bits n })
 follow z a D3 n = Goes D4 (record a { tail = ref_of z.bits n })
 follow z a D4 n = Goes D5 (record a { next = ref_of z.bits n })
@@ -74,7 +74,7 @@ abbrev pub in_hand : Running → Held
 in_hand a = record { node = a.node; mark = a.mark }
 
 -- the turn that ends so: a value was taken where its node is to be freed, and the turn failed where it goes on elsewhere
-abbrev pub turn_of : Outcome Running → Turn
+abbrev pub turn_of : RowOutcome Running → Turn
 turn_of (Goes F1 a) = turn.Took a.val (in_hand a)
 turn_of (Goes l a) = turn.Failed
 turn_of (Ends IsEmpty) = turn.Empty
@@ -97,7 +97,7 @@ pub record CallIsAt {T : Type 0} (r : Arena) (s : Seat T) (prologue : Prologue) 
   pub knows : AgreesAt l (after_prologue r.plan.setup (view s).number prologue (view s).actor) a
 
 -- the seat made its step at a line, and the call made of the number found what the line says
-pub record Follows {T : Type 0} (r : Arena) (s t : Seat T) (prologue : Prologue) (l : Line) (a : Running) (out : Outcome Running) : Type 0 where
+pub record Follows {T : Type 0} (r : Arena) (s t : Seat T) (prologue : Prologue) (l : Line) (a : Running) (out : RowOutcome Running) : Type 0 where
   pub found : ℕ
   pub did : DidStep r s t prologue l found
   pub leads_to : out ≡ follow r.plan.setup a l found
@@ -152,7 +152,7 @@ pub record GoesOn {T : Type 0} (r : Arena) (s t : Seat T) (es : List Event) (l :
   pub never : failed_turns es ≡ 0
 
 -- what the lines D2 to D5 come to
-abbrev pub Looked : {T : Type 0} → Arena → Seat T → Seat T → List Event → Outcome Running → Type 0
+abbrev pub Looked : {T : Type 0} → Arena → Seat T → Seat T → List Event → RowOutcome Running → Type 0
 Looked r s t es (Goes D2 a) = Fell r s t es
 Looked r s t es (Goes D10 a) = GoesOn r s t es D10 a
 Looked r s t es (Goes D12 a) = GoesOn r s t es D12 a
@@ -162,7 +162,7 @@ Looked r s t es (Ends (IsRefused refusal)) = Stops r s t es refusal
 Looked r s t es (Ends reply) = ⊥
 
 -- the lines D2 to D5
-pub record Looks {T : Type 0} (r : Arena) (s t : Seat T) (out : Outcome Running) : Type 0 where
+pub record Looks {T : Type 0} (r : Arena) (s t : Seat T) (out : RowOutcome Running) : Type 0 where
   pub seat : IsSeat r t
   pub empty : (view t).actor.pocket ≡ None
   pub stored : KeepsStored s t

@@ -19,8 +19,8 @@ use Rattle.node_arena.specs.Loads.{GivesSlot}
 use Rattle.node_arena.specs.Turns.{failed_turns}
 use Rattle.node_arena.specs.Paths.{ExtendsPath, FindsShut, Acts, FailedAt, EndedAt, IsRefusedAt}
 use Rattle.node_arena.specs.Machine.{value_of}
-use Rattle.arena_lines.specs.declared.outcomes.Outcome.{Outcome}
-use Rattle.arena_lines.specs.declared.outcomes.Outcome.TheVariants.{Goes, Ends}
+use Rattle.arena_lines.specs.declared.outcomes.RowOutcome.{RowOutcome}
+use Rattle.arena_lines.specs.declared.outcomes.RowOutcome.TheVariants.{Goes, Ends}
 use Rattle.arena_lines.specs.declared.outcomes.Reply.{Reply}
 use Rattle.arena_lines.specs.declared.outcomes.Reply.TheVariants.{Done as IsDone, Refused as IsRefused}
 use Rattle.nonblocking.specs.declared.push_outcomes.Turn.{Turn}
@@ -48,7 +48,7 @@ abbrev pub pushing : ℕ → Prologue
 pushing val = begins (Enq (value_of val).body)
 
 -- what a running push makes of the number found at a line
-abbrev pub follow : Setup → Running → Line → ℕ → Outcome Running
+abbrev pub follow : Setup → Running → Line → ℕ → RowOutcome Running
 follow z a E2 n = Goes E3 a
 follow z a E3 n =
     let b = record a { mark = (ref_of z.bits n).count } in
@@ -91,7 +91,7 @@ pub record CallIsAt {T : Type 0} (r : Arena) (s : Seat T) (prologue : Prologue) 
   pub knows : AgreesAt l (after_prologue r.plan.setup (view s).number prologue (view s).actor) a
 
 -- the seat made its step at a line, and the call made of the number found what the line says
-pub record Follows {T : Type 0} (r : Arena) (s t : Seat T) (prologue : Prologue) (l : Line) (a : Running) (out : Outcome Running) : Type 0 where
+pub record Follows {T : Type 0} (r : Arena) (s t : Seat T) (prologue : Prologue) (l : Line) (a : Running) (out : RowOutcome Running) : Type 0 where
   pub found : ℕ
   pub did : DidStep r s t prologue l found
   pub leads_to : out ≡ follow r.plan.setup a l found
@@ -141,14 +141,14 @@ pub record Linked {T : Type 0} (r : Arena) (s t : Seat T) (a : Running) (es : Li
   pub acts : Acts (view s) (view t) (Push (view s).number (value_of a.val).body) es
 
 -- what E2 and E3 come to: the node is ready, or set aside
-abbrev pub Filled : {T : Type 0} → Arena → Seat T → Seat T → Running → List Event → Outcome Running → Type 0
+abbrev pub Filled : {T : Type 0} → Arena → Seat T → Seat T → Running → List Event → RowOutcome Running → Type 0
 Filled r s t a es (Goes E5 c) = CallIsAt r t continues E5 c × (c.node ≡ a.node) × (c.val ≡ a.val) × (failed_turns es ≡ 0)
 Filled r s t a es (Goes l c) = ⊥
 Filled r s t a es (Ends (IsRefused refusal)) = FoundWorn r s t None es OfNext refusal
 Filled r s t a es (Ends reply) = ⊥
 
 -- the value is written into the node, and its next is cleared: E2 and E3
-pub record Fills {T : Type 0} (r : Arena) (s t : Seat T) (a : Running) (out : Outcome Running) : Type 0 where
+pub record Fills {T : Type 0} (r : Arena) (s t : Seat T) (a : Running) (out : RowOutcome Running) : Type 0 where
   pub stored : KeepsStored s t
   pub slots : KeepsSlots s t
   pub lines : List Event
@@ -156,7 +156,7 @@ pub record Fills {T : Type 0} (r : Arena) (s t : Seat T) (a : Running) (out : Ou
   pub filled : Filled r s t a lines out
 
 -- what E5 to E7 come to
-abbrev pub Looked : {T : Type 0} → Arena → Seat T → Seat T → Running → List Event → Outcome Running → Type 0
+abbrev pub Looked : {T : Type 0} → Arena → Seat T → Seat T → Running → List Event → RowOutcome Running → Type 0
 Looked r s t a es (Goes E9 c) = ExtendsPath (view s) (view t) es × Comes r t E9 a c es
 Looked r s t a es (Goes E13 c) = ExtendsPath (view s) (view t) es × Comes r t E13 a c es
 Looked r s t a es (Goes E5 c) = ExtendsPath (view s) (view t) es × Slipped r t a es
@@ -165,7 +165,7 @@ Looked r s t a es (Ends (IsRefused refusal)) = Stops r s t a es refusal
 Looked r s t a es (Ends reply) = ⊥
 
 -- Tail was read, and what follows its node: E5 to E7
-pub record Looks {T : Type 0} (r : Arena) (s t : Seat T) (a : Running) (out : Outcome Running) : Type 0 where
+pub record Looks {T : Type 0} (r : Arena) (s t : Seat T) (a : Running) (out : RowOutcome Running) : Type 0 where
   pub stored : KeepsStored s t
   pub slots : KeepsSlots s t
   pub lines : List Event

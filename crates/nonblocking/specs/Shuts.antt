@@ -16,8 +16,8 @@ use Rattle.node_arena.specs.declared.seats.Seat.{Seat}
 use Rattle.node_arena.specs.Seats.{IsSeat, IsBefore, KeepsStored, KeepsSlots, DidStep, view, pocket_of}
 use Rattle.node_arena.specs.Turns.{failed_turns}
 use Rattle.node_arena.specs.Paths.{ExtendsPath, FindsShut, Acts, FailedAt, EndedAt, IsRefusedAt}
-use Rattle.arena_lines.specs.declared.outcomes.Outcome.{Outcome}
-use Rattle.arena_lines.specs.declared.outcomes.Outcome.TheVariants.{Goes, Ends}
+use Rattle.arena_lines.specs.declared.outcomes.RowOutcome.{RowOutcome}
+use Rattle.arena_lines.specs.declared.outcomes.RowOutcome.TheVariants.{Goes, Ends}
 use Rattle.arena_lines.specs.declared.outcomes.Reply.TheVariants.{Done as IsDone, Refused as IsRefused}
 use Rattle.nonblocking.specs.declared.shut_outcomes.Turn.{Turn}
 use Rattle.nonblocking.specs.declared.shut_outcomes.Turn.TheVariants as turn
@@ -33,7 +33,7 @@ shutting zero = begins op.Shut
 shutting (suc n) = continues
 
 -- what a running shut makes of the number found at a line
-abbrev pub follow : Setup → Running → Line → ℕ → Outcome Running
+abbrev pub follow : Setup → Running → Line → ℕ → RowOutcome Running
 follow z a S1 n = Goes S2 (record a { tail = ref_of z.bits n })
 follow z a S2 n = Goes S3 (record a { next = ref_of z.bits n })
 follow z a S3 n =
@@ -48,7 +48,7 @@ follow z a S5 n = Goes S1 a
 follow z a l n = Goes l a
 
 -- the turn that ends so: the queue is shut where the call is done, and the turn failed where it goes on
-abbrev pub turn_of : Outcome Running → Turn
+abbrev pub turn_of : RowOutcome Running → Turn
 turn_of (Goes l a) = turn.Failed
 turn_of (Ends IsDone) = turn.Shut
 turn_of (Ends (IsRefused refusal)) = turn.Refused refusal
@@ -73,7 +73,7 @@ pub record CallIsAt {T : Type 0} (r : Arena) (s : Seat T) (prologue : Prologue) 
   pub knows : AgreesAt l (after_prologue r.plan.setup (view s).number prologue (view s).actor) a
 
 -- the seat made its step at a line, and the call made of the number found what the line says
-pub record Follows {T : Type 0} (r : Arena) (s t : Seat T) (prologue : Prologue) (l : Line) (a : Running) (out : Outcome Running) : Type 0 where
+pub record Follows {T : Type 0} (r : Arena) (s t : Seat T) (prologue : Prologue) (l : Line) (a : Running) (out : RowOutcome Running) : Type 0 where
   pub found : ℕ
   pub did : DidStep r s t prologue l found
   pub leads_to : out ≡ follow r.plan.setup a l found
@@ -118,7 +118,7 @@ pub record GoesOn {T : Type 0} (r : Arena) (s t : Seat T) (es : List Event) (l :
   pub never : failed_turns es ≡ 0
 
 -- what the lines S1 to S3 come to
-abbrev pub Looked : {T : Type 0} → Arena → Seat T → Seat T → List Event → Outcome Running → Type 0
+abbrev pub Looked : {T : Type 0} → Arena → Seat T → Seat T → List Event → RowOutcome Running → Type 0
 Looked r s t es (Goes S1 a) = Fell r s t es
 Looked r s t es (Goes S4 a) = GoesOn r s t es S4 a
 Looked r s t es (Goes S5 a) = GoesOn r s t es S5 a
@@ -127,7 +127,7 @@ Looked r s t es (Ends (IsRefused refusal)) = Stops r s t es refusal
 Looked r s t es (Ends reply) = ⊥
 
 -- the lines S1 to S3
-pub record Looks {T : Type 0} (r : Arena) (s t : Seat T) (out : Outcome Running) : Type 0 where
+pub record Looks {T : Type 0} (r : Arena) (s t : Seat T) (out : RowOutcome Running) : Type 0 where
   pub seat : IsSeat r t
   pub pocket : HasPocket r t continues
   pub stored : KeepsStored s t

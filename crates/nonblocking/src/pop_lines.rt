@@ -8,7 +8,7 @@ ghost use Rattle.nonblocking.specs.Pops.{popping, CallIsAt, Follows};
 
 use crate::pop_outcomes::ActorOf;
 use arena_lines::{
-    Outcome, Reply, access, closed, effect, ends, first_row, goes, notes, onward, row, worn,
+    RowOutcome, Reply, access, closed, effect, ends, first_row, goes, notes, onward, row, worn,
 };
 use history::WornWord;
 use line_table::{Line, line_table};
@@ -23,7 +23,7 @@ pub(crate) fn d2<const B: u32, T>(
 ) -> ActorOf<B>
     requires stands { CallIsAt arena.now seat.old (popping index) lines.D2 a }
     ensures { Follows arena.now seat.old seat.new (popping index) lines.D2 a.entry
-        (Outcome.Goes lines.D3 result) }
+        (RowOutcome.Goes lines.D3 result) }
 {
     use onward::goes;
     line_table!(D2 (setup me a found) first_row (arena seat found index))
@@ -36,7 +36,7 @@ pub(crate) fn d3<const B: u32, T>(
 ) -> ActorOf<B>
     requires stands { CallIsAt arena.now seat.old continues lines.D3 a }
     ensures { Follows arena.now seat.old seat.new continues lines.D3 a.entry
-        (Outcome.Goes lines.D4 result) }
+        (RowOutcome.Goes lines.D4 result) }
 {
     use onward::goes;
     line_table!(D3 (setup me a found) row (arena seat found))
@@ -49,7 +49,7 @@ pub(crate) fn d4<const B: u32, T>(
 ) -> ActorOf<B>
     requires stands { CallIsAt arena.now seat.old continues lines.D4 a }
     ensures { Follows arena.now seat.old seat.new continues lines.D4 a.entry
-        (Outcome.Goes lines.D5 result) }
+        (RowOutcome.Goes lines.D5 result) }
 {
     use onward::goes;
     line_table!(D4 (setup me a found) row (arena seat found))
@@ -59,7 +59,7 @@ pub(crate) fn d5<const B: u32, T>(
     arena: &ArenaOf<B, T>,
     seat: &mut Seat<T>,
     a: ActorOf<B>,
-) -> Outcome<ActorOf<B>>
+) -> RowOutcome<ActorOf<B>>
     requires stands { CallIsAt arena.now seat.old continues lines.D5 a }
     ensures { Follows arena.now seat.old seat.new continues lines.D5 a.entry result }
 {
@@ -74,7 +74,7 @@ pub(crate) fn d10<const B: u32, T>(
 ) -> ActorOf<B>
     requires stands { CallIsAt arena.now seat.old continues lines.D10 a }
     ensures { Follows arena.now seat.old seat.new continues lines.D10 a.entry
-        (Outcome.Goes lines.D2 result) }
+        (RowOutcome.Goes lines.D2 result) }
 {
     use onward::goes;
     let setup = arena.setup();
@@ -85,7 +85,7 @@ pub(crate) fn d12<const B: u32, T>(
     arena: &ArenaOf<B, T>,
     seat: &mut Seat<T>,
     mut a: ActorOf<B>,
-) -> Outcome<ActorOf<B>>
+) -> RowOutcome<ActorOf<B>>
     requires stands { CallIsAt arena.now seat.old continues lines.D12 a }
     ensures { Follows arena.now seat.old seat.new continues lines.D12 a.entry result }
 {
@@ -97,7 +97,7 @@ pub(crate) fn d13<const B: u32, T>(
     arena: &ArenaOf<B, T>,
     seat: &mut Seat<T>,
     mut a: ActorOf<B>,
-) -> Outcome<ActorOf<B>>
+) -> RowOutcome<ActorOf<B>>
     requires stands { CallIsAt arena.now seat.old continues lines.D13 a }
     requires role { IsTrue (may_pop (role_of seat.old)) }
     ensures { Follows arena.now seat.old seat.new continues lines.D13 a.entry result }

@@ -2,7 +2,7 @@
 ghost use Rattle.std.specs.Prelude.{◌≡◌};
 ghost use Rattle.nonblocking.specs.Pops.{turn_of};
 
-use arena_lines::{Outcome, Reply};
+use arena_lines::{RowOutcome, Reply};
 use counted_ref::CountedRefOf;
 use history::Refusal;
 use line_table::Line;
@@ -69,19 +69,19 @@ impl<const B: u32> ActorOf<B> {
 }
 
 /// The turn that ends so.
-pub(crate) fn turned<const B: u32>(outcome: Outcome<ActorOf<B>>) -> Turn
+pub(crate) fn turned<const B: u32>(outcome: RowOutcome<ActorOf<B>>) -> Turn
     ensures { result ≡ turn_of outcome.entry }
 {
     match outcome {
-        Outcome::Goes(Line::F1, a) => Turn::Took(
+        RowOutcome::Goes(Line::F1, a) => Turn::Took(
             a.val,
             Held {
                 node: a.node,
                 mark: a.mark,
             },
         ),
-        Outcome::Ends(Reply::Empty) => Turn::Empty,
-        Outcome::Ends(Reply::Refused(refusal)) => Turn::Refused(refusal),
-        Outcome::Goes(..) | Outcome::Ends(_) => Turn::Failed,
+        RowOutcome::Ends(Reply::Empty) => Turn::Empty,
+        RowOutcome::Ends(Reply::Refused(refusal)) => Turn::Refused(refusal),
+        RowOutcome::Goes(..) | RowOutcome::Ends(_) => Turn::Failed,
     }
 }

@@ -11,7 +11,7 @@ ghost use Rattle.arena_queue.specs.Answers.{PopsWithoutNode};
 
 use crate::pop_lines::{d2, d3, d4, d5, d10, d12, d13};
 use crate::pop_outcomes::{ActorOf, Turn, blank, turned};
-use arena_lines::Outcome;
+use arena_lines::RowOutcome;
 use free_list::give_back;
 use history::{Refusal, Taken};
 use line_table::Line;
@@ -22,7 +22,7 @@ fn read_front<const B: u32, T>(
     arena: &ArenaOf<B, T>,
     seat: &mut Seat<T>,
     index: u32,
-) -> Outcome<ActorOf<B>>
+) -> RowOutcome<ActorOf<B>>
     requires before { IsBefore arena.now seat.old (popping index) lines.D2 }
     requires non_blocking { IsNonBlocking arena.now }
     ensures { Looks arena.now seat.old seat.new result }
@@ -40,7 +40,7 @@ fn move_head<const B: u32, T>(arena: &ArenaOf<B, T>, seat: &mut Seat<T>, a: Acto
     requires role { IsTrue (may_pop (role_of seat.old)) }
     ensures { Turns arena.now seat.old seat.new result }
 {
-    let Outcome::Goes(_, a) = d12(arena, seat, a) else {
+    let RowOutcome::Goes(_, a) = d12(arena, seat, a) else {
         unreachable!()
     };
     turned(d13(arena, seat, a))
@@ -54,7 +54,7 @@ fn pop_turn<const B: u32, T>(arena: &ArenaOf<B, T>, seat: &mut Seat<T>, index: u
     ensures { Turns arena.now seat.old seat.new result }
 {
     match read_front(arena, seat, index) {
-        Outcome::Goes(next, a) => match next {
+        RowOutcome::Goes(next, a) => match next {
             Line::D10 => {
                 d10(arena, seat, a);
                 Turn::Failed

@@ -10,7 +10,7 @@ ghost use Rattle.nonblocking.specs.Pushes.{pushing, CallIsAt, Follows};
 
 use crate::push_outcomes::ActorOf;
 use arena_lines::{
-    Outcome, Reply, access, closed_with_node, effect, ends, goes, onward, row, worn_aside,
+    RowOutcome, Reply, access, closed_with_node, effect, ends, goes, onward, row, worn_aside,
     worn_with_node,
 };
 use history::WornWord;
@@ -24,7 +24,7 @@ pub(crate) fn e2<const B: u32, T>(
 ) -> ActorOf<B>
     requires stands { CallIsAt arena.now seat.old (pushing a.val) lines.E2 a }
     ensures { Follows arena.now seat.old seat.new (pushing a.entry.val) lines.E2 a.entry
-        (Outcome.Goes lines.E3 result) }
+        (RowOutcome.Goes lines.E3 result) }
 {
     use onward::goes;
     line_table!(E2 (setup me a found) row (arena seat found))
@@ -34,7 +34,7 @@ pub(crate) fn e3<const B: u32, T>(
     arena: &ArenaOf<B, T>,
     seat: &mut Seat<T>,
     mut a: ActorOf<B>,
-) -> Outcome<ActorOf<B>>
+) -> RowOutcome<ActorOf<B>>
     requires stands { CallIsAt arena.now seat.old continues lines.E3 a }
     ensures { Follows arena.now seat.old seat.new continues lines.E3 a.entry result }
 {
@@ -49,7 +49,7 @@ pub(crate) fn e5<const B: u32, T>(
 ) -> ActorOf<B>
     requires stands { CallIsAt arena.now seat.old continues lines.E5 a }
     ensures { Follows arena.now seat.old seat.new continues lines.E5 a.entry
-        (Outcome.Goes lines.E6 result) }
+        (RowOutcome.Goes lines.E6 result) }
 {
     use onward::goes;
     line_table!(E5 (setup me a found) row (arena seat found))
@@ -62,7 +62,7 @@ pub(crate) fn e6<const B: u32, T>(
 ) -> ActorOf<B>
     requires stands { CallIsAt arena.now seat.old continues lines.E6 a }
     ensures { Follows arena.now seat.old seat.new continues lines.E6 a.entry
-        (Outcome.Goes lines.E7 result) }
+        (RowOutcome.Goes lines.E7 result) }
 {
     use onward::goes;
     line_table!(E6 (setup me a found) row (arena seat found))
@@ -72,7 +72,7 @@ pub(crate) fn e7<const B: u32, T>(
     arena: &ArenaOf<B, T>,
     seat: &mut Seat<T>,
     mut a: ActorOf<B>,
-) -> Outcome<ActorOf<B>>
+) -> RowOutcome<ActorOf<B>>
     requires stands { CallIsAt arena.now seat.old continues lines.E7 a }
     ensures { Follows arena.now seat.old seat.new continues lines.E7 a.entry result }
 {
@@ -84,7 +84,7 @@ pub(crate) fn e9<const B: u32, T>(
     arena: &ArenaOf<B, T>,
     seat: &mut Seat<T>,
     mut a: ActorOf<B>,
-) -> Outcome<ActorOf<B>>
+) -> RowOutcome<ActorOf<B>>
     requires stands { CallIsAt arena.now seat.old continues lines.E9 a }
     requires loaded { IsLoaded arena.now (value_of a.val).body seat.old }
     requires role { IsTrue (may_push (role_of seat.old)) }
@@ -101,7 +101,7 @@ pub(crate) fn e13<const B: u32, T>(
 ) -> ActorOf<B>
     requires stands { CallIsAt arena.now seat.old continues lines.E13 a }
     ensures { Follows arena.now seat.old seat.new continues lines.E13 a.entry
-        (Outcome.Goes lines.E5 result) }
+        (RowOutcome.Goes lines.E5 result) }
 {
     use onward::goes;
     let setup = arena.setup();
@@ -112,7 +112,7 @@ pub(crate) fn e17<const B: u32, T>(
     arena: &ArenaOf<B, T>,
     seat: &mut Seat<T>,
     a: ActorOf<B>,
-) -> Outcome<ActorOf<B>>
+) -> RowOutcome<ActorOf<B>>
     requires stands { CallIsAt arena.now seat.old continues lines.E17 a }
     ensures { Follows arena.now seat.old seat.new continues lines.E17 a.entry result }
 {

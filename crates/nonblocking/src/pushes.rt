@@ -13,7 +13,7 @@ ghost use Rattle.arena_queue.specs.Answers.{PushesWithNode};
 
 use crate::push_lines::{e2, e3, e5, e6, e7, e9, e13, e17};
 use crate::push_outcomes::{ActorOf, Turn, registers};
-use arena_lines::{Outcome, Reply};
+use arena_lines::{RowOutcome, Reply};
 use history::{Body, Refusal};
 use line_table::Line;
 use node_arena::{ArenaOf, Held, Seat, word_of};
@@ -23,7 +23,7 @@ fn fill<const B: u32, T>(
     arena: &ArenaOf<B, T>,
     seat: &mut Seat<T>,
     a: ActorOf<B>,
-) -> Outcome<ActorOf<B>>
+) -> RowOutcome<ActorOf<B>>
     requires stands { CallIsAt arena.now seat.old (pushing a.val) lines.E2 a }
     ensures { Fills arena.now seat.old seat.new a.entry result }
 {
@@ -36,7 +36,7 @@ fn read_tail<const B: u32, T>(
     arena: &ArenaOf<B, T>,
     seat: &mut Seat<T>,
     a: ActorOf<B>,
-) -> Outcome<ActorOf<B>>
+) -> RowOutcome<ActorOf<B>>
     requires stands { CallIsAt arena.now seat.old continues lines.E5 a }
     ensures { Looks arena.now seat.old seat.new a.entry result }
 {
@@ -54,22 +54,22 @@ fn push_turn<const B: u32, T>(arena: &ArenaOf<B, T>, seat: &mut Seat<T>, a: Acto
     ensures { Turns arena.now seat.old seat.new a.entry result }
 {
     match read_tail(arena, seat, a) {
-        Outcome::Goes(Line::E9, a) => match e9(arena, seat, a) {
-            Outcome::Goes(next, a) => match next {
+        RowOutcome::Goes(Line::E9, a) => match e9(arena, seat, a) {
+            RowOutcome::Goes(next, a) => match next {
                 Line::E17 => {
                     e17(arena, seat, a);
                     Turn::Pushed
                 }
                 _ => Turn::Failed,
             },
-            Outcome::Ends(_) => Turn::Pushed,
+            RowOutcome::Ends(_) => Turn::Pushed,
         },
-        Outcome::Goes(Line::E13, a) => {
+        RowOutcome::Goes(Line::E13, a) => {
             e13(arena, seat, a);
             Turn::Failed
         }
-        Outcome::Ends(Reply::Refused(refusal)) => Turn::Refused(refusal),
-        Outcome::Goes(..) | Outcome::Ends(_) => Turn::Failed,
+        RowOutcome::Ends(Reply::Refused(refusal)) => Turn::Refused(refusal),
+        RowOutcome::Goes(..) | RowOutcome::Ends(_) => Turn::Failed,
     }
 }
 
@@ -93,11 +93,11 @@ pub(crate) fn push_node<const B: u32, T>(
 {
     let val = word_of(seat.number(), body.number());
     let filled = match fill(arena, seat, registers(arena, held, val)) {
-        Outcome::Goes(_, a) => Held {
+        RowOutcome::Goes(_, a) => Held {
             node: a.node,
             mark: a.mark,
         },
-        Outcome::Ends(reply) => match reply {
+        RowOutcome::Ends(reply) => match reply {
             Reply::Refused(refusal) => {
                 seat.keep(None, spent);
                 return Err(refusal);

@@ -8,7 +8,7 @@ ghost use Rattle.nonblocking.specs.Shuts.{shutting, CallIsAt, Follows};
 
 use crate::shut_outcomes::ActorOf;
 use arena_lines::{
-    Outcome, Reply, access, closed, effect, ends, first_row, goes, onward, row, worn,
+    RowOutcome, Reply, access, closed, effect, ends, first_row, goes, onward, row, worn,
 };
 use history::WornWord;
 use line_table::{Line, line_table};
@@ -23,7 +23,7 @@ pub(crate) fn s1<const B: u32, T>(
 ) -> ActorOf<B>
     requires stands { CallIsAt arena.now seat.old (shutting index) lines.S1 a }
     ensures { Follows arena.now seat.old seat.new (shutting index) lines.S1 a.entry
-        (Outcome.Goes lines.S2 result) }
+        (RowOutcome.Goes lines.S2 result) }
 {
     use onward::goes;
     line_table!(S1 (setup me a found) first_row (arena seat found index))
@@ -36,7 +36,7 @@ pub(crate) fn s2<const B: u32, T>(
 ) -> ActorOf<B>
     requires stands { CallIsAt arena.now seat.old continues lines.S2 a }
     ensures { Follows arena.now seat.old seat.new continues lines.S2 a.entry
-        (Outcome.Goes lines.S3 result) }
+        (RowOutcome.Goes lines.S3 result) }
 {
     use onward::goes;
     line_table!(S2 (setup me a found) row (arena seat found))
@@ -46,7 +46,7 @@ pub(crate) fn s3<const B: u32, T>(
     arena: &ArenaOf<B, T>,
     seat: &mut Seat<T>,
     a: ActorOf<B>,
-) -> Outcome<ActorOf<B>>
+) -> RowOutcome<ActorOf<B>>
     requires stands { CallIsAt arena.now seat.old continues lines.S3 a }
     ensures { Follows arena.now seat.old seat.new continues lines.S3 a.entry result }
 {
@@ -58,7 +58,7 @@ pub(crate) fn s4<const B: u32, T>(
     arena: &ArenaOf<B, T>,
     seat: &mut Seat<T>,
     a: ActorOf<B>,
-) -> Outcome<ActorOf<B>>
+) -> RowOutcome<ActorOf<B>>
     requires stands { CallIsAt arena.now seat.old continues lines.S4 a }
     requires role { IsTrue (may_push (role_of seat.old)) }
     ensures { Follows arena.now seat.old seat.new continues lines.S4 a.entry result }
@@ -74,7 +74,7 @@ pub(crate) fn s5<const B: u32, T>(
 ) -> ActorOf<B>
     requires stands { CallIsAt arena.now seat.old continues lines.S5 a }
     ensures { Follows arena.now seat.old seat.new continues lines.S5 a.entry
-        (Outcome.Goes lines.S1 result) }
+        (RowOutcome.Goes lines.S1 result) }
 {
     use onward::goes;
     let setup = arena.setup();

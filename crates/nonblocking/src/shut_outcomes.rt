@@ -2,7 +2,7 @@
 ghost use Rattle.std.specs.Prelude.{◌≡◌};
 ghost use Rattle.nonblocking.specs.Shuts.{turn_of};
 
-use arena_lines::{Outcome, Reply};
+use arena_lines::{RowOutcome, Reply};
 use counted_ref::CountedRefOf;
 use history::Refusal;
 use node_arena::ArenaOf;
@@ -46,12 +46,12 @@ pub(crate) fn blank<const B: u32, T>(arena: &ArenaOf<B, T>) -> ActorOf<B> {
 }
 
 /// The turn that ends so.
-pub(crate) fn turned<const B: u32>(outcome: Outcome<ActorOf<B>>) -> Turn
+pub(crate) fn turned<const B: u32>(outcome: RowOutcome<ActorOf<B>>) -> Turn
     ensures { result ≡ turn_of outcome.entry }
 {
     match outcome {
-        Outcome::Ends(Reply::Done) => Turn::Shut,
-        Outcome::Ends(Reply::Refused(refusal)) => Turn::Refused(refusal),
-        Outcome::Goes(..) | Outcome::Ends(_) => Turn::Failed,
+        RowOutcome::Ends(Reply::Done) => Turn::Shut,
+        RowOutcome::Ends(Reply::Refused(refusal)) => Turn::Refused(refusal),
+        RowOutcome::Goes(..) | RowOutcome::Ends(_) => Turn::Failed,
     }
 }

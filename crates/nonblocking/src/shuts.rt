@@ -10,7 +10,7 @@ ghost use Rattle.arena_queue.specs.Answers.{AnswersShut};
 
 use crate::shut_lines::{s1, s2, s3, s4, s5};
 use crate::shut_outcomes::{ActorOf, Turn, blank, turned};
-use arena_lines::Outcome;
+use arena_lines::RowOutcome;
 use history::Refusal;
 use line_table::Line;
 use node_arena::{ArenaOf, Seat};
@@ -20,7 +20,7 @@ fn read_end<const B: u32, T>(
     arena: &ArenaOf<B, T>,
     seat: &mut Seat<T>,
     index: u32,
-) -> Outcome<ActorOf<B>>
+) -> RowOutcome<ActorOf<B>>
     requires before { IsBefore arena.now seat.old (shutting index) lines.S1 }
     requires pocket { HasPocket arena.now seat.old (shutting index) }
     ensures { Looks arena.now seat.old seat.new result }
@@ -39,7 +39,7 @@ fn shut_turn<const B: u32, T>(arena: &ArenaOf<B, T>, seat: &mut Seat<T>, index: 
     ensures { Turns arena.now seat.old seat.new result }
 {
     match read_end(arena, seat, index) {
-        Outcome::Goes(next, a) => match next {
+        RowOutcome::Goes(next, a) => match next {
             Line::S4 => turned(s4(arena, seat, a)),
             Line::S5 => {
                 s5(arena, seat, a);

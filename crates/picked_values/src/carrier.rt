@@ -12,10 +12,10 @@ impl<T: Send> Carrier for ValueQueue<T> {
     ghost use Rattle.history.specs.Answers.{StopsPush, StopsPop, StopsShut};
     ghost use Rattle.carriers.specs.Answers.{PushedOf, PopAnswersOf, DidShutOf, PushRefusedOf, PopRefusedOf};
     ghost use Rattle.node_arena.specs.Seats.{pocket_of, keeps_of};
-    ghost use Rattle.arena_queue.specs.Answers.{FailsFewer, FailsFew, FreesItsNode, PopRefused, ShutRefused};
+    ghost use Rattle.arena_queue.specs.Answers.{FailsFewer, FailsFew, FreesItsNode, PopCaused, ShutCaused};
     ghost use Rattle.nonblocking.specs.Worn.{push_worn, pop_worn, shut_worn};
     ghost use Rattle.value_queue.specs.ValuesSeen.{known_by};
-    ghost use Rattle.value_queue.specs.Pushes.{PushRefused};
+    ghost use Rattle.value_queue.specs.Pushes.{PushCaused};
     ghost use Rattle.value_queue.specs.Pops.{KeepsItsNode};
     ghost use Rattle.value_queue.specs.Sound.{sound-seat, IsQueueSeat-prop};
     ghost use Rattle.picked_values.specs.Queues.{arena_of, permits_of, IsQueueSeat, carries};
@@ -30,11 +30,11 @@ impl<T: Send> Carrier for ValueQueue<T> {
 
     ghost known = { known_by };
 
-    ghost push_cause = { λ q. PushRefused push_worn (arena_of q) };
+    ghost push_cause = { λ q. PushCaused push_worn (arena_of q) };
 
-    ghost pop_cause = { λ q. PopRefused pop_worn (arena_of q) };
+    ghost pop_cause = { λ q. PopCaused pop_worn (arena_of q) };
 
-    ghost shut_cause = { λ q. ShutRefused shut_worn (arena_of q) };
+    ghost shut_cause = { λ q. ShutCaused shut_worn (arena_of q) };
 
     ghost sound = { λ q s h. sound-seat (arena_of q) (carries q) s h.0.seat };
 
@@ -58,7 +58,7 @@ impl<T: Send> Carrier for ValueQueue<T> {
         ensures refusal { IfErr result (λ unpushed. StopsPush unpushed.refusal) }
         //= values/push_causes
         ensures caused { IfErr result (λ unpushed.
-            PushRefused push_worn (arena_of self.now) seat.old seat.new turns unpushed.refusal) }
+            PushCaused push_worn (arena_of self.now) seat.old seat.new turns unpushed.refusal) }
     {
         within!(self, queue => queue.try_push(seat, value, turns))
     }
@@ -83,7 +83,7 @@ impl<T: Send> Carrier for ValueQueue<T> {
         ensures refusal { IfErr result StopsPop }
         //= values/other_causes
         ensures caused { IfErr result
-            (PopRefused pop_worn (arena_of self.now) seat.old seat.new turns) }
+            (PopCaused pop_worn (arena_of self.now) seat.old seat.new turns) }
     {
         within!(self, queue => queue.try_pop(seat, turns))
     }
@@ -105,7 +105,7 @@ impl<T: Send> Carrier for ValueQueue<T> {
         ensures refusal { IfErr result StopsShut }
         //= values/other_causes
         ensures caused { IfErr result
-            (ShutRefused shut_worn (arena_of self.now) seat.old seat.new turns) }
+            (ShutCaused shut_worn (arena_of self.now) seat.old seat.new turns) }
     {
         within!(self, queue => queue.try_shut(seat, turns))
     }

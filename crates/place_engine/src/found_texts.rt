@@ -16,7 +16,7 @@ use history::{Refusal, Stamped};
 use history_text::print_history;
 use placing::{Held, Placed, Reason, Span, Unknown};
 use std::alloc::{AllocError, Global};
-use text_io::{Line, Sink, send};
+use text_io::{LineBuffer, Sink, send};
 
 /// Writes the text that tells what is found of a text, of a queue that holds these at the start: a history with points, or one
 /// line, and behind a reason the lines of its operations, where they are asked for.
@@ -115,10 +115,10 @@ pub fn no_line(alloc: Global, reason: &Reason, count: u64) -> Result<Vec<u8>, Al
 
 // The place of the operation that a reason is of, and the cause.
 #[tactic(auto, unfolding(crate::specs::FoundTexts::head_text))]
-fn head(reason: &Reason, count: u64) -> Line
+fn head(reason: &Reason, count: u64) -> LineBuffer
     ensures { result ≡ head_text count reason.now }
 {
-    let mut line = Line::new();
+    let mut line = LineBuffer::new();
     line.push(b"no");
     line.push(place_word(count, place_of(reason)).as_slice());
     line.push(b" ");
@@ -186,11 +186,11 @@ fn push_place(text: &mut Vec<u8>, count: u64, place: u64) -> Result<(), AllocErr
 }
 
 // A place with a space before it: of the first so many, that it is held, and of the others counted behind these.
-fn place_word(count: u64, place: u64) -> Line
+fn place_word(count: u64, place: u64) -> LineBuffer
     ensures text { result ≡ place_text count place }
     ensures short { length result ≤ 26 }
 {
-    let mut word = Line::new();
+    let mut word = LineBuffer::new();
     if place <= count {
         word.push(b" held ");
         word.push_number(place);
@@ -233,10 +233,10 @@ fn push_spans(text: &mut Vec<u8>, count: u64, spans: &[Span]) -> Result<(), Allo
 
 // The line that tells why nothing was found.
 #[tactic(auto, unfolding(crate::specs::FoundTexts::open_text))]
-fn open_line(cause: Unknown) -> Line
+fn open_line(cause: Unknown) -> LineBuffer
     ensures { result ≡ open_text cause }
 {
-    let mut line = Line::new();
+    let mut line = LineBuffer::new();
     line.push(b"open ");
     line.push(name_of(cause));
     line.push(b"\n");

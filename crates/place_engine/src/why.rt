@@ -9,7 +9,7 @@ ghost use Rattle.recording_text.specs.RecordingReading.{bytes_of};
 use placing::{Held, Reason, Span};
 use recorded_source::header_of;
 use std::alloc::{AllocError, Global};
-use text_io::Line;
+use text_io::LineBuffer;
 use text_lines::line_at;
 
 /// Puts the lines of a text that say the operations of a reason, and the texts held at the start that it names, behind other
@@ -109,7 +109,7 @@ fn push_numbered(into: &mut Vec<u8>, number: u64, says: &[u8]) -> Result<(), All
     ensures { OnOk result
         (into.new.items ≡ into.old.items ++ (decimal number ++ codes " " ++ line says.now)) }
 {
-    let mut head = Line::new();
+    let mut head = LineBuffer::new();
     head.push_number(number);
     head.push(b" ");
     into.extend_from_slice(head.as_slice())?;

@@ -10,8 +10,8 @@ use Rattle.placing.specs.declared.backtracking.Edge.{Edge}
 use Rattle.placing.specs.declared.backtracking.Tried.{Tried}
 use Rattle.placing.specs.declared.links.Ring.{Ring}
 use Rattle.placing.specs.declared.backtracking.Search.{Search}
-use Rattle.placing.specs.declared.backtracking.Outcome.{Outcome}
-use Rattle.placing.specs.declared.backtracking.Outcome.TheVariants.{Order, Nothing, Steps}
+use Rattle.placing.specs.declared.backtracking.SearchEnd.{SearchEnd}
+use Rattle.placing.specs.declared.backtracking.SearchEnd.TheVariants.{Order, Nothing, Steps}
 use Rattle.placing.specs.Seen.{by_parts}
 use Rattle.placing.specs.TriedQueues.{mixed, Queue, queue_of, no_values, effect_of, changes, applied, undone, queue_mark}
 
@@ -268,7 +268,7 @@ pub record Ends (ops : List Stamped) (steps : ℕ) (ending : Ending) : Type 0 wh
   pub ends : ending_from steps ops (beginning (length ops) edges) ≡ ending
 
 -- how a search with this outcome ended
-abbrev pub ending_of : Outcome → Ending
+abbrev pub ending_of : SearchEnd → Ending
 ending_of (Order order) = Found order.items
 ending_of Nothing = InVain
 ending_of Steps = UsedUp

@@ -11,7 +11,7 @@ use std::collections::BTreeSet;
 
 /// What comes of a search.
 #[derive(Debug, Drop)]
-pub(crate) enum Outcome {
+pub(crate) enum SearchEnd {
     /// Operations in the order in which they take effect, as indices of the list.
     Order(Vec<usize>),
     /// No order was found, and none was left to try.
@@ -64,19 +64,19 @@ pub(crate) fn searched(
     alloc: Global,
     history: &[Stamped],
     steps: u64,
-) -> Result<Outcome, AllocError>
+) -> Result<SearchEnd, AllocError>
     ensures { IfOk result (λ outcome. Ends history.now steps (ending_of outcome)) }
 {
     let mut search = Search::of(alloc, history)?;
     for step in 0..steps {
         if search.left == 0 {
-            return Ok(Outcome::Order(search.indices(alloc)?));
+            return Ok(SearchEnd::Order(search.indices(alloc)?));
         }
         if !search.step(history)? {
-            return Ok(Outcome::Nothing);
+            return Ok(SearchEnd::Nothing);
         }
     }
-    Ok(Outcome::Steps)
+    Ok(SearchEnd::Steps)
 }
 
 impl Search {

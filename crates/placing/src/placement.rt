@@ -9,7 +9,7 @@ ghost use Rattle.placing.specs.Faults.{IsFaultless};
 ghost use Rattle.placing.specs.Answers.{IsAnswer, HasCause};
 
 use crate::answers::{Placed, Reason, Unknown};
-use crate::backtracking::{Outcome, searched};
+use crate::backtracking::{SearchEnd, searched};
 use crate::cuts::{Cutting, cut};
 use crate::kinds::{ByKind, first_fault, sorted};
 use crate::known::Known;
@@ -75,12 +75,12 @@ fn sought(alloc: Global, history: &[Stamped], steps: u64) -> Result<Placed, Refu
     ensures only_memory { IfErr result (λ refusal. refusal ≡ Refusal.Memory) }
 {
     match searched(alloc, history, steps) {
-        Ok(Outcome::Order(order)) => match placed(alloc, history, &order)? {
+        Ok(SearchEnd::Order(order)) => match placed(alloc, history, &order)? {
             Some(new) => Ok(Placed::History(new)),
             None => Ok(Placed::Open(Unknown::Unplaced)),
         },
-        Ok(Outcome::Nothing) => Ok(Placed::Open(Unknown::Searched)),
-        Ok(Outcome::Steps) => Ok(Placed::Open(Unknown::Steps)),
+        Ok(SearchEnd::Nothing) => Ok(Placed::Open(Unknown::Searched)),
+        Ok(SearchEnd::Steps) => Ok(Placed::Open(Unknown::Steps)),
         Err(_) => Err(Refusal::Memory),
     }
 }

@@ -3,7 +3,7 @@ ghost use Rattle.std.specs.Prelude.{◌≡◌, ◌⊎◌, ◌+◌, ◌<◌, ◌�
 ghost use Rattle.std.specs.List.{All};
 ghost use Rattle.history.specs.Seats.{MayPop};
 ghost use Rattle.node_arena.specs.Plans.{permits_by};
-ghost use Rattle.ring_queue.specs.NewRings.{NewRefused};
+ghost use Rattle.ring_queue.specs.NewRings.{RingRefused};
 ghost use Rattle.value_queue.specs.Queues.{AreNewOf};
 ghost use Rattle.channels.specs.Handles.{sender_seat, receiver_seat};
 ghost use Rattle.ring_values.specs.ValuesSeen.{known_by};
@@ -48,7 +48,7 @@ fn ring_for<T>(
     ensures unused { IfOk result (λ r. AreNewOf (permits_of r.0) (map known_by r.1.items)) }
     ensures sized { IfOk result (λ r. (plan_of r.0).most ≡ max places 1) }
     ensures refused { IfErr result (λ refusal. (refusal ≡ Refusal.Memory)
-        ⊎ NewRefused (max places 1) 32 4611686018427387903 (ring_roles_for senders receivers)
+        ⊎ RingRefused (max places 1) 32 4611686018427387903 (ring_roles_for senders receivers)
         refusal) }
 {
     if senders.saturating_add(receivers) > MOST_HANDLES {
@@ -91,7 +91,7 @@ impl<T: Send + Drop> PostOffice<RingValues<T>> {
             → (senders < n) × (n ≤ senders + receivers)) }
         ensures sized { IfOk result (λ r. (plan_of (office_queue r.0)).most ≡ max places 1) }
         ensures refused { IfErr result (λ refusal. (refusal ≡ Refusal.Memory)
-            ⊎ NewRefused (max places 1) 32 4611686018427387903 (ring_roles_for senders receivers)
+            ⊎ RingRefused (max places 1) 32 4611686018427387903 (ring_roles_for senders receivers)
             refusal) }
     {
         let (queue, seats) = ring_for::<T>(alloc, places, senders, receivers)?;

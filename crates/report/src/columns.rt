@@ -2,19 +2,19 @@
 ghost use Rattle.std.specs.Prelude.{◌≡◌, ◌+◌, ◌≤◌, ◌++◌, length, decimal, replicate};
 ghost use Rattle.report.specs.Columns.{right_in, left_in};
 
-use text_io::{LINE_ROOM, Line};
+use text_io::{LINE_ROOM, LineBuffer};
 
 /// How many places a column has at most; a number of 64 bits has no more digits.
 const WIDEST: usize = 20;
 
 // Puts a number at the right end of so many places. A wider one takes the places that it needs.
-pub(crate) fn push_right(line: &mut Line, width: usize, number: u64)
+pub(crate) fn push_right(line: &mut LineBuffer, width: usize, number: u64)
     requires room { length line.old + WIDEST ≤ LINE_ROOM }
     requires narrow { width ≤ WIDEST }
     ensures text { line.new ≡ line.old ++ right_in width (decimal number) }
     ensures short { length line.new ≤ length line.old + WIDEST }
 {
-    let mut digits = Line::new();
+    let mut digits = LineBuffer::new();
     digits.push_number(number);
     let digits = digits.as_slice();
     push_spaces(line, width.saturating_sub(digits.len()));
@@ -22,7 +22,7 @@ pub(crate) fn push_right(line: &mut Line, width: usize, number: u64)
 }
 
 // Puts a text at the left end of so many places. A wider one takes the places that it needs.
-pub(crate) fn push_left(line: &mut Line, width: usize, text: &[u8])
+pub(crate) fn push_left(line: &mut LineBuffer, width: usize, text: &[u8])
     requires room { length line.old + WIDEST ≤ LINE_ROOM }
     requires narrow { width ≤ WIDEST }
     requires fits { length text.now ≤ WIDEST }
@@ -33,7 +33,7 @@ pub(crate) fn push_left(line: &mut Line, width: usize, text: &[u8])
     push_spaces(line, width.saturating_sub(text.len()));
 }
 
-fn push_spaces(line: &mut Line, count: usize)
+fn push_spaces(line: &mut LineBuffer, count: usize)
     requires room { length line.old + count ≤ LINE_ROOM }
     requires few { count ≤ WIDEST }
     ensures text { line.new ≡ line.old ++ replicate count 32 }

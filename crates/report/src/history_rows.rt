@@ -6,14 +6,14 @@ use crate::columns::{push_left, push_right};
 use crate::kinds::{Kind, name_of};
 use history::Stamped;
 use history_text::{push_call, push_reply};
-use text_io::Line;
+use text_io::LineBuffer;
 
 // The line of an operation with this place.
 #[tactic(auto, unfolding(crate::specs::HistoryTable::row_text))]
-pub(crate) fn row_line(at: u64, operation: &Stamped) -> Line
+pub(crate) fn row_line(at: u64, operation: &Stamped) -> LineBuffer
     ensures { result ≡ row_text at operation.now }
 {
-    let mut line = Line::new();
+    let mut line = LineBuffer::new();
     push_right(&mut line, 10, at);
     push_right(&mut line, 7, u64::from(operation.actor));
     line.push(b" ");
@@ -26,10 +26,10 @@ pub(crate) fn row_line(at: u64, operation: &Stamped) -> Line
 
 // The line of a kind with its number.
 #[tactic(auto, unfolding(crate::specs::HistoryTable::count_text))]
-pub(crate) fn count_line(kind: Kind, number: u64) -> Line
+pub(crate) fn count_line(kind: Kind, number: u64) -> LineBuffer
     ensures { result ≡ count_text kind number }
 {
-    let mut line = Line::new();
+    let mut line = LineBuffer::new();
     push_left(&mut line, 10, name_of(kind));
     push_right(&mut line, 8, number);
     line.push(b"\n");

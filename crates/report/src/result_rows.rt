@@ -6,17 +6,17 @@ ghost use Rattle.report.specs.ResultsTable.{value_text, results_header_text, res
 use crate::columns::{push_left, push_right};
 use crate::job_kinds::name_of_job;
 use job_results::{JobKind, JobResult, Value};
-use text_io::{LINE_ROOM, Line};
+use text_io::{LINE_ROOM, LineBuffer};
 
 // How many digits a number of 128 bits has at most.
 const MOST_DIGITS: usize = 39;
 
 // The first line.
 #[tactic(auto, unfolding(crate::specs::ResultsTable::results_header_text))]
-pub(crate) fn results_header_line(count: u64) -> Line
+pub(crate) fn results_header_line(count: u64) -> LineBuffer
     ensures { result ≡ results_header_text count }
 {
-    let mut line = Line::new();
+    let mut line = LineBuffer::new();
     line.push(b"results ");
     line.push_number(count);
     line.push(b"\n");
@@ -25,10 +25,10 @@ pub(crate) fn results_header_line(count: u64) -> Line
 
 // The line of a result.
 #[tactic(auto, unfolding(crate::specs::ResultsTable::result_text))]
-pub(crate) fn result_line(told: &JobResult) -> Line
+pub(crate) fn result_line(told: &JobResult) -> LineBuffer
     ensures { result ≡ result_text (row_of told.now) }
 {
-    let mut line = Line::new();
+    let mut line = LineBuffer::new();
     push_right(&mut line, 8, told.number());
     line.push(b" ");
     line.push(name_of_job(told.job().kind()));
@@ -40,10 +40,10 @@ pub(crate) fn result_line(told: &JobResult) -> Line
 
 // The line of a kind with its number.
 #[tactic(auto, unfolding(crate::specs::ResultsTable::job_count_text))]
-pub(crate) fn job_count_line(kind: JobKind, number: u64) -> Line
+pub(crate) fn job_count_line(kind: JobKind, number: u64) -> LineBuffer
     ensures { result ≡ job_count_text kind number }
 {
-    let mut line = Line::new();
+    let mut line = LineBuffer::new();
     push_left(&mut line, 10, name_of_job(kind));
     push_right(&mut line, 8, number);
     line.push(b"\n");
@@ -51,7 +51,7 @@ pub(crate) fn job_count_line(kind: JobKind, number: u64) -> Line
 }
 
 // Puts a value at the end of a line: a number in decimal, or `by-zero`.
-fn push_value(line: &mut Line, value: Value)
+fn push_value(line: &mut LineBuffer, value: Value)
     requires { length line.old + MOST_DIGITS ≤ LINE_ROOM }
     ensures text { line.new ≡ line.old ++ value_text value }
     ensures short { length line.new ≤ length line.old + MOST_DIGITS }
@@ -63,7 +63,7 @@ fn push_value(line: &mut Line, value: Value)
 }
 
 // Puts a number of 128 bits in decimal at the end of a line.
-fn push_wide_number(line: &mut Line, number: u128)
+fn push_wide_number(line: &mut LineBuffer, number: u128)
     requires { length line.old + MOST_DIGITS ≤ LINE_ROOM }
     ensures digits { line.new ≡ line.old ++ decimal number }
     ensures short { length line.new ≤ length line.old + MOST_DIGITS }
@@ -71,7 +71,7 @@ fn push_wide_number(line: &mut Line, number: u128)
     push_digits(line, number);
 }
 
-fn push_digits(line: &mut Line, number: u128)
+fn push_digits(line: &mut LineBuffer, number: u128)
     requires { length line.old + length (decimal number) ≤ LINE_ROOM }
     ensures { line.new ≡ line.old ++ decimal number }
 {

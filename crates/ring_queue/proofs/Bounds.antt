@@ -10,8 +10,8 @@ use Rattle.history.specs.Seats.{Known}
 use Rattle.history.specs.Answers.{SeesMore}
 use Rattle.history.proofs.Learning.{sees_itself, sees_then}
 use Rattle.history.proofs.Sums.{pushes-Leads}
-use Rattle.ring_queue.specs.declared.lengths.Emptiness.{Emptiness}
-use Rattle.ring_queue.specs.declared.lengths.Emptiness.TheVariants.{Empty, ShutEmpty, Holds, Moved, Unfilled}
+use Rattle.ring_queue.specs.declared.lengths.RingEmptiness.{RingEmptiness}
+use Rattle.ring_queue.specs.declared.lengths.RingEmptiness.TheVariants.{Empty, ShutEmpty, Holds, Moved, Unfilled}
 use Rattle.ring_queue.specs.declared.lengths.Len.{Len}
 use Rattle.ring_queue.specs.declared.seats.Seat.{Seat}
 use Rattle.ring_queue.specs.Words.{tail_word}
@@ -107,7 +107,7 @@ module _ (z : Layout) (k b c : Known) (n head : ℕ) (first : SeesMore k b) (cou
       go false f = absurd (let is = is_open f in let below = h.below in omega (arith, is, big, below))
 
   -- what the front of a ring that is shut says
-  pub shut_found : {T : Type 0} (s t : Seat T) (e : Emptiness) → known_of s ≡ c → s.head ≡ head → 2 ^ 62 ≤ n → n ≢ head + 2 ^ 62 → ShutSays z s t e → FoundSo z k e (known_of t)
+  pub shut_found : {T : Type 0} (s t : Seat T) (e : RingEmptiness) → known_of s ≡ c → s.head ≡ head → 2 ^ 62 ≤ n → n ≢ head + 2 ^ 62 → ShutSays z s t e → FoundSo z k e (known_of t)
   shut_found s t Unfilled is at big apart says =
       let m : WasMeanwhile c says.now (known_of t) = subst (λ x. WasMeanwhile x says.now (known_of t)) is says.more in
       let low = pops_on c.seen says.now m.begins in
@@ -188,7 +188,7 @@ module _ (z : Layout) (k b c : Known) (n head : ℕ) (first : SeesMore k b) (cou
           }
 
 -- what the front says after a seat that only saw more, and kept its head
-pub front_after : {T : Type 0} (z : Layout) (s t u : Seat T) (e : Emptiness) → SeesMore (known_of s) (known_of t) → t.head ≡ s.head → FrontSays z t u e → ShutSays z s u e
+pub front_after : {T : Type 0} (z : Layout) (s t u : Seat T) (e : RingEmptiness) → SeesMore (known_of s) (known_of t) → t.head ≡ s.head → FrontSays z t u e → ShutSays z s u e
 front_after z s t u Empty more same says = absurd says
 front_after z s t u ShutEmpty more same says = (sees_then (known_of s) (known_of t) (known_of u) more says.0, says.1)
 front_after z s t u Holds more same says = (sees_then (known_of s) (known_of t) (known_of u) more says.0, says.1)

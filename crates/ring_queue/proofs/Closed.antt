@@ -15,7 +15,7 @@ use Rattle.ring_queue.specs.Knowledge.{gathered}
 use Rattle.ring_queue.specs.Steps.{Rests}
 use Rattle.ring_queue.specs.Beside.{Beside, HoldsBy}
 use Rattle.ring_queue.specs.Seats.{known_of, view}
-use Rattle.ring_queue.specs.Queues.{IsQueueSeat, IsRingSeat, permits_in}
+use Rattle.ring_queue.specs.Queues.{IsNumberSeat, IsRingSeat, permits_in}
 use Rattle.ring_queue.specs.Moments.{head_in, tail_in}
 use Rattle.ring_queue.specs.Remains.{values_from, HasWords, was_shut_in}
 use Rattle.ring_queue.specs.Ends.{ClosesValues, EachBegins}
@@ -34,7 +34,7 @@ pub record IsClosed (slots : ℕ) (words : List ℕ) (Told : Rest → Type 0) : 
       → taken_of rest + slots ≡ head_in words → whole_of rest ≡ true → was_shut_of rest ≡ was_shut_in words → Told rest
 
 -- a ring of numbers
-module _ {T : Type 0} (q : RingQueue T) (seats : List (Seat T)) (ready : All (IsQueueSeat q) seats) (all : length seats ≡ length (permits_in q)) where
+module _ {T : Type 0} (q : RingQueue T) (seats : List (Seat T)) (ready : All (IsNumberSeat q) seats) (all : length seats ≡ length (permits_in q)) where
   numbers : q.plan.carries ≡ false
   numbers = let roles = length-map q.plan.roles permit_of in let seated = q.laid.planned.seated in carries_none q seats ready (omega (arith, all, roles, seated))
 

@@ -12,7 +12,7 @@ use Rattle.ring_queue.specs.declared.seats.Seat.{Seat}
 use Rattle.ring_queue.specs.Plans.{permit_of, permits_by}
 use Rattle.ring_queue.specs.Knowledge.{known_by}
 use Rattle.ring_queue.specs.Seats.{known_of}
-use Rattle.ring_queue.specs.Queues.{IsQueueSeat, permits_in}
+use Rattle.ring_queue.specs.Queues.{IsNumberSeat, permits_in}
 use Rattle.ring_queue.specs.NewRings.{IsMade}
 
 -- what holds at each place of a list holds of all
@@ -27,8 +27,8 @@ ok_on P Q f (Err e) h = tt
 
 module _ {T : Type 0} (most credits limit : ℕ) (roles : List Role) (q : RingQueue T) (seats : List (Seat T)) (m : IsMade most credits limit roles q seats) where
   -- each seat of a new ring may begin a call
-  pub made_ready : All (IsQueueSeat q) seats
-  made_ready = all_places (IsQueueSeat q) seats (λ k s e. (m.each k s e).ready)
+  pub made_ready : All (IsNumberSeat q) seats
+  made_ready = all_places (IsNumberSeat q) seats (λ k s e. (m.each k s e).ready)
 
   -- a new ring permits what its roles do
   pub made_permits : permits_in q ≡ permits_by roles

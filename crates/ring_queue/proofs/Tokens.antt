@@ -24,7 +24,7 @@ use Rattle.ring_queue.specs.Beside.{Beside, HasNone, HoldsBy, MeetsBeside, Opens
 use Rattle.ring_queue.specs.NewRings.{IsDealt}
 use Rattle.ring_queue.specs.Ends.{HasToken, HasGathered}
 use Rattle.ring_queue.specs.Seats.{HasNoSlot, deeds_of, view}
-use Rattle.ring_queue.specs.Queues.{IsQueueSeat, IsRingSeat}
+use Rattle.ring_queue.specs.Queues.{IsNumberSeat, IsRingSeat}
 use Rattle.ring_queue.proofs.Tables.{HoldsWith}
 use Rattle.ring_queue.proofs.Deals.{deals, new_is_sound}
 use Rattle.ring_queue.proofs.Meets.{pairs, parts, spares}
@@ -222,7 +222,7 @@ pub took_none : {T : Type 0} (t : TableId) (k : Token (Option T) (Beside T)) →
 took_none {T} t k table held opened = record { table = table; seat = ap (λ y. y.0) opened; held = held; others = λ ds all. All-nil (λ (x : Seat T). IsPrefix (deeds_of x) ds) }
 
 -- each seat of a ring that carries no values brings a token of its table
-pub have_tokens : {T : Type 0} (q : RingQueue T) (seats : List (Seat T)) → All (IsQueueSeat q) seats → All (HasToken q.table.shared.table_id) seats
+pub have_tokens : {T : Type 0} (q : RingQueue T) (seats : List (Seat T)) → All (IsNumberSeat q) seats → All (HasToken q.table.shared.table_id) seats
 have_tokens q seats ready = λ k d lt. let h = ready k d lt in record { table = h.ready.sits.table; seat = h.ready.sits.seat; none_out = h.ready.sits.none_out h.numbers }
 
 -- so does each of a ring that carries values, of which no slot is out
@@ -246,6 +246,6 @@ ends_alone z key t seats id w words slots laid numbers count is f =
     subst (Ends z seats) (take_full (words_of z) words (omega (arith, count, all, none_of))) (ends z key seats id w words slots laid.key is f)
 
 -- a ring with a seat that is one of a ring that carries no values carries none
-pub carries_none : {T : Type 0} (q : RingQueue T) (seats : List (Seat T)) → All (IsQueueSeat q) seats → 1 ≤ length seats → q.plan.carries ≡ false
+pub carries_none : {T : Type 0} (q : RingQueue T) (seats : List (Seat T)) → All (IsNumberSeat q) seats → 1 ≤ length seats → q.plan.carries ≡ false
 carries_none q [] all some = absurd (omega (arith, some))
 carries_none q (s ∷ ss) all some = (all 0 s (omega arith)).numbers

@@ -12,20 +12,20 @@ use Rattle.ring_queue.specs.Turns.{HaveFailed}
 
 -- a push is refused: at its last step the queue was shut; or its seat had no place in reserve, and at its last step the queue was
 -- full or the places were used up, or in each of so many turns another had raised Head
-abbrev pub PushRefused : {T : Type 0} → Layout → (s t : Seat T) → (turns : ℕ) → Refusal → Type 0
-PushRefused z s t turns NoNode = (reserve_of s ≡ 0) × IsFull z (view t).seen
-PushRefused z s t turns (WornOut OfTail) = (reserve_of s ≡ 0) × IsWorn z (view t).seen
-PushRefused z s t turns Busy = (reserve_of s ≡ 0) × (s.head + turns ≤ t.head)
-PushRefused z s t turns Closed = LeadsToShut (view t).seen
-PushRefused z s t turns _ = ⊥
+abbrev pub PushCaused : {T : Type 0} → Layout → (s t : Seat T) → (turns : ℕ) → Refusal → Type 0
+PushCaused z s t turns NoNode = (reserve_of s ≡ 0) × IsFull z (view t).seen
+PushCaused z s t turns (WornOut OfTail) = (reserve_of s ≡ 0) × IsWorn z (view t).seen
+PushCaused z s t turns Busy = (reserve_of s ≡ 0) × (s.head + turns ≤ t.head)
+PushCaused z s t turns Closed = LeadsToShut (view t).seen
+PushCaused z s t turns _ = ⊥
 
 -- a pop is refused: at its last step the queue was shut and empty, or each of its turns failed from its seat's head on
-abbrev pub PopRefused : {T : Type 0} → Layout → (s t : Seat T) → (turns : ℕ) → Refusal → Type 0
-PopRefused z s t turns Busy = HaveFailed z (view s).seen s.head turns t
-PopRefused z s t turns Closed = Leads (view t).seen true []
-PopRefused z s t turns _ = ⊥
+abbrev pub PopCaused : {T : Type 0} → Layout → (s t : Seat T) → (turns : ℕ) → Refusal → Type 0
+PopCaused z s t turns Busy = HaveFailed z (view s).seen s.head turns t
+PopCaused z s t turns Closed = Leads (view t).seen true []
+PopCaused z s t turns _ = ⊥
 
 -- a shut is refused: the queue was shut at its step
-abbrev pub ShutRefused : {T : Type 0} (s t : Seat T) → Refusal → Type 0
-ShutRefused s t Closed = LeadsToShut (view t).seen
-ShutRefused s t _ = ⊥
+abbrev pub ShutCaused : {T : Type 0} (s t : Seat T) → Refusal → Type 0
+ShutCaused s t Closed = LeadsToShut (view t).seen
+ShutCaused s t _ = ⊥

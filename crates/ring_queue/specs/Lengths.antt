@@ -7,8 +7,8 @@ use Rattle.history.specs.declared.operations.Taken.{Taken}
 use Rattle.history.specs.Entries.{is_push, is_pop, Leads, LeadsTo, LeadsToShut}
 use Rattle.history.specs.Seats.{Known}
 use Rattle.history.specs.Answers.{SeesMore}
-use Rattle.ring_queue.specs.declared.lengths.Emptiness.{Emptiness}
-use Rattle.ring_queue.specs.declared.lengths.Emptiness.TheVariants.{Empty, ShutEmpty, Holds, Moved, Unfilled}
+use Rattle.ring_queue.specs.declared.lengths.RingEmptiness.{RingEmptiness}
+use Rattle.ring_queue.specs.declared.lengths.RingEmptiness.TheVariants.{Empty, ShutEmpty, Holds, Moved, Unfilled}
 use Rattle.ring_queue.specs.declared.lengths.Len.{Len}
 use Rattle.ring_queue.specs.declared.seats.Seat.{Seat}
 use Rattle.ring_queue.specs.Plans.{Layout, reserve}
@@ -43,7 +43,7 @@ pub record FoundUnfilled (z : Layout) (k k' : Known) : Type 0 where
 
 -- the ring was found so: after a history no older than what the seat had seen it was empty and not shut, empty and shut, or held
 -- a value; or pops took effect; or it was shut, and the place at its front wasn't filled
-abbrev pub FoundSo : Layout → Known → Emptiness → Known → Type 0
+abbrev pub FoundSo : Layout → Known → RingEmptiness → Known → Type 0
 FoundSo z k Empty k' = (now : List Entry) × WasMeanwhile k now k' × LeadsTo now []
 FoundSo z k ShutEmpty k' = (now : List Entry) × WasMeanwhile k now k' × Leads now true []
 FoundSo z k Holds k' = (now : List Entry) × WasMeanwhile k now k' × LeadsToSome now
@@ -94,13 +94,13 @@ pub record StaysLate {T : Type 0} (z : Layout) (s t : Seat T) : Type 0 where
   pub counts : HeadCounts z t
 
 -- what the place at a seat's head says, where it has found a word there and reads Head: the mark, a value, or that Head was raised
-abbrev pub FrontSays : {T : Type 0} → Layout → (s t : Seat T) → Emptiness → Type 0
+abbrev pub FrontSays : {T : Type 0} → Layout → (s t : Seat T) → RingEmptiness → Type 0
 FrontSays z s t ShutEmpty = SeesMore (known_of s) (known_of t) × Leads (view t).seen true []
 FrontSays z s t Holds = SeesMore (known_of s) (known_of t) × LeadsToSome (view t).seen
 FrontSays z s t Moved = SeesMore (known_of s) (known_of t) × (s.head < t.head) × HeadCounts z t
 FrontSays z s t _ = ⊥
 
 -- what it says of a ring that is shut, beside that it isn't filled
-abbrev pub ShutSays : {T : Type 0} → Layout → (s t : Seat T) → Emptiness → Type 0
+abbrev pub ShutSays : {T : Type 0} → Layout → (s t : Seat T) → RingEmptiness → Type 0
 ShutSays z s t Unfilled = StaysLate z s t
 ShutSays z s t e = FrontSays z s t e

@@ -12,7 +12,7 @@ use Rattle.ring_queue.specs.Words.{slot_word}
 use Rattle.ring_queue.specs.Plans.{Layout}
 use Rattle.ring_queue.specs.Knowledge.{keeper, new_seat}
 use Rattle.ring_queue.specs.Seats.{IsReady, HasNoSlot, deeds_of, view}
-use Rattle.ring_queue.specs.Queues.{IsQueueSeat}
+use Rattle.ring_queue.specs.Queues.{IsNumberSeat}
 
 -- the words at the start, with so many flags behind those of the queue
 pub record AreFirst (slots flags : ℕ) (words : List ℕ) : Type 0 where
@@ -48,7 +48,7 @@ pub record IsLeastPower (least n : ℕ) : Type 0 where
 
 -- a new seat of a ring: it may begin a call, and knows nothing
 pub record IsNewSeat {T : Type 0} (q : RingQueue T) (n : ℕ) (s : Seat T) : Type 0 where
-  pub ready : IsQueueSeat q s
+  pub ready : IsNumberSeat q s
   pub view : view s ≡ new_seat q.plan.slots n
 
 -- how many slots a ring has for such sizes: the fewest in which the values and all reserves fit, by powers of two
@@ -99,8 +99,8 @@ IsMislimited most credits limit roles =
     ((slots : ℕ) × HasSlots most credits roles slots × (limit < slots)) ⊎ (2 ^ 62 ≤ limit)
 
 -- a new ring is refused for this cause: a size is out of its range, or memory was refused where all are in theirs
-abbrev pub NewRefused : (most credits limit : ℕ) → List Role → Refusal → Type 0
-NewRefused most credits limit roles BadSize =
+abbrev pub RingRefused : (most credits limit : ℕ) → List Role → Refusal → Type 0
+RingRefused most credits limit roles BadSize =
     IsMiscounted most credits roles ⊎ IsMislimited most credits limit roles
-NewRefused most credits limit roles Memory = IsSized most credits limit roles
-NewRefused most credits limit roles _ = ⊥
+RingRefused most credits limit roles Memory = IsSized most credits limit roles
+RingRefused most credits limit roles _ = ⊥

@@ -15,7 +15,7 @@ use Rattle.ring_queue.specs.Plans.{Layout}
 use Rattle.ring_queue.specs.Knowledge.{Stage, rests, saw, claimed, found, SeatView, View}
 use Rattle.ring_queue.specs.Steps.{Rests}
 use Rattle.ring_queue.specs.Seats.{Sits, IsReady}
-use Rattle.ring_queue.specs.Queues.{IsQueueSeat}
+use Rattle.ring_queue.specs.Queues.{IsNumberSeat}
 
 Role-set : IsSet Role
 Role-set = Coded-set role.the_row.coded
@@ -46,5 +46,5 @@ pub IsReady-prop : {T : Type 0} (z : Layout) (t : TableId) (s : Seat T) → IsPr
 IsReady-prop z t s = hlevel (props, Sits-prop, Rests-prop)
 
 -- a seat is a ring's, in no call
-pub IsQueueSeat-prop : {T : Type 0} (q : RingQueue T) (s : Seat T) → IsProp (IsQueueSeat q s)
-IsQueueSeat-prop q s = hlevel (props, Sits-prop, Rests-prop)
+pub IsNumberSeat-prop : {T : Type 0} (q : RingQueue T) (s : Seat T) → IsProp (IsNumberSeat q s)
+IsNumberSeat-prop q s = hlevel (props, Sits-prop, Rests-prop)

@@ -1,13 +1,13 @@
 //! The pop of many values at one step.
 ghost use Rattle.std.specs.Prelude.{◌≡◌, ◌+◌, ◌≤◌, [], ◌∷◌, length, take, get_or, vec_len, vec_capacity, IfOk, IfErr, false};
 ghost use Rattle.history.specs.Seats.{MayPop};
-ghost use Rattle.history.specs.Answers.{PopRefused as RefusedPop, StopsPop};
+ghost use Rattle.history.specs.Answers.{PopRefused, StopsPop};
 ghost use Rattle.ring_queue.specs.Plans.{permits_of};
 ghost use Rattle.ring_queue.specs.Seats.{IsReady, KeepsName, known_of, view};
 ghost use Rattle.ring_queue.specs.Knowledge.{found};
 ghost use Rattle.ring_queue.specs.Steps.{AreValues};
-ghost use Rattle.ring_queue.specs.Causes.{PopRefused};
-ghost use Rattle.ring_queue.specs.Queues.{IsQueueSeat, permits_in};
+ghost use Rattle.ring_queue.specs.Causes.{PopCaused};
+ghost use Rattle.ring_queue.specs.Queues.{IsNumberSeat, permits_in};
 ghost use Rattle.ring_queue.specs.Many.{TakenAll};
 ghost use Rattle.ring_queue.specs.Batches.{PopsSome, BatchSays, GoesOn};
 
@@ -134,12 +134,12 @@ impl<T> RingQueue<T> {
         into: &mut Vec<Taken>,
         turns: u32,
     ) -> Result<usize, Refusal>
-        requires seat { IsQueueSeat self.now seat.old }
+        requires seat { IsNumberSeat self.now seat.old }
         requires role { MayPop (permits_in self.now) (known_of seat.old).number }
         requires most { 1 ≤ most }
         requires room { vec_len into.old + most ≤ vec_capacity into.old }
         requires turns { 1 ≤ turns }
-        ensures seat { IsQueueSeat self.now seat.new }
+        ensures seat { IsNumberSeat self.now seat.new }
         ensures number { (known_of seat.new).number ≡ (known_of seat.old).number }
         //= ring/pop_up_to (popped, kept, refused, refusal, caused): A pop of many takes one value at least, and no more than it is
         //=   to, adds their pops, one behind another, and puts the values behind what was in the list; or it answers none, as a
@@ -148,9 +148,9 @@ impl<T> RingQueue<T> {
             into.old.items into.new.items (known_of seat.new) count) }
         ensures kept { IfErr result (λ refusal. into.new.items ≡ into.old.items) }
         ensures refused { IfErr result
-            (λ refusal. RefusedPop (known_of seat.old) refusal (known_of seat.new)) }
+            (λ refusal. PopRefused (known_of seat.old) refusal (known_of seat.new)) }
         ensures refusal { IfErr result StopsPop }
-        ensures caused { IfErr result (PopRefused self.now.plan seat.old seat.new turns) }
+        ensures caused { IfErr result (PopCaused self.now.plan seat.old seat.new turns) }
     {
         for _ in 0..turns {
             match self.batch_turn(seat, most, into) {

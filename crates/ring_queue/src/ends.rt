@@ -3,7 +3,7 @@ ghost use Rattle.std.specs.Prelude.{◌≡◌, ◌<◌, [], true, length, map, I
 ghost use Rattle.std.specs.List.{All};
 ghost use Rattle.history.specs.Ends.{Closes};
 ghost use Rattle.ring_queue.specs.Ends.{HasToken, HasGathered, HasRoomFor, ClosesValues};
-ghost use Rattle.ring_queue.specs.Queues.{IsQueueSeat, IsRingSeat, permits_in};
+ghost use Rattle.ring_queue.specs.Queues.{IsNumberSeat, IsRingSeat, permits_in};
 ghost use Rattle.ring_queue.specs.Seats.{HasNoSlot, known_of};
 
 use crate::queue::RingQueue;
@@ -49,7 +49,7 @@ impl RingQueue {
     // Ends the ring with all its seats, each of which is in no call, so that each place that was claimed is filled.
     fn end_with(self, room: Vec<Taken>, seats: Vec<Seat>) -> Rest
         requires room { HasRoomFor self room }
-        requires seats { All (IsQueueSeat self) seats.items }
+        requires seats { All (IsNumberSeat self) seats.items }
         requires all { length seats.items ≡ length (permits_in self) }
         ensures rest { Closes (permits_in self) (map known_of seats.items) result }
     {
@@ -149,7 +149,7 @@ impl Close for RingQueue {
 
     fn close_with(self, room: Vec<Taken>, seats: Vec<Seat>) -> (Rest, ())
         requires room { HasRoomFor self room }
-        requires seats { All (IsQueueSeat self) seats.items }
+        requires seats { All (IsNumberSeat self) seats.items }
         requires asked { length (map known_of seats.items) ≡ length (permits_in self) }
         ensures rest { Closes (permits_in self) (map known_of seats.items) result.0 }
     {

@@ -2,8 +2,8 @@
 ghost use Rattle.std.specs.Prelude.{◌≡◌, ◌≤◌, ◌↔◌, IsTrue, OnOk, IfOk, IfErr};
 ghost use Rattle.history.specs.Seats.{MayPush, MayPop};
 ghost use Rattle.history.specs.Answers.{Pushed, PopAnswers, DidShut, Meets, StopsPush, StopsPop, StopsShut};
-ghost use Rattle.history.specs.Answers.{PushRefused as RefusedPush, PopRefused as RefusedPop};
-ghost use Rattle.ring_queue.specs.Causes.{PushRefused, PopRefused, ShutRefused};
+ghost use Rattle.history.specs.Answers.{PushRefused, PopRefused};
+ghost use Rattle.ring_queue.specs.Causes.{PushCaused, PopCaused, ShutCaused};
 ghost use Rattle.ring_queue.specs.Seats.{known_of};
 
 use crate::queue::RingQueue;
@@ -12,13 +12,13 @@ use crate::seats::Seat;
 use history::{Body, Fifo, Refusal, Taken};
 
 impl Fifo for RingQueue {
-    ghost use Rattle.ring_queue.specs.Queues.{IsQueueSeat, permits_in, push_causes, pop_causes, shut_causes};
+    ghost use Rattle.ring_queue.specs.Queues.{IsNumberSeat, permits_in, push_causes, pop_causes, shut_causes};
     ghost use Rattle.ring_queue.specs.Seats.{known_of};
-    ghost use Rattle.ring_queue.specs.OneProof.{IsQueueSeat-prop};
+    ghost use Rattle.ring_queue.specs.OneProof.{IsNumberSeat-prop};
 
     type Seat = Seat;
 
-    ghost is_seat = { IsQueueSeat };
+    ghost is_seat = { IsNumberSeat };
 
     ghost permits = { permits_in };
 
@@ -40,7 +40,7 @@ impl Fifo for RingQueue {
 
     ghost closed_alike = { λ _ _ _ _ cause. cause };
 
-    ghost seat_prop = { IsQueueSeat-prop };
+    ghost seat_prop = { IsNumberSeat-prop };
 
     /// Refusals: `NoNode` where at one step the queue held as many values as make it full, `WornOut` where at one step fewer
     /// places were left than all seats may have in reserve, `Busy` where in each of so many turns another had popped, and

@@ -3,7 +3,7 @@ ghost use Rattle.std.specs.Prelude.{[], ◌∷◌, ◌≡◌, ◌^◌, ◌<◌, 
 ghost use Rattle.ring_queue.specs.Steps.{HoldsSoMany};
 ghost use Rattle.ring_queue.specs.Knowledge.{found};
 ghost use Rattle.ring_queue.specs.Seats.{IsReady, KeepsName, KeepsSlots, KeepsStored, known_of, view};
-ghost use Rattle.ring_queue.specs.Queues.{IsQueueSeat, IsRingSeat};
+ghost use Rattle.ring_queue.specs.Queues.{IsNumberSeat, IsRingSeat};
 ghost use Rattle.ring_queue.specs.Lengths.{FoundSo, WasSoLong, LeavesPushes, FrontSays, ShutSays};
 
 use crate::acts::PARITY;
@@ -21,7 +21,7 @@ pub struct Len {
 
 /// What a seat found that looked whether its ring is empty, of a moment no older than what it had seen before.
 #[derive(Clone, Copy, Debug, PartialEq, Eq)]
-pub enum Emptiness {
+pub enum RingEmptiness {
     /// At that moment it held no value, and wasn't shut.
     Empty,
     /// At that moment it held no value, and was shut: nothing comes any more.
@@ -44,7 +44,7 @@ fn spare(tail: u64, reserve: u64) -> u64
 
 impl<T> RingQueue<T> {
     // A seat that found this word at its place reads Head.
-    fn look_behind(&self, seat: &mut Seat<T>, word: u64) -> Emptiness
+    fn look_behind(&self, seat: &mut Seat<T>, word: u64) -> RingEmptiness
         requires ready { IsReady self.now.plan self.now.table.shared.table_id seat.old }
         requires found { (view seat.old).stage ≡ found (word ∷ []) }
         ensures seat { IsReady self.now.plan self.now.table.shared.table_id seat.new }
@@ -56,16 +56,16 @@ impl<T> RingQueue<T> {
         let stays = head == seat.head;
         seat.head = head;
         if !stays {
-            Emptiness::Moved
+            RingEmptiness::Moved
         } else if word % PARITY == 0 {
-            Emptiness::ShutEmpty
+            RingEmptiness::ShutEmpty
         } else {
-            Emptiness::Holds
+            RingEmptiness::Holds
         }
     }
 
     // Whether a ring that is shut is empty, where a place was claimed.
-    fn shut_emptiness(&self, seat: &mut Seat<T>) -> Emptiness
+    fn shut_emptiness(&self, seat: &mut Seat<T>) -> RingEmptiness
         requires { IsReady self.now.plan self.now.table.shared.table_id seat.old }
         ensures seat { IsReady self.now.plan self.now.table.shared.table_id seat.new }
         ensures slots { KeepsSlots seat.old seat.new }
@@ -78,9 +78,9 @@ impl<T> RingQueue<T> {
         let head = seat.head;
         self.look_at_head(seat);
         if seat.head == head {
-            Emptiness::Unfilled
+            RingEmptiness::Unfilled
         } else {
-            Emptiness::Moved
+            RingEmptiness::Moved
         }
     }
 
@@ -97,9 +97,9 @@ impl<T> RingQueue<T> {
     ///     Emptiness::Moved | Emptiness::Unfilled => backoff.snooze(),
     /// }
     /// ```
-    pub fn emptiness(&self, seat: &mut Seat<T>) -> Emptiness
-        requires { IsQueueSeat self.now seat.old }
-        ensures seat { IsQueueSeat self.now seat.new }
+    pub fn emptiness(&self, seat: &mut Seat<T>) -> RingEmptiness
+        requires { IsNumberSeat self.now seat.old }
+        ensures seat { IsNumberSeat self.now seat.new }
         ensures stored { KeepsStored seat.old seat.new }
         //= ring/emptiness (seat, stored, found): A seat that looks whether its ring is empty is told so, shut or not, or that it
         //=   holds a value, as it was after some history that begins with what the seat had seen and that it has now seen; or
@@ -122,8 +122,8 @@ impl<T> RingQueue<T> {
     /// }
     /// ```
     pub fn len(&self, seat: &mut Seat<T>) -> Len
-        requires { IsQueueSeat self.now seat.old }
-        ensures seat { IsQueueSeat self.now seat.new }
+        requires { IsNumberSeat self.now seat.old }
+        ensures seat { IsNumberSeat self.now seat.new }
         ensures stored { KeepsStored seat.old seat.new }
         //= ring/len (seat, stored, long): A seat that looks how long its ring is is told two bounds, between which the length
         //=   was after some history that begins with what the seat had seen and that it has now seen. They are at most as far
@@ -143,8 +143,8 @@ impl<T> RingQueue<T> {
     /// }
     /// ```
     pub fn left(&self, seat: &mut Seat<T>) -> u64
-        requires { IsQueueSeat self.now seat.old }
-        ensures seat { IsQueueSeat self.now seat.new }
+        requires { IsNumberSeat self.now seat.old }
+        ensures seat { IsNumberSeat self.now seat.new }
         ensures stored { KeepsStored seat.old seat.new }
         //= ring/left (seat, stored, left): A seat that looks how many pushes its ring has left is told how many places are left
         //=   up to its limit, but for those that all seats may have in reserve, after some history that begins with what the
@@ -156,7 +156,7 @@ impl<T> RingQueue<T> {
     }
 
     /// Whether the ring is empty, as `emptiness` tells, of a ring that carries values too. Takes no memory and doesn't wait.
-    pub fn emptiness_in(&self, seat: &mut Seat<T>) -> Emptiness
+    pub fn emptiness_in(&self, seat: &mut Seat<T>) -> RingEmptiness
         requires { IsRingSeat self.now seat.old }
         ensures seat { IsRingSeat self.now seat.new }
         //= ring/look_slots: A look at how many values a ring holds, or how many pushes it has left, moves no slot.
@@ -168,19 +168,19 @@ impl<T> RingQueue<T> {
         self.look_at_head(seat);
         let tail = self.see_tail(seat);
         if tail == seat.head {
-            return Emptiness::Empty;
+            return RingEmptiness::Empty;
         }
         if tail == seat.head + SHUT {
-            return Emptiness::ShutEmpty;
+            return RingEmptiness::ShutEmpty;
         }
         if tail >= SHUT {
             return self.shut_emptiness(seat);
         }
         self.look_at_head(seat);
         if tail <= seat.head {
-            return Emptiness::Moved;
+            return RingEmptiness::Moved;
         }
-        Emptiness::Holds
+        RingEmptiness::Holds
     }
 
     /// How many values the ring holds, as `len` tells, of a ring that carries values too. Takes no memory and doesn't wait.

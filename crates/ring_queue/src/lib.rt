@@ -23,7 +23,7 @@ mod slots;
 mod views;
 
 pub use batches::MOST_AT_ONCE;
-pub use lengths::{Emptiness, Len};
+pub use lengths::{RingEmptiness, Len};
 pub use new_rings::MOST_SEATS;
 pub use queue::RingQueue;
 pub use roles::Role;

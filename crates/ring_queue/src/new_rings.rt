@@ -4,8 +4,8 @@ ghost use Rattle.std.specs.List.{All};
 ghost use Rattle.history.specs.Openings.{AreNew};
 ghost use Rattle.ring_queue.specs.Plans.{IsPlanned, permits_by, slots_of};
 ghost use Rattle.ring_queue.specs.Seats.{known_of};
-ghost use Rattle.ring_queue.specs.Queues.{IsQueueSeat, permits_in};
-ghost use Rattle.ring_queue.specs.NewRings.{AreFirst, AreDealt, IsLeastPower, IsMade, IsMadeFor, NewRefused};
+ghost use Rattle.ring_queue.specs.Queues.{IsNumberSeat, permits_in};
+ghost use Rattle.ring_queue.specs.NewRings.{AreFirst, AreDealt, IsLeastPower, IsMade, IsMadeFor, RingRefused};
 
 use crate::new_seats::deal_all;
 use crate::places::{HEAD, SHUT, TAIL};
@@ -81,7 +81,7 @@ fn made<T>(
 ) -> Result<(RingQueue<T>, Vec<Seat<T>>), Refusal>
     ensures ok { IfOk result
         (λ r. IsMadeFor carries most credits limit roles.now r.0 r.1.items) }
-    ensures refused { IfErr result (NewRefused most credits limit roles.now) }
+    ensures refused { IfErr result (RingRefused most credits limit roles.now) }
 {
     if most == 0 || credits == 0 || roles.is_empty() || roles.len() > MOST_SEATS {
         return Err(Refusal::BadSize);
@@ -127,9 +127,9 @@ impl RingQueue {
         //=   for a size out of its range, or else for want of memory.
         ensures ok { IfOk result (λ r. IsMade most credits limit roles.now r.0 r.1.items) }
         ensures permits { IfOk result (λ r. permits_in r.0 ≡ permits_by roles.now) }
-        ensures seats { IfOk result (λ r. All (IsQueueSeat r.0) r.1.items) }
+        ensures seats { IfOk result (λ r. All (IsNumberSeat r.0) r.1.items) }
         ensures unused { IfOk result (λ r. AreNew (permits_in r.0) (map known_of r.1.items)) }
-        ensures refused { IfErr result (NewRefused most credits limit roles.now) }
+        ensures refused { IfErr result (RingRefused most credits limit roles.now) }
     {
         made(alloc, most, credits, limit, roles, false)
     }
@@ -150,7 +150,7 @@ impl<T> RingQueue<T> {
         //=   each slot of the ring, and no seat has one.
         ensures ok { IfOk result
             (λ r. IsMadeFor true most credits limit roles.now r.0 r.1.items) }
-        ensures refused { IfErr result (NewRefused most credits limit roles.now) }
+        ensures refused { IfErr result (RingRefused most credits limit roles.now) }
     {
         made(alloc, most, credits, limit, roles, true)
     }

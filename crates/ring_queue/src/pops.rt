@@ -1,12 +1,12 @@
 //! The pop of a ring.
 ghost use Rattle.std.specs.Prelude.{[], ◌∷◌, ◌≡◌, ◌≤◌, IfOk, IfErr, IfSome};
 ghost use Rattle.history.specs.Seats.{MayPop};
-ghost use Rattle.history.specs.Answers.{PopAnswers, PopRefused as RefusedPop, SeesMore, StopsPop};
+ghost use Rattle.history.specs.Answers.{PopAnswers, PopRefused, SeesMore, StopsPop};
 ghost use Rattle.ring_queue.specs.Plans.{permits_of};
 ghost use Rattle.ring_queue.specs.Seats.{IsReady, KeepsName, KeepsSlots, known_of, view};
 ghost use Rattle.ring_queue.specs.Knowledge.{found};
 ghost use Rattle.ring_queue.specs.Queues.{IsRingSeat, permits_in};
-ghost use Rattle.ring_queue.specs.Causes.{PopRefused};
+ghost use Rattle.ring_queue.specs.Causes.{PopCaused};
 ghost use Rattle.ring_queue.specs.Hands.{PopMoves, TurnMoves};
 ghost use Rattle.ring_queue.specs.Turns.{TurnSays};
 
@@ -108,9 +108,9 @@ impl<T> RingQueue<T> {
         ensures name { KeepsName seat.old seat.new }
         ensures answer { IfOk result (λ taken. PopAnswers (known_of seat.old) taken (known_of seat.new)) }
         ensures refused { IfErr result
-            (λ refusal. RefusedPop (known_of seat.old) refusal (known_of seat.new)) }
+            (λ refusal. PopRefused (known_of seat.old) refusal (known_of seat.new)) }
         ensures refusal { IfErr result StopsPop }
-        ensures caused { IfErr result (PopRefused self.now.plan seat.old seat.new turns) }
+        ensures caused { IfErr result (PopCaused self.now.plan seat.old seat.new turns) }
         //= ring/takes (moves, kept): A pop of a ring that carries values takes the slot that its number names, with the value that
         //=   was pushed there: its pop of that value is the last that its seat has seen, and what this had then seen leads to a
         //=   queue with that value in front. One that answers none, or is refused, moves no slot.

@@ -1,13 +1,13 @@
 //! The push of a ring.
 ghost use Rattle.std.specs.Prelude.{◌≡◌, ◌≤◌, min, length, take, OnOk, IfOk, IfErr, false};
 ghost use Rattle.history.specs.Seats.{MayPush};
-ghost use Rattle.history.specs.Answers.{Pushed, FoundShut, PushRefused as RefusedPush, StopsPush};
+ghost use Rattle.history.specs.Answers.{Pushed, FoundShut, PushRefused, StopsPush};
 ghost use Rattle.ring_queue.specs.Plans.{permits_of};
 ghost use Rattle.ring_queue.specs.Seats.{reserve_of, IsReady, KeepsName, KeepsSlots, known_of};
 ghost use Rattle.ring_queue.specs.Hands.{GivesSlot, IsLoaded};
 ghost use Rattle.ring_queue.specs.Steps.{PushedAll};
-ghost use Rattle.ring_queue.specs.Queues.{IsQueueSeat, IsRingSeat, permits_in};
-ghost use Rattle.ring_queue.specs.Causes.{PushRefused};
+ghost use Rattle.ring_queue.specs.Queues.{IsNumberSeat, IsRingSeat, permits_in};
+ghost use Rattle.ring_queue.specs.Causes.{PushCaused};
 ghost use Rattle.ring_queue.specs.Many.{reserve_for, Refilled};
 
 use crate::looks::TailLook;
@@ -39,9 +39,9 @@ impl<T> RingQueue<T> {
         ensures name { KeepsName seat.old seat.new }
         ensures done { OnOk result (Refilled self.now.plan seat.old seat.new) }
         ensures refused { IfErr result
-            (λ refusal. RefusedPush (known_of seat.old) refusal (known_of seat.new)) }
+            (λ refusal. PushRefused (known_of seat.old) refusal (known_of seat.new)) }
         ensures refusal { IfErr result StopsPush }
-        ensures caused { IfErr result (PushRefused self.now.plan seat.old seat.new turns) }
+        ensures caused { IfErr result (PushCaused self.now.plan seat.old seat.new turns) }
     {
         for _ in 0..turns {
             match self.look_at_tail(seat) {
@@ -70,9 +70,9 @@ impl<T> RingQueue<T> {
         ensures name { KeepsName seat.old seat.new }
         ensures pushed { OnOk result (Pushed (known_of seat.old) body (known_of seat.new)) }
         ensures refused { IfErr result
-            (λ refusal. RefusedPush (known_of seat.old) refusal (known_of seat.new)) }
+            (λ refusal. PushRefused (known_of seat.old) refusal (known_of seat.new)) }
         ensures refusal { IfErr result StopsPush }
-        ensures caused { IfErr result (PushRefused self.now.plan seat.old seat.new turns) }
+        ensures caused { IfErr result (PushCaused self.now.plan seat.old seat.new turns) }
         //= ring/gives (gives, kept): A push of a ring that carries values gives away the slot that it is to push, with the value in
         //=   it: its push of that value is the last that its seat has seen. One that is refused moves no slot.
         ensures gives { OnOk result (GivesSlot self.now.plan body seat.old seat.new) }
@@ -128,10 +128,10 @@ impl<T> RingQueue<T> {
         bodies: &[Body],
         turns: u32,
     ) -> Result<usize, Refusal>
-        requires seat { IsQueueSeat self.now seat.old }
+        requires seat { IsNumberSeat self.now seat.old }
         requires role { MayPush (permits_in self.now) (known_of seat.old).number }
         requires turns { 1 ≤ turns }
-        ensures seat { IsQueueSeat self.now seat.new }
+        ensures seat { IsNumberSeat self.now seat.new }
         ensures number { (known_of seat.new).number ≡ (known_of seat.old).number }
         //= ring/push_all (count, pushed, refused, refusal, caused): A push of many adds the pushes of the first of its bodies, in
         //=   their order, one behind another: as many as its seat has places in reserve, which are filled first where there is
@@ -141,9 +141,9 @@ impl<T> RingQueue<T> {
         ensures pushed { IfOk result
             (λ count. PushedAll (known_of seat.old) (take count bodies.now) (known_of seat.new)) }
         ensures refused { IfErr result
-            (λ refusal. RefusedPush (known_of seat.old) refusal (known_of seat.new)) }
+            (λ refusal. PushRefused (known_of seat.old) refusal (known_of seat.new)) }
         ensures refusal { IfErr result StopsPush }
-        ensures caused { IfErr result (PushRefused self.now.plan seat.old seat.new turns) }
+        ensures caused { IfErr result (PushCaused self.now.plan seat.old seat.new turns) }
     {
         if bodies.is_empty() {
             return Ok(0);

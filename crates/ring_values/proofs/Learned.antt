@@ -17,7 +17,7 @@ use Rattle.node_arena.specs.Deeds.{pushed, popped}
 use Rattle.node_arena.specs.Deeds as slots
 use Rattle.ring_queue.specs.declared.queue.RingQueue.{RingQueue}
 use Rattle.ring_queue.specs.declared.seats.Seat.{Seat}
-use Rattle.ring_queue.specs.Causes.{ShutRefused}
+use Rattle.ring_queue.specs.Causes.{ShutCaused}
 use Rattle.ring_queue.specs.Hands.{AddsOwn, PopsFront, MeetsValues}
 use Rattle.ring_queue.specs.Seats.{KeepsSlots, deeds_of, known_of, view}
 use Rattle.ring_queue.specs.Queues.{IsRingSeat}
@@ -176,6 +176,6 @@ module _ {T : Type 0} (r : RingQueue T) (carries : carries_of r ≡ true) (s t :
   shut_refused (Ok x) was = tt
   shut_refused (Err refusal) was = subst (λ q. PushRefusedOf (known_by s) q (known_by t)) (sym was.0) (shut-deeds r carries s t is it (goes_on s t k) was.1)
 
-  pub shut_caused : (out : Result (Unit {0}) Refusal) → IfErr out (λ refusal. (refusal ≡ Closed) × numbers.FoundShut (known_of s) (known_of t)) → IfErr out (λ refusal. ShutRefused s t refusal)
+  pub shut_caused : (out : Result (Unit {0}) Refusal) → IfErr out (λ refusal. (refusal ≡ Closed) × numbers.FoundShut (known_of s) (known_of t)) → IfErr out (λ refusal. ShutCaused s t refusal)
   shut_caused (Ok x) was = tt
-  shut_caused (Err refusal) was = subst (ShutRefused s t) (sym was.0) was.1.shut
+  shut_caused (Err refusal) was = subst (ShutCaused s t) (sym was.0) was.1.shut

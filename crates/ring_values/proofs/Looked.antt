@@ -11,8 +11,8 @@ use Rattle.carriers.specs.declared.items.ItemOf.{ItemOf}
 use Rattle.carriers.specs.Deeds.{Deed, is_pushing, is_popping, RunsTo, IsRun}
 use Rattle.carriers.specs.DeedsOfNumbers.{Matches}
 use Rattle.carriers.proofs.Running.{run-first}
-use Rattle.ring_queue.specs.declared.lengths.Emptiness.{Emptiness}
-use Rattle.ring_queue.specs.declared.lengths.Emptiness.TheVariants.{Empty, ShutEmpty, Holds, Moved, Unfilled}
+use Rattle.ring_queue.specs.declared.lengths.RingEmptiness.{RingEmptiness}
+use Rattle.ring_queue.specs.declared.lengths.RingEmptiness.TheVariants.{Empty, ShutEmpty, Holds, Moved, Unfilled}
 use Rattle.ring_queue.specs.declared.lengths.Len.{Len}
 use Rattle.ring_queue.specs.declared.queue.RingQueue.{RingQueue}
 use Rattle.ring_queue.specs.declared.seats.Seat.{Seat}
@@ -83,7 +83,7 @@ module _ {T : Type 0} (r : RingQueue T) (carries : carries_of r ≡ true) (s t :
     holds_then some = some_left deeds_then run_then.1 run_then.0 (length some.others) (same_then (some.front ∷ some.others) some.shut some.leads).0 run_then.2
 
   -- what a look whether it is empty finds
-  pub found : (e : Emptiness) → FoundSo r.plan (known_of s) e (known_of t) → FoundSoOf r.plan s t e
+  pub found : (e : RingEmptiness) → FoundSo r.plan (known_of s) e (known_of t) → FoundSoOf r.plan s t e
   found Empty h = (deeds_then h.0 h.1, was_then h.0 h.1, RunsTo-Matches h.0 (deeds_then h.0 h.1) (matches_then h.0 h.1) false (run_then h.0 h.1) h.2)
   found ShutEmpty h = (deeds_then h.0 h.1, was_then h.0 h.1, RunsTo-Matches h.0 (deeds_then h.0 h.1) (matches_then h.0 h.1) true (run_then h.0 h.1) h.2)
   found Holds h = (deeds_then h.0 h.1, was_then h.0 h.1, holds_then h.0 h.1 h.2)

@@ -25,7 +25,7 @@ use Rattle.ring_queue.specs.Steps.{IsFull, IsWorn}
 use Rattle.ring_queue.specs.Queues.{IsRingSeat}
 use Rattle.ring_values.specs.Carried.{carries_of}
 use Rattle.ring_values.specs.ValuesSeen.{GoesOn, known_by}
-use Rattle.ring_values.specs.Pushes.{HasLoad, PutsSlot, PushRefused, AnswersPush}
+use Rattle.ring_values.specs.Pushes.{HasLoad, PutsSlot, PushCaused, AnswersPush}
 use Rattle.ring_values.proofs.Learned.{push-deed, push_refused-deeds}
 
 -- a slot has one value
@@ -39,7 +39,7 @@ value_is {T} held slot x y e f = ap value_or (sym e ∙ f)
 
 -- a cause is one still, where its seat knows the same and its head is where it was
 caused_still : {T : Type 0} (z : Layout) (s x t : Seat T) (turns : ℕ) → view t ≡ view x → t.head ≡ x.head → (refusal : Refusal)
-    → ring.PushRefused z s x turns refusal → ring.PushRefused z s t turns refusal
+    → ring.PushCaused z s x turns refusal → ring.PushCaused z s t turns refusal
 caused_still z s x t turns same head NoNode c = (c.0, subst (λ (w : SeatView). IsFull z w.seen) (sym same) c.1)
 caused_still z s x t turns same head (WornOut OfTail) c = (c.0, subst (λ (w : SeatView). IsWorn z w.seen) (sym same) c.1)
 caused_still z s x t turns same head Busy c = (c.0, subst (λ (n : ℕ). s.head + turns ≤ n) (sym head) c.1)
@@ -49,7 +49,7 @@ caused_still z s x t turns same head _ c = absurd c
 -- the push of a slot's number was refused, and then the value came out of the slot, which was given back
 pub put_back : {T : Type 0} (r : RingQueue T) (s x y t : Seat T) (slot turns : ℕ) (refusal : Refusal) (value : T) → IsRingSeat r t → HasNoSlot t
     → KeepsName s x → KeepsSlots s x → KeepsKnown x y → KeepsKnown y t → HasSlot r.plan x slot (Some value)
-    → numbers.PushRefused (known_of s) refusal (known_of x) → StopsPush refusal → ring.PushRefused r.plan s x turns refusal
+    → numbers.PushRefused (known_of s) refusal (known_of x) → StopsPush refusal → ring.PushCaused r.plan s x turns refusal
     → PutsSlot r s t slot turns (Err (record { refusal = refusal; value = value }))
 put_back r s x y t slot turns refusal value ready none name kept k l has refused stops caused =
     let same : view t ≡ view x = l.view ∙ k.view in
@@ -93,7 +93,7 @@ module _ {T : Type 0} (r : RingQueue T) (carries : carries_of r ≡ true) (s : S
         back = l.back.1;
         refused = subst (λ q. PushRefusedOf (known_by s) q (known_by u)) busy (push_refused-deeds r carries s u is l.ready Busy goes sees);
         refusal = subst StopsPush busy tt;
-        caused = subst (PushRefused r s u turns) busy (inl l.back.3);
+        caused = subst (PushCaused r s u turns) busy (inl l.back.3);
       }
 
   module _ (x : Seat T) (got : Got) (l : HasLoad r s u value turns (Ok got)) where
@@ -140,7 +140,7 @@ module _ {T : Type 0} (r : RingQueue T) (carries : carries_of r ≡ true) (s : S
         none_kept : u.credits ≡ 0 → s.credits ≡ 0
         none_kept e = sym k.reserve ∙ e
 
-        by_cause : (refusal : Refusal) → ring.PushRefused r.plan u x (turns - got.failed) refusal → PushRefused r s x turns refusal
+        by_cause : (refusal : Refusal) → ring.PushCaused r.plan u x (turns - got.failed) refusal → PushCaused r s x turns refusal
         by_cause NoNode y = (none_kept y.0, y.1)
         by_cause (WornOut OfTail) y = (none_kept y.0, y.1)
         by_cause Busy y = inr (got.failed, l.loaded.1, l.loaded.2, (none_kept y.0, subst (λ (h : ℕ). h + (turns - got.failed) ≤ x.head) k.head y.1))

@@ -5,8 +5,8 @@ use mathlib.Core.List.{IsPrefix}
 use Rattle.carriers.specs.declared.items.ItemOf.{ItemOf}
 use Rattle.carriers.specs.Deeds.{Deed, is_pushing, is_popping, RunsTo, RunsToShut}
 use Rattle.carriers.specs.DeedsOfNumbers.{Matches}
-use Rattle.ring_queue.specs.declared.lengths.Emptiness.{Emptiness}
-use Rattle.ring_queue.specs.declared.lengths.Emptiness.TheVariants.{Empty, ShutEmpty, Holds, Moved, Unfilled}
+use Rattle.ring_queue.specs.declared.lengths.RingEmptiness.{RingEmptiness}
+use Rattle.ring_queue.specs.declared.lengths.RingEmptiness.TheVariants.{Empty, ShutEmpty, Holds, Moved, Unfilled}
 use Rattle.ring_queue.specs.declared.lengths.Len.{Len}
 use Rattle.ring_queue.specs.declared.seats.Seat.{Seat}
 use Rattle.ring_queue.specs.Plans.{Layout, reserve}
@@ -31,7 +31,7 @@ pub record FoundUnfilledOf {T : Type 0} (z : Layout) (s t : Seat T) : Type 0 whe
 
 -- the ring was found so: after deeds no older than what the seat had seen it was empty and not shut, empty and shut, or held a
 -- value; or pops took effect; or it was shut, and the place at its front wasn't filled
-abbrev pub FoundSoOf : {T : Type 0} → Layout → (s t : Seat T) → Emptiness → Type 0
+abbrev pub FoundSoOf : {T : Type 0} → Layout → (s t : Seat T) → RingEmptiness → Type 0
 FoundSoOf {T} z s t Empty = (now : List (Deed T)) × WasMeanwhileOf (known_by s) now (known_by t) × RunsTo now false []
 FoundSoOf {T} z s t ShutEmpty = (now : List (Deed T)) × WasMeanwhileOf (known_by s) now (known_by t) × RunsTo now true []
 FoundSoOf {T} z s t Holds = (now : List (Deed T)) × WasMeanwhileOf (known_by s) now (known_by t) × RunsToSome now

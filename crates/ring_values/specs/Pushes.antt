@@ -32,13 +32,13 @@ pub record PutsSlot {T : Type 0} (r : RingQueue T) (s t : Seat T) (slot turns : 
   pub back : IfErr out (λ unpushed. HasSlot r.plan s slot (Some unpushed.value) × GoesOn s t)
   pub refused : IfErr out (λ unpushed. numbers.PushRefused (known_of s) unpushed.refusal (known_of t))
   pub refusal : IfErr out (λ unpushed. StopsPush unpushed.refusal)
-  pub caused : IfErr out (λ unpushed. ring.PushRefused r.plan s t turns unpushed.refusal)
+  pub caused : IfErr out (λ unpushed. ring.PushCaused r.plan s t turns unpushed.refusal)
 
 -- why a push of a value is refused: where others were in the way, all its turns failed at slots, or after some that did the others
 -- as those of a push of a number do; else as a push of a number is
-abbrev pub PushRefused : {T : Type 0} → RingQueue T → (s t : Seat T) → (turns : ℕ) → Refusal → Type 0
-PushRefused r s t turns Busy = FailedTries r.plan s turns ⊎ ((tries : ℕ) × (tries < turns) × FailedTries r.plan s tries × ring.PushRefused r.plan s t (turns - tries) Busy)
-PushRefused r s t turns refusal = ring.PushRefused r.plan s t turns refusal
+abbrev pub PushCaused : {T : Type 0} → RingQueue T → (s t : Seat T) → (turns : ℕ) → Refusal → Type 0
+PushCaused r s t turns Busy = FailedTries r.plan s turns ⊎ ((tries : ℕ) × (tries < turns) × FailedTries r.plan s tries × ring.PushCaused r.plan s t (turns - tries) Busy)
+PushCaused r s t turns refusal = ring.PushCaused r.plan s t turns refusal
 
 -- what a push of a value answers
 pub record AnswersPush {T : Type 0} (r : RingQueue T) (s t : Seat T) (value : T) (turns : ℕ) (out : Result (Unit {0}) (Unpushed T)) : Type 0 where
@@ -49,4 +49,4 @@ pub record AnswersPush {T : Type 0} (r : RingQueue T) (s t : Seat T) (value : T)
   pub back : IfErr out (λ unpushed. unpushed.value ≡ value)
   pub refused : IfErr out (λ unpushed. PushRefusedOf (known_by s) unpushed.refusal (known_by t))
   pub refusal : IfErr out (λ unpushed. StopsPush unpushed.refusal)
-  pub caused : IfErr out (λ unpushed. PushRefused r s t turns unpushed.refusal)
+  pub caused : IfErr out (λ unpushed. PushCaused r s t turns unpushed.refusal)

@@ -21,10 +21,10 @@ impl<T: Send> Carrier for RingValues<T> {
     ghost use Rattle.history.specs.Seats.{MayPush, MayPop};
     ghost use Rattle.history.specs.Answers.{StopsPush, StopsPop, StopsShut};
     ghost use Rattle.carriers.specs.Answers.{PushedOf, PopAnswersOf, DidShutOf, PushRefusedOf, PopRefusedOf};
-    ghost use Rattle.ring_queue.specs.Causes.{PopRefused, ShutRefused};
+    ghost use Rattle.ring_queue.specs.Causes.{PopCaused, ShutCaused};
     ghost use Rattle.ring_values.specs.ValuesSeen.{known_by};
     ghost use Rattle.ring_values.specs.Queues.{plan_of, ring_of, permits_of, IsQueueSeat};
-    ghost use Rattle.ring_values.specs.Pushes.{PushRefused};
+    ghost use Rattle.ring_values.specs.Pushes.{PushCaused};
     ghost use Rattle.ring_values.specs.Sound.{sound-seat, IsQueueSeat-prop};
 
     type Item = T;
@@ -40,11 +40,11 @@ impl<T: Send> Carrier for RingValues<T> {
     //= ring_values/causes (push_cause, pop_cause, shut_cause): A push of a value has the causes of a push of a number; and for
     //=   `Busy` that tries at slots failed, all its turns or those before the others, each at a slot that was taken when it was
     //=   tried. A pop and a shut have those of a ring of numbers.
-    ghost push_cause = { λ q. PushRefused (ring_of q) };
+    ghost push_cause = { λ q. PushCaused (ring_of q) };
 
-    ghost pop_cause = { λ q. PopRefused (plan_of q) };
+    ghost pop_cause = { λ q. PopCaused (plan_of q) };
 
-    ghost shut_cause = { λ q s t turns refusal. ShutRefused s t refusal };
+    ghost shut_cause = { λ q s t turns refusal. ShutCaused s t refusal };
 
     ghost sound = { λ q s h. sound-seat (ring_of q) q.carries s h.ready };
 
@@ -66,7 +66,7 @@ impl<T: Send> Carrier for RingValues<T> {
         ensures refusal { IfErr result (λ unpushed. StopsPush unpushed.refusal) }
         //= ring_values/causes
         ensures caused { IfErr result (λ unpushed.
-            PushRefused (ring_of self.now) seat.old seat.new turns unpushed.refusal) }
+            PushCaused (ring_of self.now) seat.old seat.new turns unpushed.refusal) }
     {
         let got = self.load(seat, value, turns)?;
         self.push_slot(seat, got.slot, turns - got.failed)
@@ -85,7 +85,7 @@ impl<T: Send> Carrier for RingValues<T> {
             (λ refusal. PopRefusedOf (known_by seat.old) refusal (known_by seat.new)) }
         ensures refusal { IfErr result StopsPop }
         //= ring_values/causes
-        ensures caused { IfErr result (PopRefused (plan_of self.now) seat.old seat.new turns) }
+        ensures caused { IfErr result (PopCaused (plan_of self.now) seat.old seat.new turns) }
     {
         match self.ring.pop_in(seat, turns) {
             Ok(Some(taken)) => Ok(Some(self.take_out(seat, taken))),
@@ -106,7 +106,7 @@ impl<T: Send> Carrier for RingValues<T> {
             (λ refusal. PushRefusedOf (known_by seat.old) refusal (known_by seat.new)) }
         ensures refusal { IfErr result StopsShut }
         //= ring_values/causes
-        ensures caused { IfErr result (λ refusal. ShutRefused seat.old seat.new refusal) }
+        ensures caused { IfErr result (λ refusal. ShutCaused seat.old seat.new refusal) }
     {
         let _ = turns;
         self.ring.set_shut(seat)

@@ -2,7 +2,7 @@
 ghost use Rattle.ring_values.specs.Looks.{FoundSoOf, WasSoLongOf, LeavesPushesOf};
 
 use crate::queue::RingValues;
-use ring_queue::{Emptiness, Len, Seat};
+use ring_queue::{RingEmptiness, Len, Seat};
 
 impl<T> RingValues<T> {
     ghost use Rattle.ring_queue.specs.Seats.{KeepsStored};
@@ -20,7 +20,7 @@ impl<T> RingValues<T> {
     ///     Emptiness::Moved | Emptiness::Unfilled => backoff.snooze(),
     /// }
     /// ```
-    pub fn emptiness(&self, seat: &mut Seat<T>) -> Emptiness
+    pub fn emptiness(&self, seat: &mut Seat<T>) -> RingEmptiness
         requires { IsQueueSeat self.now seat.old }
         ensures seat { IsQueueSeat self.now seat.new }
         ensures stored { KeepsStored seat.old seat.new }

@@ -2,7 +2,7 @@
 ghost use Rattle.std.specs.Prelude.{◌≡◌, ◌≤◌, ◌^◌, true, length, map, IfOk, IfErr};
 ghost use Rattle.std.specs.List.{All};
 ghost use Rattle.ring_queue.specs.Plans.{permits_by};
-ghost use Rattle.ring_queue.specs.NewRings.{IsMadeFor, NewRefused};
+ghost use Rattle.ring_queue.specs.NewRings.{IsMadeFor, RingRefused};
 ghost use Rattle.ring_queue.specs.Seats.{reserve_of};
 ghost use Rattle.value_queue.specs.Queues.{AreNewOf};
 ghost use Rattle.ring_values.specs.ValuesSeen.{known_by};
@@ -51,7 +51,7 @@ impl<T> RingValues<T> {
         ensures permits { IfOk result (λ r. permits_of r.0 ≡ permits_by roles.now) }
         ensures seats { IfOk result (λ r. All (IsQueueSeat r.0) r.1.items) }
         ensures unused { IfOk result (λ r. AreNewOf (permits_of r.0) (map known_by r.1.items)) }
-        ensures refused { IfErr result (NewRefused most credits limit roles.now) }
+        ensures refused { IfErr result (RingRefused most credits limit roles.now) }
     {
         let (ring, seats) = RingQueue::<T>::with_slots(alloc, most, credits, limit, roles)?;
         Ok((RingValues { ring }, seats))

@@ -13,7 +13,7 @@ use crate::readers::Sizes;
 use crate::schedules::{Event, Schedule, Version};
 use history::{Op, Refusal};
 use line_table::Kind;
-use text_io::{Block, LINE_ROOM, Line, Sink};
+use text_io::{Block, LINE_ROOM, LineBuffer, Sink};
 
 /// Writes the text of a schedule, of the version that it has: the header lines, then a line for each
 /// event, in their order.
@@ -29,7 +29,7 @@ pub fn print<W: Sink>(schedule: &Schedule, writer: &mut W) -> Result<(), Refusal
 }
 
 // Writes the header lines, and then a line for each event.
-fn print_lines<W: Sink>(header: Line, events: &[Event], writer: &mut W) -> Result<(), Refusal>
+fn print_lines<W: Sink>(header: LineBuffer, events: &[Event], writer: &mut W) -> Result<(), Refusal>
     ensures { Writes (W.state writer.old) (W.state writer.new)
         (header ++ flat_map event_text events.now) result }
 {
@@ -41,10 +41,10 @@ fn print_lines<W: Sink>(header: Line, events: &[Event], writer: &mut W) -> Resul
     block.finish(writer)
 }
 
-fn header_lines(schedule: &Schedule) -> Line
+fn header_lines(schedule: &Schedule) -> LineBuffer
     ensures { result ≡ header_text schedule.now }
 {
-    let mut lines = Line::new();
+    let mut lines = LineBuffer::new();
     push_opening(&mut lines, schedule.version, schedule.kind);
     push_bits(&mut lines, schedule.version, schedule.bits);
     let sizes = Sizes {
@@ -57,7 +57,7 @@ fn header_lines(schedule: &Schedule) -> Line
     lines
 }
 
-fn push_opening(lines: &mut Line, version: Version, kind: Kind)
+fn push_opening(lines: &mut LineBuffer, version: Version, kind: Kind)
     requires { length lines.old + 40 ≤ LINE_ROOM }
     ensures text { lines.new ≡ lines.old
         ++ lines_of schedule_lines (says_version version ∷ queue kind ∷ []) }
@@ -71,7 +71,7 @@ fn push_opening(lines: &mut Line, version: Version, kind: Kind)
 }
 
 // The line of how many bits hold a node, where the version has it.
-fn push_bits(lines: &mut Line, version: Version, bits: u32)
+fn push_bits(lines: &mut LineBuffer, version: Version, bits: u32)
     requires { length lines.old + 30 ≤ LINE_ROOM }
     ensures text { lines.new ≡ lines.old ++ lines_of schedule_lines (bits_said version bits) }
     ensures short { length lines.new ≤ length lines.old + 30 }
@@ -82,7 +82,7 @@ fn push_bits(lines: &mut Line, version: Version, bits: u32)
     }
 }
 
-fn push_sizes(lines: &mut Line, sizes: Sizes)
+fn push_sizes(lines: &mut LineBuffer, sizes: Sizes)
     requires { length lines.old + 120 ≤ LINE_ROOM }
     ensures { lines.new ≡ lines.old ++ lines_of schedule_lines (sizes_in sizes) }
 {
@@ -93,7 +93,7 @@ fn push_sizes(lines: &mut Line, sizes: Sizes)
 }
 
 // The line of a number of the header.
-fn push_field(lines: &mut Line, field: Field, value: u64)
+fn push_field(lines: &mut LineBuffer, field: Field, value: u64)
     requires { length lines.old + 30 ≤ LINE_ROOM }
     ensures text { lines.new ≡ lines.old ++ lines_of schedule_lines (number field value ∷ []) }
     ensures short { length lines.new ≤ length lines.old + 30 }
@@ -126,16 +126,16 @@ pub fn name_of_kind(kind: Kind) -> &'static [u8]
 }
 
 #[tactic(auto, unfolding(crate::specs::Texts::event_text))]
-fn event_line(event: Event) -> Line
+fn event_line(event: Event) -> LineBuffer
     ensures { result ≡ event_text event }
 {
-    let mut line = Line::new();
+    let mut line = LineBuffer::new();
     push_event(&mut line, event);
     line.push(b"\n");
     line
 }
 
-fn push_event(line: &mut Line, event: Event)
+fn push_event(line: &mut LineBuffer, event: Event)
     requires { length line.old + 60 ≤ LINE_ROOM }
     ensures text { line.new ≡ line.old ++ spaced (event_words event) }
     ensures short { length line.new ≤ length line.old + 60 }
@@ -160,7 +160,7 @@ fn push_event(line: &mut Line, event: Event)
     }
 }
 
-fn push_actor(line: &mut Line, words: &[u8], actor: u16)
+fn push_actor(line: &mut LineBuffer, words: &[u8], actor: u16)
     requires { length line.old + length words.now + 20 ≤ LINE_ROOM }
     ensures text { line.new ≡ line.old ++ words.now ++ numeral actor }
     ensures short { length line.new ≤ length line.old + length words.now + 20 }
@@ -169,7 +169,7 @@ fn push_actor(line: &mut Line, words: &[u8], actor: u16)
     push_numeral(line, u64::from(actor));
 }
 
-fn push_call(line: &mut Line, call: Op)
+fn push_call(line: &mut LineBuffer, call: Op)
     requires { length line.old + 24 ≤ LINE_ROOM }
     ensures text { line.new ≡ line.old ++ spaced (call_words call) }
     ensures short { length line.new ≤ length line.old + 24 }
@@ -184,7 +184,7 @@ fn push_call(line: &mut Line, call: Op)
     }
 }
 
-fn push_numeral(line: &mut Line, number: u64)
+fn push_numeral(line: &mut LineBuffer, number: u64)
     requires { length line.old + 20 ≤ LINE_ROOM }
     ensures digits { line.new ≡ line.old ++ numeral number }
     ensures short { length line.new ≤ length line.old + 20 }

@@ -9,9 +9,9 @@ use Rattle.run_engine.proofs.Leading.{world_after-moves_of}
 use Rattle.schedule_text.specs.declared.schedules.Event.{Event}
 use Rattle.schedule_text.specs.Schedules.{Schedule}
 use Rattle.step_machine.specs.Machine.{World}
-use Rattle.trace_engine.specs.declared.counts.Counted.{Counted as Run}
+use Rattle.trace_engine.specs.declared.counts.RunExtent.{RunExtent}
 use Rattle.trace_engine.specs.Pieces.{actors_text, rest_text}
-use Rattle.trace_engine.specs.Extents.{IsCountOf as IsRunOf, StopsAt}
+use Rattle.trace_engine.specs.Extents.{IsExtentOf, StopsAt}
 use Rattle.trace_engine.proofs.Answered.{IsDue}
 use Rattle.show_engine.specs.declared.counts.Counted.{Counted}
 use Rattle.show_engine.specs.declared.frames.Frame.{Frame}
@@ -28,7 +28,7 @@ led_to_one start w v events led too =
     let both : Some v ≡ Some w = sym (world_after-moves_of events start v too) ∙ world_after-moves_of events start w led in
     cc
 
-module _ (s : Schedule) (run : Run) (r : IsRunOf s run) (v : World) (numbers : List ℕ) (effects : AreEffects v.operations numbers) where
+module _ (s : Schedule) (run : RunExtent) (r : IsExtentOf s run) (v : World) (numbers : List ℕ) (effects : AreEffects v.operations numbers) where
   -- where the events that can be made were made again, what takes effect was found
   pub effects_again : EventsLead (opening_of s) (take run.made s.events) v → AreEffects r.world.operations numbers
   effects_again led = subst (λ (w : World). AreEffects w.operations numbers) (led_to_one (opening_of s) r.world v (take run.made s.events) r.led led) effects

@@ -6,7 +6,7 @@ use Rattle.history.specs.declared.operations.Stamped.{Stamped}
 use Rattle.schedule_text.specs.Schedules.{Schedule}
 use Rattle.text_io.specs.Devices.{SinkState}
 use Rattle.trace_engine.specs.Answers.{HasWritten, OfSchedule, RunText}
-use Rattle.trace_engine.specs.Extents.{IsCountOf as IsRunOf}
+use Rattle.trace_engine.specs.Extents.{IsExtentOf}
 use Rattle.show_engine.specs.declared.counts.Counted.{Counted}
 use Rattle.show_engine.specs.declared.frames.View.{View}
 use Rattle.show_engine.specs.Pictures.{picture_text, stopped_text, takes_effect}
@@ -22,7 +22,7 @@ pub record AreEffects (ops : List Stamped) (numbers : List ℕ) : Type 0 where
 
 -- how far a schedule's events can be made, and the numbers at which operations of the world that these lead to take effect
 pub record IsCountOf (s : Schedule) (counted : Counted) : Type 0 where
-  pub run : IsRunOf s counted.run
+  pub run : IsExtentOf s counted.run
   pub effects : AreEffects run.world.operations counted.effects.items
 
 -- the picture of a run in a view

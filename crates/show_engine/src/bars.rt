@@ -9,7 +9,7 @@ use crate::rows::{number_start, push_number, truncate};
 use crate::scales::Scale;
 use history::Stamped;
 use history_text::push_call;
-use text_io::{LINE_ROOM, Line};
+use text_io::{LINE_ROOM, LineBuffer};
 
 /// Whether an operation takes effect at a number that is shown in a column.
 fn is_point(scale: Scale, at: Option<u64>, column: u64) -> bool
@@ -60,7 +60,7 @@ fn mark_in(scale: Scale, operation: &Stamped, column: u64) -> u8
 }
 
 /// Puts an operation's bar at the end of a line.
-pub(crate) fn push_bar(line: &mut Line, scale: Scale, operation: &Stamped)
+pub(crate) fn push_bar(line: &mut LineBuffer, scale: Scale, operation: &Stamped)
     requires fits { IsFitting scale }
     requires shown { operation.now.first ≤ scale.to }
     requires room { length line.old + scale.columns ≤ LINE_ROOM }
@@ -74,7 +74,7 @@ pub(crate) fn push_bar(line: &mut Line, scale: Scale, operation: &Stamped)
 
 /// The row of an operation.
 #[tactic(auto, unfolding(crate::specs::Timelines::row_text))]
-fn row_line(scale: Scale, operation: &Stamped) -> Line
+fn row_line(scale: Scale, operation: &Stamped) -> LineBuffer
     requires fits { IsFitting scale }
     requires shown { operation.now.first ≤ scale.to }
     ensures { result ≡ row_text scale operation.now }
@@ -89,14 +89,14 @@ fn row_line(scale: Scale, operation: &Stamped) -> Line
 }
 
 /// The row of an operation, where it is shown, and else nothing.
-pub(crate) fn shown_row(scale: Scale, operation: &Stamped) -> Line
+pub(crate) fn shown_row(scale: Scale, operation: &Stamped) -> LineBuffer
     requires { IsFitting scale }
     ensures { result ≡ shown_row scale operation.now }
 {
     if scale.shows(operation) {
         row_line(scale, operation)
     } else {
-        Line::new()
+        LineBuffer::new()
     }
 }
 
@@ -115,10 +115,10 @@ pub(crate) fn count_shown(scale: Scale, history: &[Stamped]) -> u64
 
 /// The last line of a timeline.
 #[tactic(auto, unfolding(crate::specs::Timelines::span_text))]
-pub(crate) fn span_line(scale: Scale, last: u64, shown: u64, all: u64) -> Line
+pub(crate) fn span_line(scale: Scale, last: u64, shown: u64, all: u64) -> LineBuffer
     ensures { result ≡ span_text scale last shown all }
 {
-    let mut line = Line::new();
+    let mut line = LineBuffer::new();
     push_number(&mut line, b"steps ", scale.from);
     push_number(&mut line, b" to ", scale.to);
     push_number(&mut line, b" of ", last);

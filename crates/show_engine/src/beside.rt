@@ -14,7 +14,7 @@ use crate::scales::{Scale, end_of_history};
 use history::Stamped;
 use place_engine::push_given;
 use std::alloc::{AllocError, Global};
-use text_io::{LINE_ROOM, Line};
+use text_io::{LINE_ROOM, LineBuffer};
 
 /// Puts the operation at a place of a history, from 1, behind others; nothing where there is none.
 fn push_operation(
@@ -110,13 +110,13 @@ fn mark_of(is_of: bool) -> &'static [u8]
 }
 
 /// The mark and the bar of an operation.
-fn bar_line(scale: Scale, operation: &Stamped, is_of: bool) -> Line
+fn bar_line(scale: Scale, operation: &Stamped, is_of: bool) -> LineBuffer
     requires fits { IsFitting scale }
     requires shown { operation.now.first ≤ scale.to }
     ensures { result
         ≡ mark_text is_of ++ bar_text scale operation.now scale.columns ++ codes " " }
 {
-    let mut line = Line::new();
+    let mut line = LineBuffer::new();
     line.push(mark_of(is_of));
     push_bar(&mut line, scale, operation);
     line.push(b" ");
@@ -168,10 +168,10 @@ pub(crate) fn push_rows(
 
 /// The last line of the picture of a reason.
 #[tactic(auto, unfolding(crate::specs::Reasons::times_text))]
-pub(crate) fn times_line(scale: Scale, shown: u64, all: u64) -> Line
+pub(crate) fn times_line(scale: Scale, shown: u64, all: u64) -> LineBuffer
     ensures { result ≡ times_text scale shown all }
 {
-    let mut line = Line::new();
+    let mut line = LineBuffer::new();
     line.push(b"times 0");
     push_number(&mut line, b" to ", scale.to.saturating_sub(scale.from));
     push_number(&mut line, b" from ", scale.from);

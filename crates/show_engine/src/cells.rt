@@ -7,13 +7,13 @@ ghost use Rattle.show_engine.specs.Cells.{access_text, answer_text, cell_text, c
 
 use history::{Op, Refusal, Reply};
 use history_text::{push_call, push_reply};
-use line_table::Line as At;
+use line_table::Line;
 use step_machine::{Contents, Stepped, WordName};
-use text_io::{LINE_ROOM, Line};
+use text_io::{LINE_ROOM, LineBuffer};
 use trace_engine::push_at;
 
 /// Puts the name of a word at the end of a line.
-fn push_place(line: &mut Line, word: WordName)
+fn push_place(line: &mut LineBuffer, word: WordName)
     requires { length line.old + 26 ≤ LINE_ROOM }
     ensures text { line.new ≡ line.old ++ place_text (word_named word) }
     ensures short { length line.new ≤ length line.old + 26 }
@@ -37,12 +37,12 @@ fn push_place(line: &mut Line, word: WordName)
 }
 
 /// Two numbers in brackets.
-fn pair(open: &[u8], first: u64, second: u64, close: &[u8]) -> Line
+fn pair(open: &[u8], first: u64, second: u64, close: &[u8]) -> LineBuffer
     requires { length open.now + length close.now ≤ 2 }
     ensures text { result ≡ open.now ++ decimal first ++ codes "," ++ decimal second ++ close.now }
     ensures short { length result ≤ 43 }
 {
-    let mut line = Line::new();
+    let mut line = LineBuffer::new();
     line.push(open);
     line.push_number(first);
     line.push(b",");
@@ -52,19 +52,19 @@ fn pair(open: &[u8], first: u64, second: u64, close: &[u8]) -> Line
 }
 
 /// What a word holds, as a text.
-fn held(contents: Contents) -> Line
+fn held(contents: Contents) -> LineBuffer
     ensures text { result ≡ held_text contents }
     ensures short { length result ≤ 43 }
 {
     match contents {
         Contents::Number(number) => {
-            let mut line = Line::new();
+            let mut line = LineBuffer::new();
             line.push_number(number);
             line
         }
         Contents::Reference(node, count) => pair(b"<", u64::from(node), count, b">"),
         Contents::Closed(count) => {
-            let mut line = Line::new();
+            let mut line = LineBuffer::new();
             line.push(b"<shut,");
             line.push_number(count);
             line.push(b">");
@@ -75,20 +75,20 @@ fn held(contents: Contents) -> Line
 }
 
 /// Whether a line's access is a compare-exchange.
-fn exchanges(at: At) -> bool
+fn exchanges(at: Line) -> bool
     ensures { result ≡ exchanges at }
 {
     match at {
-        At::N4 | At::N5 | At::F3 => true,
-        At::E9 | At::E13 | At::E17 | At::D10 | At::D13 => true,
-        At::A3 | At::A5 | At::B1 => true,
-        At::S4 | At::S5 | At::S6 | At::S8 => true,
+        Line::N4 | Line::N5 | Line::F3 => true,
+        Line::E9 | Line::E13 | Line::E17 | Line::D10 | Line::D13 => true,
+        Line::A3 | Line::A5 | Line::B1 => true,
+        Line::S4 | Line::S5 | Line::S6 | Line::S8 => true,
         _ => false,
     }
 }
 
 /// Puts what became of a word at the end of a line, by what it held and what it holds.
-fn push_change(line: &mut Line, at: At, found: &[u8], now: &[u8])
+fn push_change(line: &mut LineBuffer, at: Line, found: &[u8], now: &[u8])
     requires room { length line.old + 52 ≤ LINE_ROOM }
     requires fits { length now.now ≤ 43 }
     ensures text { line.new ≡ line.old ++ change_text at found.now now.now }
@@ -105,7 +105,7 @@ fn push_change(line: &mut Line, at: At, found: &[u8], now: &[u8])
 }
 
 /// Puts the access of a word at a line, by what was found there and what is there now.
-fn push_access(line: &mut Line, at: At, word: WordName, found: Contents, now: Contents)
+fn push_access(line: &mut LineBuffer, at: Line, word: WordName, found: Contents, now: Contents)
     requires { length line.old + 82 ≤ LINE_ROOM }
     ensures text { line.new ≡ line.old ++ access_text at (word_named word) found now }
     ensures short { length line.new ≤ length line.old + 82 }
@@ -117,11 +117,11 @@ fn push_access(line: &mut Line, at: At, word: WordName, found: Contents, now: Co
 }
 
 /// Where an actor stands whose next step touches this word: before which line, and what the word holds.
-pub(crate) fn stand_cell(at: Option<At>, word: WordName, holds: Contents) -> Line
+pub(crate) fn stand_cell(at: Option<Line>, word: WordName, holds: Contents) -> LineBuffer
     ensures { result ≡ codes " at " ++ at_text at ++ codes " " ++ place_text (word_named word)
         ++ codes " " ++ held_text holds }
 {
-    let mut line = Line::new();
+    let mut line = LineBuffer::new();
     line.push(b" at ");
     push_at(&mut line, at);
     line.push(b" ");
@@ -132,17 +132,17 @@ pub(crate) fn stand_cell(at: Option<At>, word: WordName, holds: Contents) -> Lin
 }
 
 /// A line with the mark before a step.
-fn marked(is_marked: bool) -> Line
+fn marked(is_marked: bool) -> LineBuffer
     ensures text { result ≡ mark_text is_marked }
     ensures short { length result ≡ 1 }
 {
-    let mut line = Line::new();
+    let mut line = LineBuffer::new();
     line.push(if is_marked { b"*" } else { b" " });
     line
 }
 
 /// Puts the name of a refusal that a queue answers at the end of a line.
-fn push_name(line: &mut Line, reply: &Reply)
+fn push_name(line: &mut LineBuffer, reply: &Reply)
     requires { length line.old + 10 ≤ LINE_ROOM }
     ensures text { line.new ≡ line.old ++ name_text reply.now }
     ensures short { length line.new ≤ length line.old + 10 }
@@ -159,7 +159,7 @@ fn push_name(line: &mut Line, reply: &Reply)
 }
 
 /// Puts a reply at the end of a line, or a dash where there is none, with the name of a refusal.
-pub(crate) fn push_named(line: &mut Line, reply: &Option<Reply>)
+pub(crate) fn push_named(line: &mut LineBuffer, reply: &Option<Reply>)
     requires { length line.old + 57 ≤ LINE_ROOM }
     ensures text { line.new ≡ line.old ++ named_reply reply.now }
     ensures short { length line.new ≤ length line.old + 57 }
@@ -171,7 +171,7 @@ pub(crate) fn push_named(line: &mut Line, reply: &Option<Reply>)
 }
 
 /// Puts the reply of a call that ended at the end of a line.
-fn push_answer(line: &mut Line, told: &Stepped)
+fn push_answer(line: &mut LineBuffer, told: &Stepped)
     requires { length line.old + 61 ≤ LINE_ROOM }
     ensures text { line.new ≡ line.old ++ answer_text told.now }
     ensures short { length line.new ≤ length line.old + 61 }
@@ -183,10 +183,10 @@ fn push_answer(line: &mut Line, told: &Stepped)
 }
 
 /// What a begin is shown as.
-pub(crate) fn begin_cell(op: &Op) -> Line
+pub(crate) fn begin_cell(op: &Op) -> LineBuffer
     ensures { result ≡ codes " " ++ call_text op.now }
 {
-    let mut cell = Line::new();
+    let mut cell = LineBuffer::new();
     cell.push(b" ");
     push_call(&mut cell, *op);
     cell
@@ -199,7 +199,7 @@ pub(crate) fn step_cell(
     word: WordName,
     found: Contents,
     now: Contents,
-) -> Line
+) -> LineBuffer
     ensures { result ≡ cell_text is_marked told.now (λ l. access_text l (word_named word) found now) }
 {
     let mut cell = marked(is_marked);
@@ -212,7 +212,7 @@ pub(crate) fn step_cell(
 }
 
 /// What a giving up is shown as.
-pub(crate) fn give_cell(is_marked: bool, told: &Stepped) -> Line
+pub(crate) fn give_cell(is_marked: bool, told: &Stepped) -> LineBuffer
     ensures { result ≡ cell_text is_marked told.now gives_text }
 {
     let mut cell = marked(is_marked);

@@ -5,7 +5,7 @@ ghost use Rattle.show_engine.specs.Chains.{arrow_text, chain_text, chains_text, 
 
 use crate::frames::Frame;
 use step_machine::{Contents, WordName, WorldOf};
-use text_io::{LINE_ROOM, Line};
+use text_io::{LINE_ROOM, LineBuffer};
 
 /// How many nodes of a chain are shown at most.
 const MOST_NODES: u32 = 5;
@@ -21,7 +21,7 @@ fn node_in(contents: &Contents) -> u32
 }
 
 /// Puts at the end of a line how a chain goes on that isn't followed.
-fn push_rest(line: &mut Line, contents: &Contents)
+fn push_rest(line: &mut LineBuffer, contents: &Contents)
     requires { length line.old + 7 ≤ LINE_ROOM }
     ensures text { line.new ≡ line.old ++ rest_text contents.now }
     ensures short { length line.new ≤ length line.old + 7 }
@@ -38,12 +38,12 @@ fn push_rest(line: &mut Line, contents: &Contents)
 }
 
 /// The digits of a number of 32 bits.
-fn digits_of(number: u32) -> Line
+fn digits_of(number: u32) -> LineBuffer
     ensures digits { result ≡ decimal number }
     ensures short { length result ≤ 10 }
     ensures few { number ≤ 65535 → length result ≤ 5 }
 {
-    let mut digits = Line::new();
+    let mut digits = LineBuffer::new();
     digits.push_number(u64::from(number));
     digits
 }
@@ -56,7 +56,7 @@ fn tail_node<const B: u32>(world: &WorldOf<B>) -> u32
 }
 
 /// Puts what stands before a node of a chain at the end of a line.
-fn push_arrow(line: &mut Line, tail: u32, node: u32)
+fn push_arrow(line: &mut LineBuffer, tail: u32, node: u32)
     requires { length line.old + 2 ≤ LINE_ROOM }
     ensures text { line.new ≡ line.old ++ arrow_text tail node }
     ensures short { length line.new ≤ length line.old + 2 }
@@ -69,7 +69,7 @@ fn push_arrow(line: &mut Line, tail: u32, node: u32)
 }
 
 /// Puts the node of a reference at the end of a line, and answers what follows; the same where there is no node.
-fn push_link<const B: u32>(line: &mut Line, world: &WorldOf<B>, from: &Contents) -> Contents
+fn push_link<const B: u32>(line: &mut LineBuffer, world: &WorldOf<B>, from: &Contents) -> Contents
     requires { length line.old + 12 ≤ LINE_ROOM }
     ensures text { (more : ℕ) → line.old ++ links_text B world.now.shared (more + 1) from.now
         ≡ line.new ++ links_text B world.now.shared more result }
@@ -85,7 +85,7 @@ fn push_link<const B: u32>(line: &mut Line, world: &WorldOf<B>, from: &Contents)
 }
 
 /// Puts the nodes from a reference on, at most so many, at the end of a line.
-fn push_links<const B: u32>(line: &mut Line, world: &WorldOf<B>, from: &Contents, most: u32)
+fn push_links<const B: u32>(line: &mut LineBuffer, world: &WorldOf<B>, from: &Contents, most: u32)
     requires { length line.old + 12 * most + 7 ≤ LINE_ROOM }
     ensures text { line.new ≡ line.old ++ links_text B world.now.shared most from.now }
     ensures short { length line.new ≤ length line.old + 12 * most + 7 }
@@ -98,7 +98,7 @@ fn push_links<const B: u32>(line: &mut Line, world: &WorldOf<B>, from: &Contents
 }
 
 /// Puts a chain at the end of a line.
-fn push_chain<const B: u32>(line: &mut Line, world: &WorldOf<B>, first: WordName)
+fn push_chain<const B: u32>(line: &mut LineBuffer, world: &WorldOf<B>, first: WordName)
     requires { length line.old + 67 ≤ LINE_ROOM }
     ensures text { line.new ≡ line.old
         ++ chain_text B world.now.shared (contents_in B (word_named first) world.now.shared) }
@@ -113,11 +113,11 @@ fn push_chain<const B: u32>(line: &mut Line, world: &WorldOf<B>, first: WordName
 }
 
 /// Both chains.
-fn chains_line<const B: u32>(world: &WorldOf<B>) -> Line
+fn chains_line<const B: u32>(world: &WorldOf<B>) -> LineBuffer
     ensures text { result ≡ chains_text B world.now.shared }
     ensures short { length result ≤ 147 }
 {
-    let mut line = Line::new();
+    let mut line = LineBuffer::new();
     line.push(b" | Head");
     push_chain(&mut line, world, WordName::Head);
     line.push(b", Free");
@@ -126,7 +126,7 @@ fn chains_line<const B: u32>(world: &WorldOf<B>) -> Line
 }
 
 /// Puts the node that Tail names behind both chains, where they show no arrow.
-fn push_tail(line: &mut Line, tail: u32)
+fn push_tail(line: &mut LineBuffer, tail: u32)
     requires { length line.old + 17 ≤ LINE_ROOM }
     ensures text { line.new ≡ line.old ++ tail_text line.old tail }
     ensures short { length line.new ≤ length line.old + 17 }
@@ -138,7 +138,7 @@ fn push_tail(line: &mut Line, tail: u32)
 }
 
 /// Puts who holds a lock at the end of a line, by the lock's name and what it holds.
-fn push_holder(line: &mut Line, name: &[u8], contents: &Contents)
+fn push_holder(line: &mut LineBuffer, name: &[u8], contents: &Contents)
     requires { length line.old + length name.now + 5 ≤ LINE_ROOM }
     ensures text { line.new ≡ line.old ++ holder_text name.now contents.now }
     ensures short { length line.new ≤ length line.old + length name.now + 5 }
@@ -153,7 +153,7 @@ fn push_holder(line: &mut Line, name: &[u8], contents: &Contents)
 }
 
 /// Puts who holds the locks at the end of a line.
-fn push_holders<const B: u32>(line: &mut Line, world: &WorldOf<B>)
+fn push_holders<const B: u32>(line: &mut LineBuffer, world: &WorldOf<B>)
     requires { length line.old + 28 ≤ LINE_ROOM }
     ensures { line.new ≡ line.old ++ holders_text B world.now.shared }
 {
@@ -162,7 +162,7 @@ fn push_holders<const B: u32>(line: &mut Line, world: &WorldOf<B>)
 }
 
 /// What is told beside a row: both chains with Tail, and who holds the locks.
-pub(crate) fn state_line<const B: u32>(world: &WorldOf<B>) -> Line
+pub(crate) fn state_line<const B: u32>(world: &WorldOf<B>) -> LineBuffer
     ensures { result ≡ state_text B world.now.shared }
 {
     let mut line = chains_line(world);
@@ -172,12 +172,12 @@ pub(crate) fn state_line<const B: u32>(world: &WorldOf<B>) -> Line
 }
 
 /// What stands beside the row of a numbered move: all that is told, at the first number that is shown, and where it changed.
-pub(crate) fn side_line(frame: Frame, number: u64, before: &Line, after: Line) -> Line
+pub(crate) fn side_line(frame: Frame, number: u64, before: &LineBuffer, after: LineBuffer) -> LineBuffer
     ensures { result ≡ side_text frame number before.now after }
 {
     if number == frame.from || before.as_slice() != after.as_slice() {
         after
     } else {
-        Line::new()
+        LineBuffer::new()
     }
 }

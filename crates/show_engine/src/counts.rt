@@ -10,13 +10,13 @@ use history::Refusal;
 use schedule_text::Schedule;
 use std::alloc::Global;
 use step_machine::WorldOf;
-use trace_engine::{Counted as Run, first_events, make_all, opening_world};
+use trace_engine::{RunExtent, first_events, make_all, opening_world};
 
 /// What a run of a schedule leaves for the next one.
 #[derive(Drop)]
 pub struct Counted {
     /// How far its events can be made.
-    pub run: Run,
+    pub run: RunExtent,
     /// The numbers at which operations take effect, by rising number.
     pub effects: Vec<u64>,
 }

@@ -2,12 +2,12 @@
 ghost use Rattle.std.specs.Prelude.{◌≡◌, ◌≤◌, ◌<◌, ◌^◌};
 ghost use Rattle.show_engine.specs.Frames.{IsFitting, column_of, end_of, frame_of, has_column, shown_within, shows, width_of};
 
-use line_table::Line as At;
+use line_table::Line;
 
 /// What a line does, as it is told.
 #[derive(Clone, Copy, Debug)]
 pub struct Meaning<'a> {
-    pub line: At,
+    pub line: Line,
     /// Its access of a shared word.
     pub access: &'a str,
 }

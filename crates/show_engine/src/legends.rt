@@ -13,22 +13,22 @@ use crate::frames::{Frame, Meaning};
 use crate::move_rows::mover;
 use crate::rows::pair_line;
 use history::Refusal;
-use line_table::Line as At;
+use line_table::Line;
 use schedule_text::{Event, Schedule};
 use std::alloc::Global;
 use step_machine::{Move, Stepped, WorldOf, step_in};
-use text_io::{Block, Line, Sink};
+use text_io::{Block, LineBuffer, Sink};
 use trace_engine::{first_events, moves_in, opening_world};
 
 /// Whether a line is one of these.
-fn has_line(lines: &[At], at: At) -> bool
+fn has_line(lines: &[Line], at: Line) -> bool
     ensures { result ≡ has_line lines.now at }
 {
     lines.iter().any(|one| one.name() == at.name())
 }
 
 /// Puts a line behind others, if it isn't among them.
-fn note(lines: &mut Vec<At>, at: At) -> Result<(), Refusal>
+fn note(lines: &mut Vec<Line>, at: Line) -> Result<(), Refusal>
     ensures ok { OnOk result (lines.new.items ≡ with_line at lines.old.items) }
     ensures memory { IfErr result (λ refusal. refusal ≡ Memory) }
 {
@@ -42,7 +42,7 @@ fn note(lines: &mut Vec<At>, at: At) -> Result<(), Refusal>
 }
 
 /// Puts the line at which a move was made, if it was made at one, behind others.
-fn note_told(lines: &mut Vec<At>, told: &Stepped) -> Result<(), Refusal>
+fn note_told(lines: &mut Vec<Line>, told: &Stepped) -> Result<(), Refusal>
     ensures ok { OnOk result (lines.new.items ≡ with_stepped told.now lines.old.items) }
     ensures memory { IfErr result (λ refusal. refusal ≡ Memory) }
 {
@@ -57,7 +57,7 @@ fn note_move<const B: u32>(
     world: &mut WorldOf<B>,
     frame: Frame,
     one: Move,
-    lines: &mut Vec<At>,
+    lines: &mut Vec<Line>,
 ) -> Result<(), Refusal>
     requires { IsFitting frame }
     ensures ok { OnOk result (next world.old one ≡ Some world.new) }
@@ -81,7 +81,7 @@ fn note_moves<const B: u32>(
     frame: Frame,
     one: Move,
     count: u32,
-    lines: &mut Vec<At>,
+    lines: &mut Vec<Line>,
 ) -> Result<(), Refusal>
     requires { IsFitting frame }
     ensures ok { OnOk result (world_after (replicate count one) world.old ≡ Some world.new) }
@@ -101,7 +101,7 @@ fn note_all<const B: u32>(
     world: &mut WorldOf<B>,
     frame: Frame,
     events: &[Event],
-    lines: &mut Vec<At>,
+    lines: &mut Vec<Line>,
 ) -> Result<(), Refusal>
     requires range { All IsEventInRange events.now }
     requires fits { IsFitting frame }
@@ -124,7 +124,7 @@ pub(crate) fn lines_in<const B: u32>(
     frame: Frame,
     made: usize,
     legend: &[Meaning<'_>],
-) -> Result<Vec<At>, Refusal>
+) -> Result<Vec<Line>, Refusal>
     requires range { IsInRange schedule.now }
     requires bits { schedule.now.bits ≡ B }
     requires within { made ≤ length schedule.now.events }
@@ -143,12 +143,12 @@ pub(crate) fn lines_in<const B: u32>(
 }
 
 /// What is told of a line, where it is one of these, and else nothing.
-fn meaning_row(frame: Frame, lines: &[At], meaning: &Meaning<'_>) -> Line
+fn meaning_row(frame: Frame, lines: &[Line], meaning: &Meaning<'_>) -> LineBuffer
     requires { IsFitting frame }
     ensures { result ≡ meaning_row frame lines.now meaning.now }
 {
     if !has_line(lines, meaning.line) {
-        return Line::new();
+        return LineBuffer::new();
     }
     let name = meaning.line.name();
     pair_line(frame, 4, name.as_bytes(), meaning.access.as_bytes())
@@ -156,10 +156,10 @@ fn meaning_row(frame: Frame, lines: &[At], meaning: &Meaning<'_>) -> Line
 
 /// Writes what a block holds, the last line of a picture, and what is told of lines.
 pub(crate) fn write_end<W: Sink>(
-    last: &Line,
+    last: &LineBuffer,
     frame: Frame,
     legend: &[Meaning<'_>],
-    lines: &[At],
+    lines: &[Line],
     mut block: Block,
     writer: &mut W,
 ) -> Result<(), Refusal>

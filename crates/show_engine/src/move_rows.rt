@@ -18,7 +18,7 @@ use crate::frames::Frame;
 use crate::rows::{number_start, row};
 use history::Refusal;
 use step_machine::{Move, Stepped, WorldOf, step_in};
-use text_io::Line;
+use text_io::LineBuffer;
 
 /// Who makes a move.
 pub(crate) fn mover(one: &Move) -> u16
@@ -62,9 +62,9 @@ fn numbered_row<const B: u32>(
     world: &WorldOf<B>,
     frame: Frame,
     actor: u16,
-    cell: &Line,
-    before: &Line,
-) -> Line
+    cell: &LineBuffer,
+    before: &LineBuffer,
+) -> LineBuffer
     requires { IsFitting frame }
     ensures { result ≡ row_text frame actor (number_text world.now.steps) cell.now
         (side_text frame world.now.steps before.now (state_text B world.now.shared)) }
@@ -82,7 +82,7 @@ fn numbered_row<const B: u32>(
 }
 
 /// Takes a step that can be taken, and answers its row.
-fn step_row<const B: u32>(world: &mut WorldOf<B>, frame: Frame, effects: &[u64], actor: u16) -> Line
+fn step_row<const B: u32>(world: &mut WorldOf<B>, frame: Frame, effects: &[u64], actor: u16) -> LineBuffer
     requires can { IsSome (next world.old (Step actor)) }
     requires left { world.old.steps + 1 < 2 ^ 64 }
     requires fits { IsFitting frame }
@@ -104,7 +104,7 @@ fn step_row<const B: u32>(world: &mut WorldOf<B>, frame: Frame, effects: &[u64],
 }
 
 /// Gives up a call that can be given up, and answers the row of that.
-fn give_row<const B: u32>(world: &mut WorldOf<B>, frame: Frame, effects: &[u64], actor: u16) -> Line
+fn give_row<const B: u32>(world: &mut WorldOf<B>, frame: Frame, effects: &[u64], actor: u16) -> LineBuffer
     requires can { IsSome (next world.old (Give actor)) }
     requires left { world.old.steps + 1 < 2 ^ 64 }
     requires fits { IsFitting frame }
@@ -126,7 +126,7 @@ fn shown_move<const B: u32>(
     frame: Frame,
     effects: &[u64],
     one: Move,
-) -> Result<Line, Refusal>
+) -> Result<LineBuffer, Refusal>
     requires can { IsSome (next world.old one) }
     requires left { world.old.steps + 1 < 2 ^ 64 }
     requires fits { IsFitting frame }
@@ -175,7 +175,7 @@ pub(crate) fn draw_move<const B: u32>(
     frame: Frame,
     effects: &[u64],
     one: Move,
-) -> Result<Line, Refusal>
+) -> Result<LineBuffer, Refusal>
     requires can { IsSome (next world.old one) }
     requires left { world.old.steps + 1 < 2 ^ 64 }
     requires fits { IsFitting frame }
@@ -190,5 +190,5 @@ pub(crate) fn draw_move<const B: u32>(
         return shown_move(world, frame, effects, one);
     }
     hidden_move(world, one)?;
-    Ok(Line::new())
+    Ok(LineBuffer::new())
 }

@@ -18,7 +18,7 @@ use history::Refusal;
 use schedule_text::{Event, Schedule};
 use std::alloc::Global;
 use step_machine::{Move, WorldOf};
-use text_io::{Block, Line, Sink};
+use text_io::{Block, LineBuffer, Sink};
 use trace_engine::{RunPrinter, print_run};
 
 /// The rows of a picture, marked where operations take effect.
@@ -60,12 +60,12 @@ impl<'a, const B: u32> RunPrinter<B> for Rows<'a> {
         block.put(writer, line.as_slice())
     }
 
-    fn stand_line(&self, world: &WorldOf<B>, actor: u16) -> Line {
+    fn stand_line(&self, world: &WorldOf<B>, actor: u16) -> LineBuffer {
         shown_stand(world, self.frame, actor)
     }
 
-    fn last_line(&self, _: &mut WorldOf<B>, _: Event) -> Line {
-        Line::new()
+    fn last_line(&self, _: &mut WorldOf<B>, _: Event) -> LineBuffer {
+        LineBuffer::new()
     }
 }
 

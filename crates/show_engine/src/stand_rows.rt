@@ -9,11 +9,11 @@ use crate::cells::stand_cell;
 use crate::frames::Frame;
 use crate::rows::row;
 use step_machine::{WordName, WorldOf};
-use text_io::Line;
+use text_io::LineBuffer;
 use trace_engine::line_of;
 
 /// The row of an actor that is there, whose next step touches this word.
-fn touching_row<const B: u32>(world: &WorldOf<B>, frame: Frame, actor: u16, word: WordName) -> Line
+fn touching_row<const B: u32>(world: &WorldOf<B>, frame: Frame, actor: u16, word: WordName) -> LineBuffer
     requires there { IsSome (actor_of world.now actor) }
     requires fits { IsFitting frame }
     ensures { result ≡ stand_row frame B world.now actor (Some (word_named word)) }
@@ -23,15 +23,15 @@ fn touching_row<const B: u32>(world: &WorldOf<B>, frame: Frame, actor: u16, word
 }
 
 /// The row of where an actor stands that has a column, or nothing where it has no call.
-pub(crate) fn shown_stand<const B: u32>(world: &WorldOf<B>, frame: Frame, actor: u16) -> Line
+pub(crate) fn shown_stand<const B: u32>(world: &WorldOf<B>, frame: Frame, actor: u16) -> LineBuffer
     requires { IsFitting frame }
     ensures { result ≡ shown_stand frame B world.now actor }
 {
     if !frame.has_column(actor) {
-        return Line::new();
+        return LineBuffer::new();
     }
     match world.touches(actor) {
         Some(word) => touching_row(world, frame, actor, word),
-        None => Line::new(),
+        None => LineBuffer::new(),
     }
 }

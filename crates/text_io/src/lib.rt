@@ -14,7 +14,7 @@ mod writers;
 
 pub use blocks::{BLOCK, Block};
 pub use devices::{Sink, Source};
-pub use lines::{LINE_ROOM, Line};
+pub use lines::{LINE_ROOM, LineBuffer};
 pub use parsers::Parser;
 pub use parsed_sources::parse_source;
 pub use readers::{MOST_BYTES, ReaderSource};

@@ -8,12 +8,12 @@ pub const LINE_ROOM: usize = 192;
 
 /// The bytes of a line. They lie in an array, so no call takes memory.
 #[derive(Drop)]
-pub struct Line {
+pub struct LineBuffer {
     bytes: [u8; LINE_ROOM],
     len: usize,
 }
 
-impl Model for Line {
+impl Model for LineBuffer {
     ghost use Rattle.std.specs.Prelude.{ℕ, List, take, ◌≤◌};
 
     ghost Value = { List ℕ };
@@ -23,12 +23,12 @@ impl Model for Line {
     ghost invariant = { λ l. l.len ≤ 192 };
 }
 
-impl Line {
+impl LineBuffer {
     /// A line with no bytes.
-    pub fn new() -> Line
+    pub fn new() -> LineBuffer
         ensures { result ≡ [] }
     {
-        Line {
+        LineBuffer {
             bytes: [0; LINE_ROOM],
             len: 0,
         }

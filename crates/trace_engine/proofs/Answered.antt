@@ -14,9 +14,9 @@ use Rattle.step_machine.specs.Machine.{World}
 use Rattle.text_io.specs.Blocks.{Sends, TakesPrefix}
 use Rattle.text_io.specs.Devices.{SinkState}
 use Rattle.text_io.proofs.Sends.{Appends-Sends}
-use Rattle.trace_engine.specs.declared.counts.Counted.{Counted}
+use Rattle.trace_engine.specs.declared.counts.RunExtent.{RunExtent}
 use Rattle.trace_engine.specs.Answers.{Answers, HasBegun, IsDueOf, IsStopOf, IsTracingFault, IsWholeOf, RunText, StopsTelling, Tells}
-use Rattle.trace_engine.specs.Extents.{EndsAsCounted, IsCountOf}
+use Rattle.trace_engine.specs.Extents.{EndsAsCounted, IsExtentOf}
 use Rattle.trace_engine.proofs.Stops.{events_refused, is_refused, stops_at}
 
 -- what the moves of an event may be refused, with its line, an engine may be
@@ -39,7 +39,7 @@ not_write : (refusal : Refusal) → IsMoveRefusal refusal → refusal ≡ Write 
 not_write refusal moves write = subst IsMoveRefusal write moves
 
 -- a text is what is due of a run, as far as its events can be made
-pub record IsDue (t : RunText) (s : Schedule) (counted : Counted) (w : World) (text : List ℕ) : Type 0 where
+pub record IsDue (t : RunText) (s : Schedule) (counted : RunExtent) (w : World) (text : List ℕ) : Type 0 where
   pub whole : length s.events ≤ counted.made → text ≡ t.whole s w
   pub stopped : (event : Event) → slice_get s.events counted.made ≡ Some event → text ≡ t.stopped s (take counted.made s.events) w event
 
@@ -60,7 +60,7 @@ Answers-unmade t s a same refusal fault is memory unchanged =
       write = λ write. absurd cc;
     })
 
-module _ (t : RunText) (s : Schedule) (counted : Counted) (count : IsCountOf s counted) (text : List ℕ) (due : IsDue t s counted count.world text) (a b : SinkState) (same : Type 0) where
+module _ (t : RunText) (s : Schedule) (counted : RunExtent) (count : IsExtentOf s counted) (text : List ℕ) (due : IsDue t s counted count.world text) (a b : SinkState) (same : Type 0) where
   -- where all events can be made, it is written of all
   is_whole : counted.refusal ≡ None → IsWholeOf t s text
   is_whole none =

@@ -10,8 +10,8 @@ use Rattle.run_engine.proofs.Leading.{world_after-moves_of}
 use Rattle.schedule_text.specs.declared.schedules.Event.{Event}
 use Rattle.schedule_text.specs.Schedules.{Schedule, header_lines, moves_of}
 use Rattle.step_machine.specs.Machine.{World}
-use Rattle.trace_engine.specs.declared.counts.Counted.{Counted}
-use Rattle.trace_engine.specs.Extents.{IsCount, IsCountOf, StopsAt}
+use Rattle.trace_engine.specs.declared.counts.RunExtent.{RunExtent}
+use Rattle.trace_engine.specs.Extents.{IsCount, IsExtentOf, StopsAt}
 use Rattle.trace_engine.proofs.HasCounted.{HasCounted}
 
 module _ (start : World) (events : List Event) where
@@ -70,7 +70,7 @@ led_alone start w v events led made =
     let both : Some v ≡ Some w = sym made ∙ world_after-moves_of events start w led in
     cc
 
-module _ (s : Schedule) (counted : Counted) (count : IsCountOf s counted) where
+module _ (s : Schedule) (counted : RunExtent) (count : IsExtentOf s counted) where
   -- why the next event can't be made
   pub stops_at : (o : Option Refusal) → counted.refusal ≡ o → StopsAt s.events counted.made count.world o
   stops_at o is = subst (λ (o : Option Refusal). StopsAt s.events counted.made count.world o) is count.stops

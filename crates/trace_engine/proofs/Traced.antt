@@ -9,7 +9,7 @@ use Rattle.schedule_text.specs.declared.schedules.Event.{Event}
 use Rattle.schedule_text.specs.Schedules.{Schedule, moves_of}
 use Rattle.step_machine.specs.Machine.{World}
 use Rattle.text_io.specs.Devices.{SinkState}
-use Rattle.trace_engine.specs.declared.counts.Counted.{Counted}
+use Rattle.trace_engine.specs.declared.counts.RunExtent.{RunExtent}
 use Rattle.trace_engine.specs.Answers.{Tells}
 use Rattle.trace_engine.specs.Pieces.{moves_text, run_text}
 use Rattle.trace_engine.specs.Steps.{header_text, move_text}
@@ -17,7 +17,7 @@ use Rattle.trace_engine.specs.TracesWritten.{due_text, the_trace, trace_pieces}
 use Rattle.trace_engine.proofs.Answered.{IsDue}
 
 -- it is due
-pub trace_due : (s : Schedule) (counted : Counted) (w : World) → IsDue the_trace s counted w (due_text s counted.made w)
+pub trace_due : (s : Schedule) (counted : RunExtent) (w : World) → IsDue the_trace s counted w (due_text s counted.made w)
 trace_due s counted w =
     let first = take counted.made s.events in
     let pieces = trace_pieces s.bits w.steps in

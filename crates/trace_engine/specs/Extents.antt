@@ -8,7 +8,7 @@ use Rattle.run_engine.specs.Runs.{EventRefused, EventsLead, opening_of}
 use Rattle.schedule_text.specs.declared.schedules.Event.{Event}
 use Rattle.schedule_text.specs.Schedules.{Schedule, header_lines}
 use Rattle.step_machine.specs.Machine.{World}
-use Rattle.trace_engine.specs.declared.counts.Counted.{Counted}
+use Rattle.trace_engine.specs.declared.counts.RunExtent.{RunExtent}
 
 -- why no more than so many events were made, which led to this world: there are no more, or the next one is refused
 abbrev pub StopsAt : (events : List Event) → (made : ℕ) → World → Option Refusal → Type 0
@@ -17,7 +17,7 @@ StopsAt events made w (Some refusal) =
     (event : Event) × (slice_get events made ≡ Some event) × IsMoveRefusal refusal × EventRefused w event refusal
 
 -- so many of these events can be made one after another, from a world on, and are so many steps; the next one is refused
-pub record IsCount (start : World) (events : List Event) (counted : Counted) : Type 0 where
+pub record IsCount (start : World) (events : List Event) (counted : RunExtent) : Type 0 where
   pub within : counted.made ≤ length events
   pub world : World
   pub led : EventsLead start (take counted.made events) world
@@ -26,11 +26,11 @@ pub record IsCount (start : World) (events : List Event) (counted : Counted) : T
   pub stops : StopsAt events counted.made world counted.refusal
 
 -- so many events of a schedule can be made, and are so many steps
-abbrev pub IsCountOf : Schedule → Counted → Type 0
-IsCountOf s counted = IsCount (opening_of s) s.events counted
+abbrev pub IsExtentOf : Schedule → RunExtent → Type 0
+IsExtentOf s counted = IsCount (opening_of s) s.events counted
 
 -- a schedule is refused as its first event that can't be made is, with the line of that, if there is one
-pub record EndsAsCounted (s : Schedule) (counted : Counted) (result : Result (Unit {0}) Fault) : Type 0 where
+pub record EndsAsCounted (s : Schedule) (counted : RunExtent) (result : Result (Unit {0}) Fault) : Type 0 where
   pub whole : OnOk result (counted.refusal ≡ None)
   pub refusal : IfErr result (λ fault. counted.refusal ≡ Some fault.refusal)
   pub kind : IfErr result (λ fault. IsEventFault fault.refusal fault.line)

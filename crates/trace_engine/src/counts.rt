@@ -3,7 +3,7 @@ ghost use Rattle.std.specs.Prelude.{◌≡◌, ◌≤◌, None, All, IfOk, IfErr
 ghost use Rattle.history.specs.declared.refusals.Refusal.TheVariants.{Memory};
 ghost use Rattle.run_engine.specs.Runs.{EventsLead, opening_of};
 ghost use Rattle.schedule_text.specs.Texts.{IsEventInRange, IsInRange};
-ghost use Rattle.trace_engine.specs.Extents.{EndsAsCounted, IsCount, IsCountOf};
+ghost use Rattle.trace_engine.specs.Extents.{EndsAsCounted, IsCount, IsExtentOf};
 
 use engine_faults::Fault;
 use history::Refusal;
@@ -14,7 +14,7 @@ use step_machine::WorldOf;
 
 /// How far the events of a schedule can be made.
 #[derive(Drop)]
-pub struct Counted {
+pub struct RunExtent {
     /// How many of them can be, one after another.
     pub made: usize,
     /// How many steps these are.
@@ -38,7 +38,7 @@ pub fn opening_world<const B: u32>(
 }
 
 /// Makes events, as far as they can be made. Where one is refused, the world is whatever the moves of that left.
-pub fn make_all<const B: u32>(world: &mut WorldOf<B>, events: &[Event]) -> Result<Counted, Refusal>
+pub fn make_all<const B: u32>(world: &mut WorldOf<B>, events: &[Event]) -> Result<RunExtent, Refusal>
     requires range { All IsEventInRange events.now }
     requires few { length events.now ≤ 1000000 }
     requires left { world.old.steps ≡ 0 }
@@ -55,7 +55,7 @@ pub fn make_all<const B: u32>(world: &mut WorldOf<B>, events: &[Event]) -> Resul
             Err(Refusal::Memory) => return Err(Refusal::Memory),
             Err(refusal) => {
                 let refusal = Some(refusal);
-                return Ok(Counted {
+                return Ok(RunExtent {
                     made,
                     steps,
                     refusal,
@@ -63,7 +63,7 @@ pub fn make_all<const B: u32>(world: &mut WorldOf<B>, events: &[Event]) -> Resul
             }
         }
     }
-    Ok(Counted {
+    Ok(RunExtent {
         made,
         steps: world.steps(),
         refusal: None,
@@ -82,10 +82,10 @@ pub fn first_events(schedule: &Schedule, made: usize) -> &[Event]
 pub(crate) fn count_steps<const B: u32>(
     alloc: Global,
     schedule: &Schedule,
-) -> Result<Counted, Refusal>
+) -> Result<RunExtent, Refusal>
     requires range { IsInRange schedule.now }
     requires bits { schedule.now.bits ≡ B }
-    ensures ok { IfOk result (IsCountOf schedule.now) }
+    ensures ok { IfOk result (IsExtentOf schedule.now) }
     ensures err { IfErr result (λ refusal. refusal ≡ Memory) }
 {
     let mut world = opening_world::<B>(alloc, schedule)?;
@@ -93,9 +93,9 @@ pub(crate) fn count_steps<const B: u32>(
 }
 
 /// Refuses a schedule as the first of its events is that can't be made, with the line of that; where all can be, it is Ok.
-pub fn refuse_at(schedule: &Schedule, counted: &Counted) -> Result<(), Fault>
+pub fn refuse_at(schedule: &Schedule, counted: &RunExtent) -> Result<(), Fault>
     requires range { IsInRange schedule.now }
-    requires count { IsCountOf schedule.now counted.now }
+    requires count { IsExtentOf schedule.now counted.now }
     ensures { EndsAsCounted schedule.now counted.now result }
 {
     match counted.refusal {

@@ -9,7 +9,7 @@ mod runs;
 mod stands;
 mod traces;
 
-pub use counts::{Counted, first_events, make_all, opening_world, refuse_at};
+pub use counts::{RunExtent, first_events, make_all, opening_world, refuse_at};
 pub use engine::trace_text;
 pub use printers::RunPrinter;
 pub use runs::{moves_in, print_run};

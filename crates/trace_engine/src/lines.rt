@@ -10,10 +10,10 @@ use history::Refusal;
 use history_text::push_reply;
 use schedule_text::{Schedule, name_of_kind};
 use step_machine::{Contents, Move, Stepped, WordName, WorldOf, step_in};
-use text_io::{LINE_ROOM, Line};
+use text_io::{LINE_ROOM, LineBuffer};
 
 /// Puts a number in decimal at the end of a line. A turn puts up to four digits, since the lines are mostly digits.
-fn push_digits(line: &mut Line, number: u64)
+fn push_digits(line: &mut LineBuffer, number: u64)
     requires { length line.old + length (decimal number) ≤ LINE_ROOM }
     ensures { line.new ≡ line.old ++ decimal number }
 {
@@ -37,7 +37,7 @@ fn push_digits(line: &mut Line, number: u64)
 }
 
 /// Puts a number at the end of a line.
-fn push_number(line: &mut Line, number: u64)
+fn push_number(line: &mut LineBuffer, number: u64)
     requires { length line.old + 20 ≤ LINE_ROOM }
     ensures digits { line.new ≡ line.old ++ decimal number }
     ensures short { length line.new ≤ length line.old + 20 }
@@ -46,7 +46,7 @@ fn push_number(line: &mut Line, number: u64)
 }
 
 /// Puts a number of 32 bits at the end of a line.
-pub(crate) fn push_short(line: &mut Line, number: u32)
+pub(crate) fn push_short(line: &mut LineBuffer, number: u32)
     requires { length line.old + 10 ≤ LINE_ROOM }
     ensures digits { line.new ≡ line.old ++ decimal number }
     ensures short { length line.new ≤ length line.old + 10 }
@@ -55,7 +55,7 @@ pub(crate) fn push_short(line: &mut Line, number: u32)
 }
 
 /// Puts the name of a word at the end of a line.
-pub(crate) fn push_word(line: &mut Line, word: WordName)
+pub(crate) fn push_word(line: &mut LineBuffer, word: WordName)
     requires { length line.old + 30 ≤ LINE_ROOM }
     ensures text { line.new ≡ line.old ++ word_text (word_named word) }
     ensures short { length line.new ≤ length line.old + 16 }
@@ -79,7 +79,7 @@ pub(crate) fn push_word(line: &mut Line, word: WordName)
 }
 
 /// Puts what a word holds at the end of a line.
-pub(crate) fn push_contents(line: &mut Line, contents: &Contents)
+pub(crate) fn push_contents(line: &mut LineBuffer, contents: &Contents)
     requires { length line.old + 31 ≤ LINE_ROOM }
     ensures text { line.new ≡ line.old ++ contents_text contents.now }
     ensures short { length line.new ≤ length line.old + 31 }
@@ -104,7 +104,7 @@ pub(crate) fn push_contents(line: &mut Line, contents: &Contents)
 }
 
 /// Puts an access at the end of a line: the name of its word, what was found there, and what is there now.
-fn push_access(line: &mut Line, word: WordName, found: &Contents, now: &Contents)
+fn push_access(line: &mut LineBuffer, word: WordName, found: &Contents, now: &Contents)
     requires { length line.old + 91 ≤ LINE_ROOM }
     ensures text { line.new ≡ line.old ++ access_text (word_named word) found.now now.now }
     ensures short { length line.new ≤ length line.old + 91 }
@@ -119,7 +119,7 @@ fn push_access(line: &mut Line, word: WordName, found: &Contents, now: &Contents
 
 /// Puts the number of a move, its actor and the actor's line at the end of a line.
 #[inline(always)]
-fn push_row(line: &mut Line, number: u64, actor: u16, told: &Stepped)
+fn push_row(line: &mut LineBuffer, number: u64, actor: u16, told: &Stepped)
     requires { length line.old + 35 ≤ LINE_ROOM }
     ensures text { line.new ≡ line.old ++ decimal number ++ codes " " ++ decimal actor ++ codes " "
         ++ line_told told.now }
@@ -137,7 +137,7 @@ fn push_row(line: &mut Line, number: u64, actor: u16, told: &Stepped)
 
 /// Puts the reply of the call that a move ended, and a line feed, at the end of a line.
 #[inline(always)]
-fn push_end(line: &mut Line, told: &Stepped)
+fn push_end(line: &mut LineBuffer, told: &Stepped)
     requires { length line.old + 60 ≤ LINE_ROOM }
     ensures { line.new ≡ line.old ++ end_told told.now ++ codes "\n" }
 {
@@ -150,7 +150,7 @@ fn push_end(line: &mut Line, told: &Stepped)
 
 /// Takes a step that can be taken, and puts its line.
 #[tactic(auto, unfolding(crate::specs::Steps::row_text))]
-fn push_step<const B: u32>(line: &mut Line, world: &mut WorldOf<B>, actor: u16)
+fn push_step<const B: u32>(line: &mut LineBuffer, world: &mut WorldOf<B>, actor: u16)
     requires empty { line.old ≡ [] }
     requires can { IsSome (next world.old (Step actor)) }
     requires left { world.old.steps + 1 < 2 ^ 64 }
@@ -172,7 +172,7 @@ fn push_step<const B: u32>(line: &mut Line, world: &mut WorldOf<B>, actor: u16)
 
 /// Gives up a call that can be given up, and puts the line of that.
 #[tactic(auto, unfolding(crate::specs::Steps::row_text))]
-fn push_give<const B: u32>(line: &mut Line, world: &mut WorldOf<B>, actor: u16)
+fn push_give<const B: u32>(line: &mut LineBuffer, world: &mut WorldOf<B>, actor: u16)
     requires empty { line.old ≡ [] }
     requires can { IsSome (next world.old (Give actor)) }
     requires left { world.old.steps + 1 < 2 ^ 64 }
@@ -190,7 +190,7 @@ fn push_give<const B: u32>(line: &mut Line, world: &mut WorldOf<B>, actor: u16)
 
 /// Makes a move that can be made, and puts its line, none for a begin. It is refused by `Memory` alone.
 pub(crate) fn push_move<const B: u32>(
-    line: &mut Line,
+    line: &mut LineBuffer,
     world: &mut WorldOf<B>,
     one: Move,
 ) -> Result<(), Refusal>
@@ -212,10 +212,10 @@ pub(crate) fn push_move<const B: u32>(
 
 /// The lines before the steps.
 #[tactic(auto, unfolding(crate::specs::Steps::header_text))]
-pub(crate) fn header_lines(schedule: &Schedule, steps: u64) -> Line
+pub(crate) fn header_lines(schedule: &Schedule, steps: u64) -> LineBuffer
     ensures { result ≡ header_text schedule.now steps }
 {
-    let mut lines = Line::new();
+    let mut lines = LineBuffer::new();
     lines.push(b"msq trace 1\nqueue ");
     lines.push(name_of_kind(schedule.kind));
     push_named(&mut lines, b"\nbits ", u64::from(schedule.bits));
@@ -228,7 +228,7 @@ pub(crate) fn header_lines(schedule: &Schedule, steps: u64) -> Line
 }
 
 /// Puts the name of a number and the number at the end of lines.
-fn push_named(lines: &mut Line, name: &[u8], number: u64)
+fn push_named(lines: &mut LineBuffer, name: &[u8], number: u64)
     requires { length lines.old + length name.now + 20 ≤ LINE_ROOM }
     ensures text { lines.new ≡ lines.old ++ name.now ++ decimal number }
     ensures short { length lines.new ≤ length lines.old + length name.now + 20 }

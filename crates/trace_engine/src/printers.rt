@@ -8,7 +8,7 @@ ghost use Rattle.trace_engine.specs.Pieces.{Pieces, moves_text};
 use history::Refusal;
 use schedule_text::{Event, Schedule};
 use step_machine::{Move, WorldOf};
-use text_io::{Block, Line, Sink};
+use text_io::{Block, LineBuffer, Sink};
 
 /// Prints the runs of schedules, where `B` bits of a word hold a node.
 pub trait RunPrinter<const B: u32> {
@@ -46,12 +46,12 @@ pub trait RunPrinter<const B: u32> {
             (block.old ++ moves_text (pieces self.now).each (one ∷ []) world.old) block.new result };
 
     /// Where an actor stands as an event is refused, as it is printed. It takes no memory.
-    fn stand_line(&self, world: &WorldOf<B>, actor: u16) -> Line
+    fn stand_line(&self, world: &WorldOf<B>, actor: u16) -> LineBuffer
         requires { can_print self.now }
         ensures { result ≡ (pieces self.now).stand world.now actor };
 
     /// What is printed behind where the actors stand as an event is refused. The world is left as it comes.
-    fn last_line(&self, world: &mut WorldOf<B>, event: Event) -> Line
+    fn last_line(&self, world: &mut WorldOf<B>, event: Event) -> LineBuffer
         requires printer { can_print self.now }
         requires left { world.old.steps + 64 < 2 ^ 64 }
         ensures { result ≡ (pieces self.now).last world.old event };

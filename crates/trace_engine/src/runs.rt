@@ -8,9 +8,9 @@ ghost use Rattle.step_machine.specs.Machine.{World};
 ghost use Rattle.text_io.specs.Blocks.{Puts};
 ghost use Rattle.trace_engine.specs.Answers.{Tells};
 ghost use Rattle.trace_engine.specs.Pieces.{actors_text, moves_text, rest_text, run_text, stop_text};
-ghost use Rattle.trace_engine.specs.Extents.{IsCountOf};
+ghost use Rattle.trace_engine.specs.Extents.{IsExtentOf};
 
-use crate::counts::{Counted, first_events, opening_world};
+use crate::counts::{RunExtent, first_events, opening_world};
 use crate::printers::RunPrinter;
 use history::Refusal;
 use schedule_text::{Event, Schedule};
@@ -87,13 +87,13 @@ fn put_made<const B: u32, P: RunPrinter<B>, W: Sink>(
     printer: &P,
     world: &mut WorldOf<B>,
     schedule: &Schedule,
-    counted: &Counted,
+    counted: &RunExtent,
     block: &mut Block,
     writer: &mut W,
 ) -> Result<(), Refusal>
     requires printer { P.can_print printer.now }
     requires range { IsInRange schedule.now }
-    requires count { IsCountOf schedule.now counted.now }
+    requires count { IsExtentOf schedule.now counted.now }
     requires opening { world.old ≡ opening_of schedule.now }
     ensures ok { OnOk result (world_after (moves_of (take counted.now.made schedule.now.events))
         world.old ≡ Some world.new) }
@@ -175,14 +175,14 @@ pub fn print_run<const B: u32, P: RunPrinter<B>, W: Sink>(
     alloc: Global,
     printer: &P,
     schedule: &Schedule,
-    counted: &Counted,
+    counted: &RunExtent,
     block: &mut Block,
     writer: &mut W,
 ) -> Result<(), Refusal>
     requires printer { P.can_print printer.now }
     requires range { IsInRange schedule.now }
     requires bits { schedule.now.bits ≡ B }
-    requires count { IsCountOf schedule.now counted.now }
+    requires count { IsExtentOf schedule.now counted.now }
     ensures { (w : World) → EventsLead (opening_of schedule.now)
         (take counted.now.made schedule.now.events) w → Tells (W.state writer.old) (W.state writer.new)
         (run_text block.old (P.pieces printer.now) schedule.now

@@ -7,16 +7,16 @@ ghost use Rattle.trace_engine.specs.Stands.{actor_in, alone_text, at_text, count
 
 use crate::lines::{push_contents, push_short, push_word};
 use history::Reply;
-use line_table::Line as At;
+use line_table::Line;
 use schedule_text::Event;
 use step_machine::{WordName, WorldOf};
-use text_io::{LINE_ROOM, Line};
+use text_io::{LINE_ROOM, LineBuffer};
 
 /// How many steps alone are tried for the end of a call.
 const MOST_STEPS: u32 = 64;
 
 /// The line before which an actor that is there stands.
-pub fn line_of<const B: u32>(world: &WorldOf<B>, actor: u16) -> Option<At>
+pub fn line_of<const B: u32>(world: &WorldOf<B>, actor: u16) -> Option<Line>
     requires { IsSome (actor_of world.now actor) }
     ensures { result ≡ line_of (actor_of world.now actor) }
 {
@@ -24,7 +24,7 @@ pub fn line_of<const B: u32>(world: &WorldOf<B>, actor: u16) -> Option<At>
 }
 
 /// Puts the name of a line, if there is one, at the end of a text.
-pub fn push_at(line: &mut Line, at: Option<At>)
+pub fn push_at(line: &mut LineBuffer, at: Option<Line>)
     requires { length line.old + 3 ≤ LINE_ROOM }
     ensures text { line.new ≡ line.old ++ at_text at }
     ensures short { length line.new ≤ length line.old + 3 }
@@ -35,11 +35,11 @@ pub fn push_at(line: &mut Line, at: Option<At>)
 }
 
 /// Where an actor that is there stands, whose next step touches this word.
-fn touching_line<const B: u32>(world: &WorldOf<B>, actor: u16, word: WordName) -> Line
+fn touching_line<const B: u32>(world: &WorldOf<B>, actor: u16, word: WordName) -> LineBuffer
     requires { IsSome (actor_of world.now actor) }
     ensures { result ≡ stand_text B world.now actor (Some (word_named word)) }
 {
-    let mut line = Line::new();
+    let mut line = LineBuffer::new();
     push_short(&mut line, u32::from(actor));
     line.push(b" at ");
     push_at(&mut line, line_of(world, actor));
@@ -52,12 +52,12 @@ fn touching_line<const B: u32>(world: &WorldOf<B>, actor: u16, word: WordName) -
 }
 
 /// Where an actor stands, or nothing where it has no call.
-pub(crate) fn stand_line<const B: u32>(world: &WorldOf<B>, actor: u16) -> Line
+pub(crate) fn stand_line<const B: u32>(world: &WorldOf<B>, actor: u16) -> LineBuffer
     ensures { result ≡ standing_text B world.now actor }
 {
     match world.touches(actor) {
         Some(word) => touching_line(world, actor, word),
-        None => Line::new(),
+        None => LineBuffer::new(),
     }
 }
 
@@ -85,7 +85,7 @@ fn steps_alone<const B: u32>(world: &mut WorldOf<B>, actor: u16, most: u32) -> O
 }
 
 /// Puts a number of steps, if there is one, at the end of a line.
-fn push_count(line: &mut Line, count: Option<u32>)
+fn push_count(line: &mut LineBuffer, count: Option<u32>)
     requires { length line.old + 10 ≤ LINE_ROOM }
     ensures text { line.new ≡ line.old ++ count_text count }
     ensures short { length line.new ≤ length line.old + 10 }
@@ -97,12 +97,12 @@ fn push_count(line: &mut Line, count: Option<u32>)
 }
 
 /// How soon the call of an actor ends alone, or nothing where it has none.
-pub(crate) fn alone_line<const B: u32>(world: &mut WorldOf<B>, actor: u16) -> Line
+pub(crate) fn alone_line<const B: u32>(world: &mut WorldOf<B>, actor: u16) -> LineBuffer
     requires { world.old.steps + 64 < 2 ^ 64 }
     ensures { result ≡ alone_text actor (touched_by world.old actor (actor_of world.old actor))
         (steps_alone 64 actor world.old) }
 {
-    let mut line = Line::new();
+    let mut line = LineBuffer::new();
     if world.touches(actor).is_some() {
         push_short(&mut line, u32::from(actor));
         line.push(b" alone ");

@@ -4,10 +4,10 @@ ghost use Rattle.run_engine.specs.Runs.{EventsLead, opening_of};
 ghost use Rattle.schedule_text.specs.Texts.{IsInRange};
 ghost use Rattle.step_machine.specs.Machine.{World};
 ghost use Rattle.trace_engine.specs.Answers.{Tells};
-ghost use Rattle.trace_engine.specs.Extents.{IsCountOf};
+ghost use Rattle.trace_engine.specs.Extents.{IsExtentOf};
 ghost use Rattle.trace_engine.specs.TracesWritten.{due_text};
 
-use crate::counts::Counted;
+use crate::counts::RunExtent;
 use crate::printers::RunPrinter;
 use crate::lines::{header_lines, push_move};
 use crate::runs::print_run;
@@ -16,7 +16,7 @@ use history::Refusal;
 use schedule_text::{Event, Schedule};
 use std::alloc::Global;
 use step_machine::{Move, WorldOf};
-use text_io::{Block, Line, Sink};
+use text_io::{Block, LineBuffer, Sink};
 
 /// A trace whose header tells so many steps.
 #[derive(Drop)]
@@ -48,16 +48,16 @@ impl<const B: u32> RunPrinter<B> for Trace {
         block: &mut Block,
         writer: &mut W,
     ) -> Result<(), Refusal> {
-        let mut line = Line::new();
+        let mut line = LineBuffer::new();
         push_move(&mut line, world, one)?;
         block.put(writer, line.as_slice())
     }
 
-    fn stand_line(&self, world: &WorldOf<B>, actor: u16) -> Line {
+    fn stand_line(&self, world: &WorldOf<B>, actor: u16) -> LineBuffer {
         stand_line(world, actor)
     }
 
-    fn last_line(&self, world: &mut WorldOf<B>, event: Event) -> Line {
+    fn last_line(&self, world: &mut WorldOf<B>, event: Event) -> LineBuffer {
         alone_line(world, actor_in(event))
     }
 }
@@ -67,12 +67,12 @@ impl<const B: u32> RunPrinter<B> for Trace {
 pub(crate) fn write_trace<const B: u32, W: Sink>(
     alloc: Global,
     schedule: &Schedule,
-    counted: &Counted,
+    counted: &RunExtent,
     writer: &mut W,
 ) -> Result<(), Refusal>
     requires range { IsInRange schedule.now }
     requires bits { schedule.now.bits ≡ B }
-    requires count { IsCountOf schedule.now counted.now }
+    requires count { IsExtentOf schedule.now counted.now }
     ensures { (w : World) → EventsLead (opening_of schedule.now)
         (take counted.now.made schedule.now.events) w → counted.now.steps ≡ w.steps
         → Tells (W.state writer.old) (W.state writer.new) (due_text schedule.now counted.now.made w) []

@@ -24,15 +24,15 @@ use Rattle.node_arena.proofs.Noting.{IsSilent}
 use Rattle.node_arena.proofs.Known.{empty_before}
 use Rattle.node_arena.proofs.Paths.{then_shut_empty, shut_empty_on, walk_then, then_act, act_then, then_stored, then_slots, quiet_slots, event, walk_on, pass_on, act_on, stopped_at}
 use Rattle.node_arena.specs.Machine.{value_of}
-use Rattle.arena_lines.specs.declared.outcomes.Outcome.{Outcome}
-use Rattle.arena_lines.specs.declared.outcomes.Outcome.TheVariants.{Goes, Ends}
+use Rattle.arena_lines.specs.declared.outcomes.RowOutcome.{RowOutcome}
+use Rattle.arena_lines.specs.declared.outcomes.RowOutcome.TheVariants.{Goes, Ends}
 use Rattle.arena_lines.specs.declared.outcomes.Reply.{Reply}
 use Rattle.arena_lines.specs.declared.outcomes.Reply.TheVariants.{Value as IsValue, Empty as IsEmpty, Refused as IsRefused}
 use Rattle.two_lock.specs.Pops.{Running, told_by, unlocked_as, CallIsAt, Follows, Fronts}
 use Rattle.arena_lines.proofs.Registers.{same_registers}
 use Rattle.two_lock.proofs.PopStands.{stands_next}
 
-line_or : Line → Outcome Running → Line
+line_or : Line → RowOutcome Running → Line
 line_or d (Goes l a) = l
 line_or d (Ends reply) = d
 
@@ -96,7 +96,7 @@ to_b6_value r s t l a b h f = subst (λ k. CallIsAt r t continues k b) (same_lin
     (record a { node = a.head.node; mark = a.next.count; due = Some (IsValue a.val) }) f.leads_to) (stands_next r s t B5 l a b h f tt)
 
 -- the last line, B6
-module _ {T : Type 0} (r : Arena) (s t : Seat T) (a : Running) (out : Outcome Running) (h : CallIsAt r s continues B6 a)
+module _ {T : Type 0} (r : Arena) (s t : Seat T) (a : Running) (out : RowOutcome Running) (h : CallIsAt r s continues B6 a)
     (f : Follows r s t continues B6 a out) (due : Option Reply) (is : a.due ≡ due) where
   abbrev pub last : Event
   last = event r s t continues B6 f.found f.did
@@ -123,7 +123,7 @@ module _ {T : Type 0} (r : Arena) (s t : Seat T) (a : Running) (out : Outcome Ru
   silent_due k = subst IsSilent (sym told_of) k
 
 -- the queue was found empty, or shut and empty
-pub saw_empty : {T : Type 0} (r : Arena) (s u t x : Seat T) (a b c : Running) (l k : Line) (out : Outcome Running) → CallIsAt r s continues B2 a
+pub saw_empty : {T : Type 0} (r : Arena) (s u t x : Seat T) (a b c : Running) (l k : Line) (out : RowOutcome Running) → CallIsAt r s continues B2 a
     → Follows r s u continues B2 a (Goes l b) → Follows r u t continues B3 b (Goes k c) → k ≡ B6 → Follows r t x continues B6 c out → Fronts r s x out
 saw_empty r s u t x a b c l k out h f2 f3 is f6 = ⊎_elim none shut (found_end r u t k b c f3 is)
   where
@@ -212,7 +212,7 @@ module _ {T : Type 0} (r : Arena) (s u t v : Seat T) (a b c d : Running) (l k j 
   look_stored = then_stored s t v (then_stored s u t f2.did.stored f3.did.stored) f4.did.stored
 
   -- Head was found worn out
-  pub saw_worn : (x : Seat T) (out : Outcome Running) → j ≡ B6 → Follows r v x continues B6 d out → Fronts r s x out
+  pub saw_worn : (x : Seat T) (out : RowOutcome Running) → j ≡ B6 → Follows r v x continues B6 d out → Fronts r s x out
   saw_worn x out is f6 =
       let due : d.due ≡ Some (IsRefused (WornOut OfHead)) = found_worn r t v j c d f4 is in
       let at : CallIsAt r v continues B6 d = to_b6_worn r t v j c d at_b4 f4 is in
@@ -235,7 +235,7 @@ module _ {T : Type 0} (r : Arena) (s u t v : Seat T) (a b c d : Running) (l k j 
       }
 
   -- a value was taken
-  pub took : (y x : Seat T) (e : Running) (i : Line) (out : Outcome Running) → (j ≡ B6 → ⊥) → Follows r v y continues B5 d (Goes i e) → Follows r y x continues B6 e out → Fronts r s x out
+  pub took : (y x : Seat T) (e : Running) (i : Line) (out : RowOutcome Running) → (j ≡ B6 → ⊥) → Follows r v y continues B5 d (Goes i e) → Follows r y x continues B6 e out → Fronts r s x out
   took y x e i out free f5 f6 =
       let before : CallIsAt r v continues B5 d = to_b5 r t v j c d at_b4 f4 free in
       let e_is : e ≡ record d { node = d.head.node; mark = d.next.count; due = Some (IsValue d.val) } = same_registers i B6 e _ f5.leads_to in

@@ -1,11 +1,11 @@
 -- Outcomes that are the same go on at the same line.
 use Rattle.std.proofs.Common.{◌≡◌, ap}
 use Rattle.line_table.specs.declared.lines.Line.{Line}
-use Rattle.arena_lines.specs.declared.outcomes.Outcome.{Outcome}
-use Rattle.arena_lines.specs.declared.outcomes.Outcome.TheVariants.{Goes, Ends}
+use Rattle.arena_lines.specs.declared.outcomes.RowOutcome.{RowOutcome}
+use Rattle.arena_lines.specs.declared.outcomes.RowOutcome.TheVariants.{Goes, Ends}
 use Rattle.two_lock.specs.Pushes.{Running}
 
-line_or : Line → Outcome Running → Line
+line_or : Line → RowOutcome Running → Line
 line_or d (Goes l a) = l
 line_or d (Ends reply) = d
 

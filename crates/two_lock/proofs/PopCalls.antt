@@ -22,8 +22,8 @@ use Rattle.node_arena.proofs.Paths.{no_walk, walk_then, then_stored, no_slots, t
 use Rattle.node_arena.proofs.Paths.{failed_behind, kept_seat, event, walk_on, to_is, failed_last}
 use Rattle.node_arena.proofs.Loads.{kept_slots}
 use Rattle.two_lock.specs.Values.{IsTwoLock}
-use Rattle.arena_lines.specs.declared.outcomes.Outcome.{Outcome}
-use Rattle.arena_lines.specs.declared.outcomes.Outcome.TheVariants.{Goes, Ends}
+use Rattle.arena_lines.specs.declared.outcomes.RowOutcome.{RowOutcome}
+use Rattle.arena_lines.specs.declared.outcomes.RowOutcome.TheVariants.{Goes, Ends}
 use Rattle.arena_lines.specs.declared.outcomes.Reply.{Reply}
 use Rattle.arena_lines.specs.declared.outcomes.Reply.TheVariants.{Done as IsDone, Value as IsValue, Empty as IsEmpty, Refused as IsRefused}
 use Rattle.two_lock.specs.Pops.{Running, popping, has_lock, Follows, Fronts, Trying}
@@ -50,7 +50,7 @@ pops_out r s h none two =
     }
 
 -- a try of the lock, which got it or failed
-module _ {T : Type 0} (r : Arena) (s t u : Seat T) (n : ℕ) (g : Trying r s t n) (a : Running) (out : Outcome Running) (f : Follows r t u (popping n) B1 a out) where
+module _ {T : Type 0} (r : Arena) (s t u : Seat T) (n : ℕ) (g : Trying r s t n) (a : Running) (out : RowOutcome Running) (f : Follows r t u (popping n) B1 a out) where
   abbrev try : Event
   try = event r t u (popping n) B1 f.found f.did
 

@@ -7,7 +7,7 @@ use Rattle.history.specs.declared.operations.Reply.TheVariants as reply
 use Rattle.history.specs.declared.operations.Taken.{Taken}
 use Rattle.history.specs.declared.refusals.Refusal.TheVariants.{WornOut, Closed}
 use Rattle.history.specs.declared.refusals.WornWord.TheVariants.{Head as OfHead}
-use Rattle.node_arena.specs.Machine.{Actor, Outcome as MachineOutcome, goes}
+use Rattle.node_arena.specs.Machine.{Actor, Outcome, goes}
 use Rattle.node_arena.specs.Traces.{outcome_at}
 use Rattle.node_arena.specs.Prologues.{Prologue, continues, after_prologue}
 use Rattle.node_arena.specs.Arenas.{Arena}
@@ -15,15 +15,15 @@ use Rattle.node_arena.specs.declared.seats.Seat.{Seat}
 use Rattle.node_arena.specs.Seats.{IsBefore, DidStep, view}
 use Rattle.node_arena.proofs.Paths.{settled, goes_on}
 use Rattle.node_arena.specs.Machine.{value_of}
-use Rattle.arena_lines.specs.declared.outcomes.Outcome.{Outcome}
-use Rattle.arena_lines.specs.declared.outcomes.Outcome.TheVariants.{Goes, Ends}
+use Rattle.arena_lines.specs.declared.outcomes.RowOutcome.{RowOutcome}
+use Rattle.arena_lines.specs.declared.outcomes.RowOutcome.TheVariants.{Goes, Ends}
 use Rattle.arena_lines.specs.declared.outcomes.Reply.{Reply}
 use Rattle.arena_lines.specs.declared.outcomes.Reply.TheVariants.{Value as IsValue, Empty as IsEmpty, Refused as IsRefused}
 use Rattle.two_lock.specs.Pops.{Running, told_by, KnowsDue, AgreesAt, CallIsAt, Follows, follow}
 use Rattle.two_lock.proofs.PopSteps.{ref_b2, ref_b3, value_b4}
 
 -- where an outcome goes on, the seat stands there
-abbrev pub StandsAt : {T : Type 0} → Arena → Seat T → Outcome Running → Type 0
+abbrev pub StandsAt : {T : Type 0} → Arena → Seat T → RowOutcome Running → Type 0
 StandsAt r t (Goes l a) = CallIsAt r t continues l a
 StandsAt r t (Ends reply) = Unit {0}
 
@@ -39,16 +39,16 @@ module _ {T : Type 0} (r : Arena) (s t : Seat T) (prologue : Prologue) (n : ℕ)
   b = after_prologue r.plan.setup (view s).number prologue (view s).actor
 
   -- what the machine makes of the step
-  abbrev out_at : (l : Line) → DidStep r s t prologue l n → MachineOutcome
+  abbrev out_at : (l : Line) → DidStep r s t prologue l n → Outcome
   out_at l d = outcome_at r.plan.setup d.told.was (view s).number b l
 
   -- a step with this outcome leads on to a line
-  leads : (l : Line) (d : DidStep r s t prologue l n) (o : MachineOutcome) → out_at l d ≡ o → (k : Line) (c : Running) → o.actor.line ≡ Some k
+  leads : (l : Line) (d : DidStep r s t prologue l n) (o : Outcome) → out_at l d ≡ o → (k : Line) (c : Running) → o.actor.line ≡ Some k
       → ((x : Option ℕ) → AgreesAt k (record o.actor { entry = x }) c) → CallIsAt r t continues k c
   leads l d o e k c line knows = record { before = goes_on r s t prologue l n d o e k line; knows = settled r s t prologue l n d o e (λ x. AgreesAt k x c) knows }
 
   module _ (h : CallIsAt r s prologue B1 a) (d : DidStep r s t prologue B1 n) where
-    abbrev first : Bool → MachineOutcome
+    abbrev first : Bool → Outcome
     first p = if p then goes B2 b else goes B1 b
 
     went : (p : Bool) → nat_eq n 0 ≡ p → out_at B1 d ≡ first p
@@ -70,7 +70,7 @@ module _ {T : Type 0} (r : Arena) (s t : Seat T) (prologue : Prologue) (n : ℕ)
   pub after_b3 : CallIsAt r s prologue B3 a → (d : DidStep r s t prologue B3 n) → StandsAt r t (follow r.plan.setup a B3 n)
   after_b3 h d = go (is_null (ref_of r.plan.setup.bits n)) (is_shut r.plan.setup.bits (ref_of r.plan.setup.bits n)) refl refl
     where
-      third : Ref → (p q : Bool) → MachineOutcome
+      third : Ref → (p q : Bool) → Outcome
       third next p q =
           let x = record b { next = next; empty_at = d.told.was.world.steps + 1 } in
           if p then goes B6 (record x { due = Some reply.Empty }) else if q then goes B6 (record x { due = Some (reply.Refused Closed) }) else goes B4 x
@@ -91,7 +91,7 @@ module _ {T : Type 0} (r : Arena) (s t : Seat T) (prologue : Prologue) (n : ℕ)
   pub after_b4 : CallIsAt r s prologue B4 a → (d : DidStep r s t prologue B4 n) → StandsAt r t (follow r.plan.setup a B4 n)
   after_b4 h d = go (nat_eq a.head.count r.plan.setup.limit) refl
     where
-      fourth : Taken → Bool → MachineOutcome
+      fourth : Taken → Bool → Outcome
       fourth v p = let x = record b { val = v } in if p then goes B6 (record x { due = Some (reply.Refused (WornOut OfHead)) }) else goes B5 x
 
       went : (p : Bool) → nat_eq a.head.count r.plan.setup.limit ≡ p → out_at B4 d ≡ fourth (value_of n) p

@@ -3,7 +3,7 @@ use Rattle.std.proofs.Common.{◌≡◌, ℕ, ◌+◌, Bool, true, false, nat_eq
 use Rattle.counted_ref.specs.Ref.{ref_of, null, same_ref}
 use Rattle.line_table.specs.declared.lines.Line.{Line}
 use Rattle.line_table.specs.declared.lines.Line.TheVariants.{A1, A2, A3, A4, A5, A6, A7}
-use Rattle.node_arena.specs.Machine.{Actor, Outcome as MachineOutcome, node_at, goes, empties_hand, left_with_node}
+use Rattle.node_arena.specs.Machine.{Actor, Outcome, node_at, goes, empties_hand, left_with_node}
 use Rattle.node_arena.specs.Traces.{outcome_at, entries_at}
 use Rattle.history.specs.declared.operations.Entry.TheVariants.{Push}
 use Rattle.history.specs.declared.operations.Reply.TheVariants as reply
@@ -23,11 +23,11 @@ module _ {T : Type 0} (r : Arena) (s t : Seat T) (prologue : Prologue) (n : ℕ)
   b = after_prologue r.plan.setup (view s).number prologue (view s).actor
 
   -- what the machine makes of the step
-  abbrev out_at : (l : Line) → DidStep r s t prologue l n → MachineOutcome
+  abbrev out_at : (l : Line) → DidStep r s t prologue l n → Outcome
   out_at l d = outcome_at r.plan.setup d.told.was (view s).number b l
 
   -- a step with this outcome leads on to a line
-  leads : (l : Line) (d : DidStep r s t prologue l n) (o : MachineOutcome) → out_at l d ≡ o → (k : Line) (c : Running) → o.actor.line ≡ Some k
+  leads : (l : Line) (d : DidStep r s t prologue l n) (o : Outcome) → out_at l d ≡ o → (k : Line) (c : Running) → o.actor.line ≡ Some k
       → HasNode o.actor c → ((x : Option ℕ) → AgreesAt k (record o.actor { entry = x }) c) → CallIsAt r t continues k c
   leads l d o e k c line hand knows =
       record {
@@ -43,7 +43,7 @@ module _ {T : Type 0} (r : Arena) (s t : Seat T) (prologue : Prologue) (n : ℕ)
   after_a2 h d = leads A2 d (out_at A2 d) refl A3 a refl h.hand (λ x. tt)
 
   module _ (h : CallIsAt r s prologue A3 a) (d : DidStep r s t prologue A3 n) where
-    abbrev third : Bool → MachineOutcome
+    abbrev third : Bool → Outcome
     third p = if p then goes A4 b else goes A3 b
 
     went : (p : Bool) → nat_eq n 0 ≡ p → out_at A3 d ≡ third p
@@ -59,7 +59,7 @@ module _ {T : Type 0} (r : Arena) (s t : Seat T) (prologue : Prologue) (n : ℕ)
   after_a4 h d = leads A4 d (out_at A4 d) refl A5 (record a { tail = ref_of r.plan.setup.bits n }) refl h.hand (λ x. sym (ref_a4 r s t prologue n d))
 
   module _ (h : CallIsAt r s prologue A5 a) (d : DidStep r s t prologue A5 n) where
-    abbrev fifth : Bool → MachineOutcome
+    abbrev fifth : Bool → Outcome
     fifth p =
         if p then record (goes A6 (empties_hand (record b { due = Some reply.Done }))) { at = Some (d.told.was.world.steps + 1) } else goes A7 (record b { due = Some (reply.Refused Closed) })
 

@@ -25,8 +25,8 @@ use Rattle.node_arena.proofs.Paths.{then_slots, quiet_slots, added_is, added_pat
 use Rattle.node_arena.proofs.Paths.{walk_on, pass_on, act_on, to_is, failed_last}
 use Rattle.two_lock.specs.Values.{IsTwoLock}
 use Rattle.node_arena.specs.Machine.{value_of}
-use Rattle.arena_lines.specs.declared.outcomes.Outcome.{Outcome}
-use Rattle.arena_lines.specs.declared.outcomes.Outcome.TheVariants.{Goes}
+use Rattle.arena_lines.specs.declared.outcomes.RowOutcome.{RowOutcome}
+use Rattle.arena_lines.specs.declared.outcomes.RowOutcome.TheVariants.{Goes}
 use Rattle.arena_lines.specs.declared.outcomes.Reply.TheVariants.{Done, Refused as IsRefused}
 use Rattle.two_lock.specs.Pushes.{Running, registers_of, in_hand, told_by, has_lock, CallIsAt, Follows, Links, Trying}
 use Rattle.two_lock.specs.Worn.{push_worn}
@@ -98,7 +98,7 @@ first_try r s u t prologue h val spent l k a b c is st f g =
     }
 
 -- a try of the lock that got it, and one that failed
-module _ {T : Type 0} (r : Arena) (t u : Seat T) (a : Running) (out : Outcome Running) (h : CallIsAt r t continues A3 a) (f : Follows r t u continues A3 a out) where
+module _ {T : Type 0} (r : Arena) (t u : Seat T) (a : Running) (out : RowOutcome Running) (h : CallIsAt r t continues A3 a) (f : Follows r t u continues A3 a out) where
   abbrev try : Event
   try = event r t u continues A3 f.found f.did
 
@@ -121,7 +121,7 @@ module _ {T : Type 0} (r : Arena) (t u : Seat T) (a : Running) (out : Outcome Ru
   lost e = lost_a3 r t u continues f.found a h f.did (found_is false e)
 
 -- a turn failed
-pub next_try : {T : Type 0} (r : Arena) (s t u : Seat T) (h : Held) (val spent n : ℕ) (a : Running) (out : Outcome Running) → a ≡ registers_of h val
+pub next_try : {T : Type 0} (r : Arena) (s t u : Seat T) (h : Held) (val spent n : ℕ) (a : Running) (out : RowOutcome Running) → a ≡ registers_of h val
     → Trying r s t h val spent n → Follows r t u continues A3 a out → has_lock out ≡ false → Trying r s u h val spent (n + 1)
 next_try r s t u h val spent n a out is g follows e =
     let f : Follows r t u continues A3 (registers_of h val) out = subst (λ x. Follows r t u continues A3 x out) is follows in
@@ -144,7 +144,7 @@ pub to_a5 : {T : Type 0} (r : Arena) (s u : Seat T) (a b : Running) (l : Line) �
 to_a5 r s u a b l h f = subst (CallIsAt r u continues A5) (sym (same_registers l A5 b (record a { tail = ref_of r.plan.setup.bits f.found }) f.leads_to)) (after_a4 r s u continues f.found a h f.did)
 
 -- before A4 the slot of the body is still out with the seat
-pub loaded_at_a4 : {T : Type 0} (r : Arena) (s t u : Seat T) (h : Held) (val : ℕ) (a b : Running) (out : Outcome Running) (from body spent n : ℕ)
+pub loaded_at_a4 : {T : Type 0} (r : Arena) (s t u : Seat T) (h : Held) (val : ℕ) (a b : Running) (out : RowOutcome Running) (from body spent n : ℕ)
     → b ≡ registers_of h val → Trying r s t h val spent n → Follows r t u continues A3 a out → body < 2 ^ 48 → val ≡ from * 2 ^ 48 + body
     → IsLoaded r body s → IsLoaded r (value_of b.val).body u
 loaded_at_a4 r s t u h val a b out from body spent n same g f small word loaded =
@@ -207,7 +207,7 @@ module _ {T : Type 0} (r : Arena) (s u t : Seat T) (a b c : Running) (j k : Line
   first = walk_on r s u continues A4 f.found f.did refl tt
 
   -- the node is linked: A4 to A7
-  pub links : (x y : Seat T) (d : Running) (l : Line) (last : Outcome Running) → (k ≡ A7 → ⊥) → Follows r t x continues A6 c (Goes l d) → Follows r x y continues A7 d last → Links r s y a (Ok tt)
+  pub links : (x y : Seat T) (d : Running) (l : Line) (last : RowOutcome Running) → (k ≡ A7 → ⊥) → Follows r t x continues A6 c (Goes l d) → Follows r x y continues A7 d last → Links r s y a (Ok tt)
   links x y d l last other m o =
       let won = to_a6 r u t b c k at_a5 g other in
       let at_a7 : CallIsAt r x continues A7 d = to_a7 r t x c d l won.0 m in
@@ -243,7 +243,7 @@ module _ {T : Type 0} (r : Arena) (s u t : Seat T) (a b c : Running) (j k : Line
       }
 
   -- the queue was found shut: A4, A5 and A7
-  pub finds_shut : (y : Seat T) (last : Outcome Running) → k ≡ A7 → Follows r t y continues A7 c last → Links r s y a (Err Closed)
+  pub finds_shut : (y : Seat T) (last : RowOutcome Running) → k ≡ A7 → Follows r t y continues A7 c last → Links r s y a (Err Closed)
   finds_shut y last is o =
       let lost = to_shut r u t b c k at_a5 g is in
       let over = shut_a7 r t y continues o.found c lost.0 o.did lost.1 in
@@ -267,7 +267,7 @@ module _ {T : Type 0} (r : Arena) (s u t : Seat T) (a b c : Running) (j k : Line
       }
 
 -- the body was pushed
-pub puts_it : {T : Type 0} (r : Arena) (s t u x : Seat T) (h : Held) (val : ℕ) (a b : Running) (out : Outcome Running) (from body spent n turns : ℕ)
+pub puts_it : {T : Type 0} (r : Arena) (s t u x : Seat T) (h : Held) (val : ℕ) (a b : Running) (out : RowOutcome Running) (from body spent n turns : ℕ)
     → a ≡ registers_of h val → b ≡ registers_of h val → Trying r s t h val spent n → Follows r t u continues A3 a out → has_lock out ≡ true
     → Links r u x b (Ok tt) → body < 2 ^ 48 → val ≡ from * 2 ^ 48 + body → n < turns
     → PushesWithNode push_worn r s (keeping x None n) h.node body spent turns (Ok tt)
@@ -299,7 +299,7 @@ puts_it r s t u x h val a b out from body spent n turns is same g follows won li
     }
 
 -- the queue was found shut
-pub finds_it_shut : {T : Type 0} (r : Arena) (s t u x : Seat T) (h : Held) (val : ℕ) (a b : Running) (out : Outcome Running) (refusal : Refusal)
+pub finds_it_shut : {T : Type 0} (r : Arena) (s t u x : Seat T) (h : Held) (val : ℕ) (a b : Running) (out : RowOutcome Running) (refusal : Refusal)
     (body spent n turns : ℕ) → a ≡ registers_of h val → b ≡ registers_of h val → Trying r s t h val spent n → Follows r t u continues A3 a out
     → has_lock out ≡ true → Links r u x b (Err refusal) → PushesWithNode push_worn r s (keeping x (Some h) n) h.node body spent turns (Err refusal)
 finds_it_shut r s t u x h val a b out refusal body spent n turns is same g follows won linked =

@@ -8,7 +8,7 @@ use Rattle.history.specs.declared.operations.Entry.TheVariants.{Shut}
 use Rattle.history.specs.declared.operations.Reply as replies
 use Rattle.history.specs.declared.operations.Reply.TheVariants as reply
 use Rattle.history.specs.declared.refusals.Refusal.TheVariants.{Closed}
-use Rattle.node_arena.specs.Machine.{Actor, Outcome as MachineOutcome, WordTail, WordNext, node_at, goes, left}
+use Rattle.node_arena.specs.Machine.{Actor, Outcome, WordTail, WordNext, node_at, goes, left}
 use Rattle.node_arena.specs.Traces.{outcome_at, entries_at}
 use Rattle.node_arena.specs.Prologues.{Prologue, after_prologue, continues}
 use Rattle.node_arena.specs.Arenas.{Arena}
@@ -26,7 +26,7 @@ module _ {T : Type 0} (r : Arena) (s t : Seat T) (prologue : Prologue) (n : ℕ)
   b = after_prologue r.plan.setup (view s).number prologue (view s).actor
 
   -- what the machine makes of the step
-  abbrev out_at : (l : Line) → DidStep r s t prologue l n → MachineOutcome
+  abbrev out_at : (l : Line) → DidStep r s t prologue l n → Outcome
   out_at l d = outcome_at r.plan.setup d.told.was (view s).number b l
 
   -- a step leaves the pocket as it is
@@ -34,7 +34,7 @@ module _ {T : Type 0} (r : Arena) (s t : Seat T) (prologue : Prologue) (n : ℕ)
   kept l h d = h.pocket ∙ sym d.stored.pocket
 
   -- a step with this outcome leads on to a line
-  leads : (l : Line) → CallIsAt r s prologue l a → (d : DidStep r s t prologue l n) (o : MachineOutcome) → out_at l d ≡ o → (k : Line) (c : Running)
+  leads : (l : Line) → CallIsAt r s prologue l a → (d : DidStep r s t prologue l n) (o : Outcome) → out_at l d ≡ o → (k : Line) (c : Running)
       → o.actor.line ≡ Some k → o.actor.pocket ≡ b.pocket → ((x : Option ℕ) → AgreesAt k (record o.actor { entry = x }) c)
       → CallIsAt r t continues k c
   leads l h d o e k c line pocket knows =
@@ -45,7 +45,7 @@ module _ {T : Type 0} (r : Arena) (s t : Seat T) (prologue : Prologue) (n : ℕ)
       }
 
   module _ (h : CallIsAt r s prologue S6 a) (d : DidStep r s t prologue S6 n) where
-    abbrev sixth : Bool → MachineOutcome
+    abbrev sixth : Bool → Outcome
     sixth p = if p then goes S7 b else goes S6 b
 
     went : (p : Bool) → nat_eq n 0 ≡ p → out_at S6 d ≡ sixth p
@@ -63,7 +63,7 @@ module _ {T : Type 0} (r : Arena) (s t : Seat T) (prologue : Prologue) (n : ℕ)
       (λ x. sym (read_back r.plan.setup.bits d.told.sized.split d.told.was.world.shared.tail n (was_fits r.plan prologue S7 n (view s) (view t) d.told WordTail) d.told.found))
 
   module _ (h : CallIsAt r s prologue S8 a) (d : DidStep r s t prologue S8 n) where
-    abbrev eighth : Bool → MachineOutcome
+    abbrev eighth : Bool → Outcome
     eighth p =
         if p then record (goes S9 (record b { due = Some reply.Done })) { at = Some (d.told.was.world.steps + 1) } else goes S9 (record b { due = Some (reply.Refused Closed) })
 
@@ -90,7 +90,7 @@ module _ {T : Type 0} (r : Arena) (s t : Seat T) (prologue : Prologue) (n : ℕ)
 
   -- the lock was let go, with a reply that `left` gives for what is due
   module _ (h : CallIsAt r s prologue S9 a) (d : DidStep r s t prologue S9 n) where
-    abbrev ninth : Option replies.Reply → MachineOutcome
+    abbrev ninth : Option replies.Reply → Outcome
     ninth due = left (d.told.was.world.steps + 1) due b
 
     ends : (due : Option replies.Reply) → b.due ≡ due → (ninth due).actor.line ≡ None → (ninth due).actor.pocket ≡ b.pocket → ((view t).actor.line ≡ None) × KeepsPocket t (view t).actor

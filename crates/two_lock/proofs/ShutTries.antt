@@ -21,11 +21,11 @@ use Rattle.node_arena.proofs.Paths.{no_walk, walk_then, then_act, act_then, then
 use Rattle.node_arena.proofs.Paths.{added_path, ends_failed, failed-append, failed_behind, last_held, stopped_behind, event, walk_on, pass_on, act_on}
 use Rattle.node_arena.proofs.Paths.{shut_on, stopped_at, to_is, failed_last}
 use Rattle.node_arena.proofs.Loads.{shut_slots}
-use Rattle.arena_lines.specs.declared.outcomes.Outcome.{Outcome}
-use Rattle.arena_lines.specs.declared.outcomes.Outcome.TheVariants.{Goes}
+use Rattle.arena_lines.specs.declared.outcomes.RowOutcome.{RowOutcome}
+use Rattle.arena_lines.specs.declared.outcomes.RowOutcome.TheVariants.{Goes}
 use Rattle.arena_lines.specs.declared.outcomes.Reply.TheVariants.{Done, Refused as IsRefused}
 use Rattle.arena_lines.proofs.Registers.{same_registers}
-use Rattle.arena_queue.specs.Answers.{Shuts, ShutRefused, FailsFewer, AnswersShut}
+use Rattle.arena_queue.specs.Answers.{Shuts, ShutCaused, FailsFewer, AnswersShut}
 use Rattle.two_lock.specs.Values.{IsTwoLock}
 use Rattle.two_lock.specs.Pushes.{told_by}
 use Rattle.two_lock.specs.Shuts.{Running, shutting, answer_of, has_lock, KeepsPocket, CallIsAt, Follows, LetsGo, ShutOr, PutsEnd, Trying}
@@ -49,7 +49,7 @@ module _ {T : Type 0} (r : Arena) (s t : Seat T) (l : Line) (a b : Running) (h :
     pub due : b.due ≡ Some (IsRefused Closed)
     pub adds : added_there ≡ []
 
-  abbrev eighth : Bool → Outcome Running
+  abbrev eighth : Bool → RowOutcome Running
   eighth p = if p then Goes S9 (record a { due = Some Done }) else Goes S9 (record a { due = Some (IsRefused Closed) })
 
   pub after_s8 : CallIsAt r t continues S9 b × (Put ⊎ Lost)
@@ -141,7 +141,7 @@ shuts_out r s h two =
     }
 
 -- a try of the lock, which got it or failed
-module _ {T : Type 0} (r : Arena) (s t u : Seat T) (n : ℕ) (g : Trying r s t n) (a : Running) (out : Outcome Running) (f : Follows r t u (shutting n) S6 a out) where
+module _ {T : Type 0} (r : Arena) (s t u : Seat T) (n : ℕ) (g : Trying r s t n) (a : Running) (out : RowOutcome Running) (f : Follows r t u (shutting n) S6 a out) where
   abbrev try : Event
   try = event r t u (shutting n) S6 f.found f.did
 
@@ -223,12 +223,12 @@ module _ {T : Type 0} (r : Arena) (s t u : Seat T) (n : ℕ) (g : Trying r s t n
       few_of (Ok y) h = let c : failed_turns (added s x) ≡ failed_turns es = ap failed_turns (added_path s x es (acted h).path) in omega (arith, c, all, less)
       few_of (Err refusal) h = tt
 
-      refused_by : (o : Result (Unit {0}) Refusal) → ShutOr r u x k.lines o → IfErr o (λ refusal. StopsAPush s x refusal × ShutRefused shut_worn r s x turns refusal)
+      refused_by : (o : Result (Unit {0}) Refusal) → ShutOr r u x k.lines o → IfErr o (λ refusal. StopsAPush s x refusal × ShutCaused shut_worn r s x turns refusal)
       refused_by (Ok y) h = tt
       refused_by (Err refusal) h =
           let finds = found h.finds in
           let e : added s x ≡ es = added_path s x es finds.path in
-          subst (λ y. StopsAPush s x y × ShutRefused shut_worn r s x turns y) (sym h.is) (
+          subst (λ y. StopsAPush s x y × ShutCaused shut_worn r s x turns y) (sym h.is) (
             subst (FindsShut (view s) (view x)) (sym e) finds,
             last_held r s x es _ e (stopped_behind r s u before k.lines Closed tried h.cause),
           )

@@ -22,8 +22,8 @@ use Rattle.node_arena.specs.Loads.{TakesSlot}
 use Rattle.node_arena.specs.Turns.{failed_turns}
 use Rattle.node_arena.specs.Paths.{ExtendsPath, FindsShutEmpty, Acts, FailedAt, EndedAt, IsRefusedAt}
 use Rattle.node_arena.specs.Machine.{value_of}
-use Rattle.arena_lines.specs.declared.outcomes.Outcome.{Outcome}
-use Rattle.arena_lines.specs.declared.outcomes.Outcome.TheVariants.{Goes, Ends}
+use Rattle.arena_lines.specs.declared.outcomes.RowOutcome.{RowOutcome}
+use Rattle.arena_lines.specs.declared.outcomes.RowOutcome.TheVariants.{Goes, Ends}
 use Rattle.arena_lines.specs.declared.outcomes.Reply.{Reply}
 use Rattle.arena_lines.specs.declared.outcomes.Reply.TheVariants.{Done as IsDone, Value as IsValue, Empty as IsEmpty, Refused as IsRefused}
 
@@ -42,13 +42,13 @@ popping zero = begins Deq
 popping (suc n) = continues
 
 -- where a pop goes once the lock was let go: a value's node is freed, and else the call ends
-abbrev pub unlocked_as : Option Reply → Running → Outcome Running
+abbrev pub unlocked_as : Option Reply → Running → RowOutcome Running
 unlocked_as None a = Goes F1 a
 unlocked_as (Some (IsValue word)) a = Goes F1 a
 unlocked_as (Some reply) a = Ends reply
 
 -- what a running pop makes of the number found at a line
-abbrev pub follow : Setup → Running → Line → ℕ → Outcome Running
+abbrev pub follow : Setup → Running → Line → ℕ → RowOutcome Running
 follow z a B1 n = if nat_eq n 0 then Goes B2 a else Goes B1 a
 follow z a B2 n = Goes B3 (record a { head = ref_of z.bits n })
 follow z a B3 n =
@@ -64,7 +64,7 @@ follow z a B6 n = unlocked_as a.due a
 follow z a l n = Goes l a
 
 -- whether a try of the lock got it
-abbrev pub has_lock : Outcome Running → Bool
+abbrev pub has_lock : RowOutcome Running → Bool
 has_lock (Goes B2 a) = true
 has_lock outcome = false
 
@@ -96,7 +96,7 @@ pub record CallIsAt {T : Type 0} (r : Arena) (s : Seat T) (prologue : Prologue) 
   pub knows : AgreesAt l (after_prologue r.plan.setup (view s).number prologue (view s).actor) a
 
 -- the seat made its step at a line, and the call made of the number found what the line says
-pub record Follows {T : Type 0} (r : Arena) (s t : Seat T) (prologue : Prologue) (l : Line) (a : Running) (out : Outcome Running) : Type 0 where
+pub record Follows {T : Type 0} (r : Arena) (s t : Seat T) (prologue : Prologue) (l : Line) (a : Running) (out : RowOutcome Running) : Type 0 where
   pub found : ℕ
   pub did : DidStep r s t prologue l found
   pub leads_to : out ≡ follow r.plan.setup a l found
@@ -134,19 +134,19 @@ Stops r s t es Closed = SawShut r s t es
 Stops r s t es refusal = SawWorn r s t es refusal
 
 -- what the lines under the lock come to
-abbrev pub Fronted : {T : Type 0} → Arena → Seat T → Seat T → List Event → Outcome Running → Type 0
+abbrev pub Fronted : {T : Type 0} → Arena → Seat T → Seat T → List Event → RowOutcome Running → Type 0
 Fronted r s t es (Goes l a) = Took r s t es a
 Fronted r s t es (Ends IsEmpty) = SawEmpty s t es
 Fronted r s t es (Ends (IsRefused refusal)) = Stops r s t es refusal
 Fronted r s t es (Ends reply) = ⊥
 
 -- the slot of the value that was taken came out with the seat, and else the slots that are out with it are those that were
-abbrev pub FrontMoves : {T : Type 0} → Arena → Seat T → Seat T → Outcome Running → Type 0
+abbrev pub FrontMoves : {T : Type 0} → Arena → Seat T → Seat T → RowOutcome Running → Type 0
 FrontMoves r s t (Goes l a) = TakesSlot r (value_of a.val) s t
 FrontMoves r s t (Ends reply) = KeepsSlots s t
 
 -- the lines under the lock, from B2 to B6
-pub record Fronts {T : Type 0} (r : Arena) (s t : Seat T) (out : Outcome Running) : Type 0 where
+pub record Fronts {T : Type 0} (r : Arena) (s t : Seat T) (out : RowOutcome Running) : Type 0 where
   pub seat : IsSeat r t
   pub empty : (view t).actor.pocket ≡ None
   pub stored : KeepsStored s t

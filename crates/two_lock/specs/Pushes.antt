@@ -19,8 +19,8 @@ use Rattle.arena_queue.specs.Answers.{PushMoves}
 use Rattle.node_arena.specs.Turns.{failed_turns}
 use Rattle.node_arena.specs.Paths.{ExtendsPath, FindsShut, Acts, FailedAt, EndedAt, IsRefusedAt}
 use Rattle.node_arena.specs.Machine.{value_of}
-use Rattle.arena_lines.specs.declared.outcomes.Outcome.{Outcome}
-use Rattle.arena_lines.specs.declared.outcomes.Outcome.TheVariants.{Goes, Ends}
+use Rattle.arena_lines.specs.declared.outcomes.RowOutcome.{RowOutcome}
+use Rattle.arena_lines.specs.declared.outcomes.RowOutcome.TheVariants.{Goes, Ends}
 use Rattle.arena_lines.specs.declared.outcomes.Reply.{Reply}
 use Rattle.arena_lines.specs.declared.outcomes.Reply.TheVariants.{Done, Refused as IsRefused}
 
@@ -37,7 +37,7 @@ abbrev pub registers_of : Held → ℕ → Running
 registers_of h val = record { node = h.node; mark = h.mark; val = val; tail = ref 0 0; due = None }
 
 -- where a push ends once the lock was let go: refused where that is due, else done
-abbrev pub left_as : Option Reply → Outcome Running
+abbrev pub left_as : Option Reply → RowOutcome Running
 left_as (Some (IsRefused refusal)) = Ends (IsRefused refusal)
 left_as _ = Ends Done
 
@@ -46,7 +46,7 @@ abbrev pub pushing : ℕ → Prologue
 pushing val = begins (Enq (value_of val).body)
 
 -- what a running push makes of the number found at a line
-abbrev pub follow : Setup → Running → Line → ℕ → Outcome Running
+abbrev pub follow : Setup → Running → Line → ℕ → RowOutcome Running
 follow z a A1 n = Goes A2 a
 follow z a A2 n = Goes A3 a
 follow z a A3 n = if nat_eq n 0 then Goes A4 a else Goes A3 a
@@ -58,7 +58,7 @@ follow z a A7 n = left_as a.due
 follow z a l n = Goes l a
 
 -- whether a try of the lock got it
-abbrev pub has_lock : Outcome Running → Bool
+abbrev pub has_lock : RowOutcome Running → Bool
 has_lock (Goes A4 a) = true
 has_lock outcome = false
 
@@ -85,7 +85,7 @@ pub record CallIsAt {T : Type 0} (r : Arena) (s : Seat T) (prologue : Prologue) 
   pub knows : AgreesAt l (after_prologue r.plan.setup (view s).number prologue (view s).actor) a
 
 -- the seat made its step at a line, and the call made of the number found what the line says
-pub record Follows {T : Type 0} (r : Arena) (s t : Seat T) (prologue : Prologue) (l : Line) (a : Running) (out : Outcome Running) : Type 0 where
+pub record Follows {T : Type 0} (r : Arena) (s t : Seat T) (prologue : Prologue) (l : Line) (a : Running) (out : RowOutcome Running) : Type 0 where
   pub found : ℕ
   pub did : DidStep r s t prologue l found
   pub leads_to : out ≡ follow r.plan.setup a l found

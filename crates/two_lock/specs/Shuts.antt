@@ -15,8 +15,8 @@ use Rattle.node_arena.specs.declared.seats.Seat.{Seat}
 use Rattle.node_arena.specs.Seats.{IsSeat, IsBefore, KeepsStored, KeepsSlots, DidStep, view, pocket_of}
 use Rattle.node_arena.specs.Turns.{failed_turns}
 use Rattle.node_arena.specs.Paths.{ExtendsPath, FindsShut, Acts, FailedAt, EndedAt, IsRefusedAt}
-use Rattle.arena_lines.specs.declared.outcomes.Outcome.{Outcome}
-use Rattle.arena_lines.specs.declared.outcomes.Outcome.TheVariants.{Goes}
+use Rattle.arena_lines.specs.declared.outcomes.RowOutcome.{RowOutcome}
+use Rattle.arena_lines.specs.declared.outcomes.RowOutcome.TheVariants.{Goes}
 use Rattle.arena_lines.specs.declared.outcomes.Reply.{Reply}
 use Rattle.arena_lines.specs.declared.outcomes.Reply.TheVariants.{Done, Refused as IsRefused}
 use Rattle.two_lock.specs.Pushes.{told_by}
@@ -37,7 +37,7 @@ answer_of (Some (IsRefused refusal)) = Err refusal
 answer_of _ = Ok tt
 
 -- what a running shut makes of the number found at a line that it goes on from
-abbrev pub follow : Setup → Running → Line → ℕ → Outcome Running
+abbrev pub follow : Setup → Running → Line → ℕ → RowOutcome Running
 follow z a S6 n = if nat_eq n 0 then Goes S7 a else Goes S6 a
 follow z a S7 n = Goes S8 (record a { tail = ref_of z.bits n })
 follow z a S8 n =
@@ -45,7 +45,7 @@ follow z a S8 n =
 follow z a l n = Goes l a
 
 -- whether a try of the lock got it
-abbrev pub has_lock : Outcome Running → Bool
+abbrev pub has_lock : RowOutcome Running → Bool
 has_lock (Goes S7 a) = true
 has_lock outcome = false
 
@@ -66,7 +66,7 @@ pub record CallIsAt {T : Type 0} (r : Arena) (s : Seat T) (prologue : Prologue) 
   pub knows : AgreesAt l (after_prologue r.plan.setup (view s).number prologue (view s).actor) a
 
 -- the seat made its step at a line, and the call made of the number found what the line says
-pub record Follows {T : Type 0} (r : Arena) (s t : Seat T) (prologue : Prologue) (l : Line) (a : Running) (out : Outcome Running) : Type 0 where
+pub record Follows {T : Type 0} (r : Arena) (s t : Seat T) (prologue : Prologue) (l : Line) (a : Running) (out : RowOutcome Running) : Type 0 where
   pub found : ℕ
   pub did : DidStep r s t prologue l found
   pub leads_to : out ≡ follow r.plan.setup a l found

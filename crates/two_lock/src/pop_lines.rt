@@ -7,7 +7,7 @@ ghost use Rattle.node_arena.specs.Seats.{role_of};
 ghost use Rattle.two_lock.specs.Pops.{popping, CallIsAt, Follows};
 
 use crate::pop_outcomes::{ActorOf, unlocked};
-use arena_lines::{Outcome, Reply, access, branch, effect, first_row, goes, notes, onward, row};
+use arena_lines::{RowOutcome, Reply, access, branch, effect, first_row, goes, notes, onward, row};
 use history::{Refusal, WornWord};
 use line_table::{Line, line_table};
 use node_arena::{ArenaOf, Seat, raised};
@@ -18,7 +18,7 @@ pub(crate) fn b1<const B: u32, T>(
     seat: &mut Seat<T>,
     a: ActorOf<B>,
     index: u32,
-) -> Outcome<ActorOf<B>>
+) -> RowOutcome<ActorOf<B>>
     requires stands { CallIsAt arena.now seat.old (popping index) lines.B1 a }
     ensures { Follows arena.now seat.old seat.new (popping index) lines.B1 a.entry result }
 {
@@ -33,7 +33,7 @@ pub(crate) fn b2<const B: u32, T>(
 ) -> ActorOf<B>
     requires stands { CallIsAt arena.now seat.old continues lines.B2 a }
     ensures { Follows arena.now seat.old seat.new continues lines.B2 a.entry
-        (Outcome.Goes lines.B3 result) }
+        (RowOutcome.Goes lines.B3 result) }
 {
     use onward::goes;
     line_table!(B2 (setup me a found) row (arena seat found))
@@ -46,7 +46,7 @@ pub(crate) fn b3<const B: u32, T>(
 ) -> (Line, ActorOf<B>)
     requires stands { CallIsAt arena.now seat.old continues lines.B3 a }
     ensures { Follows arena.now seat.old seat.new continues lines.B3 a.entry
-        (Outcome.Goes result.0 result.1) }
+        (RowOutcome.Goes result.0 result.1) }
 {
     use branch::goes;
     let _ = arena.setup();
@@ -60,7 +60,7 @@ pub(crate) fn b4<const B: u32, T>(
 ) -> (Line, ActorOf<B>)
     requires stands { CallIsAt arena.now seat.old continues lines.B4 a }
     ensures { Follows arena.now seat.old seat.new continues lines.B4 a.entry
-        (Outcome.Goes result.0 result.1) }
+        (RowOutcome.Goes result.0 result.1) }
 {
     use branch::goes;
     let setup = arena.setup();
@@ -75,7 +75,7 @@ pub(crate) fn b5<const B: u32, T>(
     requires stands { CallIsAt arena.now seat.old continues lines.B5 a }
     requires role { IsTrue (may_pop (role_of seat.old)) }
     ensures { Follows arena.now seat.old seat.new continues lines.B5 a.entry
-        (Outcome.Goes lines.B6 result) }
+        (RowOutcome.Goes lines.B6 result) }
 {
     use onward::goes;
     let setup = arena.setup();
@@ -86,7 +86,7 @@ pub(crate) fn b6<const B: u32, T>(
     arena: &ArenaOf<B, T>,
     seat: &mut Seat<T>,
     a: ActorOf<B>,
-) -> Outcome<ActorOf<B>>
+) -> RowOutcome<ActorOf<B>>
     requires stands { CallIsAt arena.now seat.old continues lines.B6 a }
     ensures { Follows arena.now seat.old seat.new continues lines.B6 a.entry result }
 {

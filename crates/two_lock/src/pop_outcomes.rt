@@ -2,7 +2,7 @@
 ghost use Rattle.std.specs.Prelude.{◌≡◌};
 ghost use Rattle.two_lock.specs.Pops.{has_lock, unlocked_as};
 
-use arena_lines::{Outcome, Reply};
+use arena_lines::{RowOutcome, Reply};
 use counted_ref::CountedRefOf;
 use line_table::Line;
 use node_arena::ArenaOf;
@@ -52,21 +52,21 @@ impl<const B: u32> ActorOf<B> {
     }
 }
 
-pub(crate) fn unlocked<const B: u32>(a: ActorOf<B>) -> Outcome<ActorOf<B>>
+pub(crate) fn unlocked<const B: u32>(a: ActorOf<B>) -> RowOutcome<ActorOf<B>>
     ensures { result ≡ unlocked_as a.entry.due a.entry }
 {
     match a.due {
-        None | Some(Reply::Value(_)) => Outcome::Goes(Line::F1, a),
-        Some(reply) => Outcome::Ends(reply),
+        None | Some(Reply::Value(_)) => RowOutcome::Goes(Line::F1, a),
+        Some(reply) => RowOutcome::Ends(reply),
     }
 }
 
 /// Whether a try of the lock got it.
-pub(crate) fn got_lock<const B: u32>(outcome: Outcome<ActorOf<B>>) -> bool
+pub(crate) fn got_lock<const B: u32>(outcome: RowOutcome<ActorOf<B>>) -> bool
     ensures { result ≡ has_lock outcome.entry }
 {
     match outcome {
-        Outcome::Goes(Line::B2, _) => true,
-        Outcome::Goes(..) | Outcome::Ends(_) => false,
+        RowOutcome::Goes(Line::B2, _) => true,
+        RowOutcome::Goes(..) | RowOutcome::Ends(_) => false,
     }
 }

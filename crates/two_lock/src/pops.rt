@@ -11,7 +11,7 @@ ghost use Rattle.arena_queue.specs.Answers.{PopsWithoutNode};
 
 use crate::pop_lines::{b1, b2, b3, b4, b5, b6};
 use crate::pop_outcomes::{ActorOf, blank, got_lock};
-use arena_lines::{Outcome, Reply};
+use arena_lines::{RowOutcome, Reply};
 use free_list::give_back;
 use history::{Refusal, Taken};
 use line_table::Line;
@@ -22,7 +22,7 @@ fn read_front<const B: u32, T>(
     arena: &ArenaOf<B, T>,
     seat: &mut Seat<T>,
     a: ActorOf<B>,
-) -> Outcome<ActorOf<B>>
+) -> RowOutcome<ActorOf<B>>
     requires stands { CallIsAt arena.now seat.old continues lines.B2 a }
     requires two_lock { IsTwoLock arena.now }
     requires role { IsTrue (may_pop (role_of seat.old)) }
@@ -56,7 +56,7 @@ fn pop_locked<const B: u32, T>(
     ensures { PopsWithoutNode pop_worn arena.now seat.old seat.new failed turns result }
 {
     match read_front(arena, seat, blank(arena)) {
-        Outcome::Goes(_, a) => {
+        RowOutcome::Goes(_, a) => {
             let node = a.node;
             let mark = a.mark;
             let taken = value_of(a.val);
@@ -66,7 +66,7 @@ fn pop_locked<const B: u32, T>(
             }
             Ok(Some(taken))
         }
-        Outcome::Ends(reply) => {
+        RowOutcome::Ends(reply) => {
             seat.keep(None, failed);
             match reply {
                 Reply::Refused(refusal) => Err(refusal),

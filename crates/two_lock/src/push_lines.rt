@@ -9,7 +9,7 @@ ghost use Rattle.node_arena.specs.Seats.{role_of};
 ghost use Rattle.two_lock.specs.Pushes.{pushing, CallIsAt, Follows};
 
 use crate::push_outcomes::{ActorOf, left_with_node};
-use arena_lines::{Outcome, Reply, access, branch, effect, goes, onward, row};
+use arena_lines::{RowOutcome, Reply, access, branch, effect, goes, onward, row};
 use counted_ref::CountedRefOf;
 use history::Refusal;
 use line_table::{Line, line_table};
@@ -22,7 +22,7 @@ pub(crate) fn a1<const B: u32, T>(
 ) -> ActorOf<B>
     requires stands { CallIsAt arena.now seat.old (pushing a.val) lines.A1 a }
     ensures { Follows arena.now seat.old seat.new (pushing a.entry.val) lines.A1 a.entry
-        (Outcome.Goes lines.A2 result) }
+        (RowOutcome.Goes lines.A2 result) }
 {
     use onward::goes;
     line_table!(A1 (setup me a found) row (arena seat found))
@@ -35,7 +35,7 @@ pub(crate) fn a2<const B: u32, T>(
 ) -> ActorOf<B>
     requires stands { CallIsAt arena.now seat.old continues lines.A2 a }
     ensures { Follows arena.now seat.old seat.new continues lines.A2 a.entry
-        (Outcome.Goes lines.A3 result) }
+        (RowOutcome.Goes lines.A3 result) }
 {
     use onward::goes;
     line_table!(A2 (setup me a found) row (arena seat found))
@@ -45,7 +45,7 @@ pub(crate) fn a3<const B: u32, T>(
     arena: &ArenaOf<B, T>,
     seat: &mut Seat<T>,
     a: ActorOf<B>,
-) -> Outcome<ActorOf<B>>
+) -> RowOutcome<ActorOf<B>>
     requires stands { CallIsAt arena.now seat.old continues lines.A3 a }
     ensures { Follows arena.now seat.old seat.new continues lines.A3 a.entry result }
 {
@@ -60,7 +60,7 @@ pub(crate) fn a4<const B: u32, T>(
 ) -> ActorOf<B>
     requires stands { CallIsAt arena.now seat.old continues lines.A4 a }
     ensures { Follows arena.now seat.old seat.new continues lines.A4 a.entry
-        (Outcome.Goes lines.A5 result) }
+        (RowOutcome.Goes lines.A5 result) }
 {
     use onward::goes;
     line_table!(A4 (setup me a found) row (arena seat found))
@@ -75,7 +75,7 @@ pub(crate) fn a5<const B: u32, T>(
     requires loaded { IsLoaded arena.now (value_of a.val).body seat.old }
     requires role { IsTrue (may_push (role_of seat.old)) }
     ensures { Follows arena.now seat.old seat.new continues lines.A5 a.entry
-        (Outcome.Goes result.0 result.1) }
+        (RowOutcome.Goes result.0 result.1) }
 {
     use branch::goes;
     let _ = arena.setup();
@@ -89,7 +89,7 @@ pub(crate) fn a6<const B: u32, T>(
 ) -> ActorOf<B>
     requires stands { CallIsAt arena.now seat.old continues lines.A6 a }
     ensures { Follows arena.now seat.old seat.new continues lines.A6 a.entry
-        (Outcome.Goes lines.A7 result) }
+        (RowOutcome.Goes lines.A7 result) }
 {
     use onward::goes;
     let _ = arena.setup();
@@ -100,7 +100,7 @@ pub(crate) fn a7<const B: u32, T>(
     arena: &ArenaOf<B, T>,
     seat: &mut Seat<T>,
     a: ActorOf<B>,
-) -> Outcome<ActorOf<B>>
+) -> RowOutcome<ActorOf<B>>
     requires stands { CallIsAt arena.now seat.old continues lines.A7 a }
     ensures { Follows arena.now seat.old seat.new continues lines.A7 a.entry result }
 {

@@ -2,7 +2,7 @@
 ghost use Rattle.std.specs.Prelude.{◌≡◌, Some};
 ghost use Rattle.two_lock.specs.Pushes.{registers_of, has_lock, left_as};
 
-use arena_lines::{Outcome, Reply};
+use arena_lines::{RowOutcome, Reply};
 use counted_ref::CountedRefOf;
 use line_table::Line;
 use node_arena::{ArenaOf, Held};
@@ -52,21 +52,21 @@ impl<const B: u32> ActorOf<B> {
 }
 
 /// The lock was let go: a push that found the queue shut is refused.
-pub(crate) fn left_with_node<const B: u32>(a: ActorOf<B>) -> Outcome<ActorOf<B>>
+pub(crate) fn left_with_node<const B: u32>(a: ActorOf<B>) -> RowOutcome<ActorOf<B>>
     ensures { result ≡ left_as a.entry.due }
 {
     match a.due {
-        Some(Reply::Refused(refusal)) => Outcome::Ends(Reply::Refused(refusal)),
-        _ => Outcome::Ends(Reply::Done),
+        Some(Reply::Refused(refusal)) => RowOutcome::Ends(Reply::Refused(refusal)),
+        _ => RowOutcome::Ends(Reply::Done),
     }
 }
 
 /// Whether a try of the lock got it.
-pub(crate) fn got_lock<const B: u32>(outcome: Outcome<ActorOf<B>>) -> bool
+pub(crate) fn got_lock<const B: u32>(outcome: RowOutcome<ActorOf<B>>) -> bool
     ensures { result ≡ has_lock outcome.entry }
 {
     match outcome {
-        Outcome::Goes(Line::A4, _) => true,
-        Outcome::Goes(..) | Outcome::Ends(_) => false,
+        RowOutcome::Goes(Line::A4, _) => true,
+        RowOutcome::Goes(..) | RowOutcome::Ends(_) => false,
     }
 }

@@ -7,7 +7,7 @@ ghost use Rattle.node_arena.specs.Seats.{role_of};
 ghost use Rattle.two_lock.specs.Shuts.{shutting, CallIsAt, Follows, LetsGo};
 
 use crate::shut_outcomes::{ActorOf, left};
-use arena_lines::{Outcome, Reply, access, effect, first_row, goes, onward, row};
+use arena_lines::{RowOutcome, Reply, access, effect, first_row, goes, onward, row};
 use counted_ref::CountedRefOf;
 use history::Refusal;
 use line_table::{Line, line_table};
@@ -19,7 +19,7 @@ pub(crate) fn s6<const B: u32, T>(
     seat: &mut Seat<T>,
     a: ActorOf<B>,
     index: u32,
-) -> Outcome<ActorOf<B>>
+) -> RowOutcome<ActorOf<B>>
     requires stands { CallIsAt arena.now seat.old (shutting index) lines.S6 a }
     ensures { Follows arena.now seat.old seat.new (shutting index) lines.S6 a.entry result }
 {
@@ -34,7 +34,7 @@ pub(crate) fn s7<const B: u32, T>(
 ) -> ActorOf<B>
     requires stands { CallIsAt arena.now seat.old continues lines.S7 a }
     ensures { Follows arena.now seat.old seat.new continues lines.S7 a.entry
-        (Outcome.Goes lines.S8 result) }
+        (RowOutcome.Goes lines.S8 result) }
 {
     use onward::goes;
     line_table!(S7 (setup me a found) row (arena seat found))
@@ -48,7 +48,7 @@ pub(crate) fn s8<const B: u32, T>(
     requires stands { CallIsAt arena.now seat.old continues lines.S8 a }
     requires role { IsTrue (may_push (role_of seat.old)) }
     ensures { Follows arena.now seat.old seat.new continues lines.S8 a.entry
-        (Outcome.Goes lines.S9 result) }
+        (RowOutcome.Goes lines.S9 result) }
 {
     use onward::goes;
     let _ = arena.setup();

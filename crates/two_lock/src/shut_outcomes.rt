@@ -2,7 +2,7 @@
 ghost use Rattle.std.specs.Prelude.{◌≡◌};
 ghost use Rattle.two_lock.specs.Shuts.{has_lock, answer_of};
 
-use arena_lines::{Outcome, Reply};
+use arena_lines::{RowOutcome, Reply};
 use counted_ref::CountedRefOf;
 use history::Refusal;
 use line_table::Line;
@@ -45,11 +45,11 @@ pub(crate) fn left<const B: u32>(a: ActorOf<B>) -> Result<(), Refusal>
 }
 
 /// Whether a try of the lock got it.
-pub(crate) fn got_lock<const B: u32>(outcome: Outcome<ActorOf<B>>) -> bool
+pub(crate) fn got_lock<const B: u32>(outcome: RowOutcome<ActorOf<B>>) -> bool
     ensures { result ≡ has_lock outcome.entry }
 {
     match outcome {
-        Outcome::Goes(Line::S7, _) => true,
-        Outcome::Goes(..) | Outcome::Ends(_) => false,
+        RowOutcome::Goes(Line::S7, _) => true,
+        RowOutcome::Goes(..) | RowOutcome::Ends(_) => false,
     }
 }

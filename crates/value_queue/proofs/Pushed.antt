@@ -26,7 +26,7 @@ use Rattle.free_list.specs.Takes.{TakeRefused}
 use Rattle.arena_queue.specs.Answers.{PushWithNodeCaused, PushesWithNodeAnd, PushMoves, PushesWithNode}
 use Rattle.arena_queue.proofs.Pushes.{put_behind, learns, learns_of_take}
 use Rattle.value_queue.specs.ValuesSeen.{known_by}
-use Rattle.value_queue.specs.Pushes.{HasNode, TakesBack, MissedSlots, PushRefused, AnswersPush, back_with}
+use Rattle.value_queue.specs.Pushes.{HasNode, TakesBack, MissedSlots, PushCaused, AnswersPush, back_with}
 use Rattle.value_queue.proofs.Learned.{push-deed, push_refused-deeds}
 use Rattle.value_queue.proofs.Kept.{added_still, name_still, more_still, stops_still, cause_still}
 
@@ -100,7 +100,7 @@ module _ {T : Type 0} (worn : WornWord → Option Held → Type 0) (r : Arena) (
       stops Closed x = tt
       stops _ x = absurd x
 
-      by_cause : (refusal : Refusal) → TakeRefused r s t turns refusal → PushRefused worn r s t turns refusal
+      by_cause : (refusal : Refusal) → TakeRefused r s t turns refusal → PushCaused worn r s t turns refusal
       by_cause Busy x = (0, (let f = x.0 in omega arith), missed_none, inl x.1)
       by_cause NoNode x = x
       by_cause (WornOut OfFree) x = x
@@ -132,7 +132,7 @@ module _ {T : Type 0} (worn : WornWord → Option Held → Type 0) (r : Arena) (
           back = refl;
           refused = subst (λ q. PushRefusedOf (known_by s) q (known_by v)) busy (push_refused-deeds r carries s v is.seat ready.seat Busy (more_since k) (seen_since k));
           refusal = subst StopsPush busy tt;
-          caused = subst (PushRefused worn r s v turns) busy (
+          caused = subst (PushCaused worn r s v turns) busy (
             turns - spent,
             (let a = ap failed_turns (added_still s u v k) in let b = h.spent.0 in let c = h.spent.1 in omega (arith, a, b, c)),
             missed_since (turns - spent) missed,
@@ -202,7 +202,7 @@ module _ {T : Type 0} (worn : WornWord → Option Held → Type 0) (r : Arena) (
           stops Closed z = tt
           stops _ z = absurd z
 
-          by_cause : (refusal : Refusal) → PushWithNodeCaused worn r s x held.node got.failed turns refusal → PushRefused worn r s x turns refusal
+          by_cause : (refusal : Refusal) → PushWithNodeCaused worn r s x held.node got.failed turns refusal → PushCaused worn r s x turns refusal
           by_cause Busy z = (got.failed, (let f = z.0 in omega (arith, f)), missed_since got.failed missed, inl z.1)
           by_cause (WornOut OfFree) z = z.0
           by_cause (WornOut OfNext) z = (z.0, z.1)

@@ -11,7 +11,7 @@ use Rattle.node_arena.specs.Arenas.{Arena}
 use Rattle.node_arena.specs.declared.seats.Seat.{Seat}
 use Rattle.node_arena.specs.Hands.{HasSlot, KeepsKnown}
 use Rattle.node_arena.specs.Seats.{IsReady, KeepsName, HasNoSlot, pocket_of, keeps_of}
-use Rattle.arena_queue.specs.Answers.{FailsFew, FreesItsNode, PopRefused}
+use Rattle.arena_queue.specs.Answers.{FailsFew, FreesItsNode, PopCaused}
 use Rattle.value_queue.specs.ValuesSeen.{known_by}
 
 -- the value of what was popped came out of its slot, which was given back
@@ -37,4 +37,4 @@ pub record AnswersPop {T : Type 0} (worn : WornWord → Type 0) (r : Arena) (s t
   pub kept : keeps_of s ≡ true → IfOk out (KeepsItsNode t)
   pub refused : IfErr out (λ refusal. PopRefusedOf (known_by s) refusal (known_by t))
   pub refusal : IfErr out StopsPop
-  pub caused : IfErr out (PopRefused worn r s t turns)
+  pub caused : IfErr out (PopCaused worn r s t turns)

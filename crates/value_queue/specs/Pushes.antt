@@ -50,9 +50,9 @@ pub record MissedSlots {T : Type 0} (r : Arena) (s : Seat T) (tries : ℕ) : Typ
 
 -- why a push of a value is refused: where others were in the way, turns of lines and tries at slots failed, so many together,
 -- and where no try did, the last turn failed at the call's last step; else as a push of a number is
-abbrev pub PushRefused : {T : Type 0} (worn : WornWord → Option Held → Type 0) → Arena → Seat T → Seat T → (turns : ℕ) → Refusal → Type 0
-PushRefused worn r s t turns Busy = (tries : ℕ) × (failed_turns (added s t) + tries ≡ turns) × MissedSlots r s tries × (EndsFailed s t ⊎ (1 ≤ tries))
-PushRefused worn r s t turns refusal = numbers.PushRefused worn r s t turns refusal
+abbrev pub PushCaused : {T : Type 0} (worn : WornWord → Option Held → Type 0) → Arena → Seat T → Seat T → (turns : ℕ) → Refusal → Type 0
+PushCaused worn r s t turns Busy = (tries : ℕ) × (failed_turns (added s t) + tries ≡ turns) × MissedSlots r s tries × (EndsFailed s t ⊎ (1 ≤ tries))
+PushCaused worn r s t turns refusal = numbers.PushCaused worn r s t turns refusal
 
 -- what a push of a value answers
 pub record AnswersPush {T : Type 0} (worn : WornWord → Option Held → Type 0) (r : Arena) (s t : Seat T) (value : T) (turns : ℕ) (out : Result (Unit {0}) (Unpushed T)) : Type 0 where
@@ -65,4 +65,4 @@ pub record AnswersPush {T : Type 0} (worn : WornWord → Option Held → Type 0)
   pub back : IfErr out (λ unpushed. unpushed.value ≡ value)
   pub refused : IfErr out (λ unpushed. PushRefusedOf (known_by s) unpushed.refusal (known_by t))
   pub refusal : IfErr out (λ unpushed. StopsPush unpushed.refusal)
-  pub caused : IfErr out (λ unpushed. PushRefused worn r s t turns unpushed.refusal)
+  pub caused : IfErr out (λ unpushed. PushCaused worn r s t turns unpushed.refusal)

@@ -24,10 +24,10 @@ impl<T: Send, A: Algorithm<B>, const B: u32> Carrier for QueueOf<T, A, B> {
     ghost use Rattle.history.specs.Answers.{StopsPush, StopsPop, StopsShut};
     ghost use Rattle.carriers.specs.Answers.{PushedOf, PopAnswersOf, DidShutOf, PushRefusedOf, PopRefusedOf};
     ghost use Rattle.node_arena.specs.Seats.{pocket_of, keeps_of};
-    ghost use Rattle.arena_queue.specs.Answers.{FailsFewer, FailsFew, FreesItsNode, PopRefused, ShutRefused};
+    ghost use Rattle.arena_queue.specs.Answers.{FailsFewer, FailsFew, FreesItsNode, PopCaused, ShutCaused};
     ghost use Rattle.value_queue.specs.ValuesSeen.{known_by};
     ghost use Rattle.value_queue.specs.Queues.{arena_of, permits_of, IsQueueSeat};
-    ghost use Rattle.value_queue.specs.Pushes.{PushRefused};
+    ghost use Rattle.value_queue.specs.Pushes.{PushCaused};
     ghost use Rattle.value_queue.specs.Pops.{KeepsItsNode};
     ghost use Rattle.value_queue.specs.Sound.{sound-seat, IsQueueSeat-prop};
 
@@ -41,11 +41,11 @@ impl<T: Send, A: Algorithm<B>, const B: u32> Carrier for QueueOf<T, A, B> {
 
     ghost known = { known_by };
 
-    ghost push_cause = { λ q. PushRefused A.push_worn (arena_of q) };
+    ghost push_cause = { λ q. PushCaused A.push_worn (arena_of q) };
 
-    ghost pop_cause = { λ q. PopRefused A.pop_worn (arena_of q) };
+    ghost pop_cause = { λ q. PopCaused A.pop_worn (arena_of q) };
 
-    ghost shut_cause = { λ q. ShutRefused A.shut_worn (arena_of q) };
+    ghost shut_cause = { λ q. ShutCaused A.shut_worn (arena_of q) };
 
     ghost sound = { λ q s h. sound-seat (arena_of q) q.carries s h.0.seat };
 
@@ -75,7 +75,7 @@ impl<T: Send, A: Algorithm<B>, const B: u32> Carrier for QueueOf<T, A, B> {
         //= values/push_causes: A push of a value is refused only with the cause of a push of a number; or `Busy`, where
         //=   turns and tries at slots failed, `turns` together: each such slot was taken when it was tried.
         ensures caused { IfErr result (λ unpushed.
-            PushRefused A.push_worn (arena_of self.now) seat.old seat.new turns unpushed.refusal) }
+            PushCaused A.push_worn (arena_of self.now) seat.old seat.new turns unpushed.refusal) }
     {
         let (held, spent) = match self.node(seat, turns) {
             Ok(node) => node,
@@ -125,7 +125,7 @@ impl<T: Send, A: Algorithm<B>, const B: u32> Carrier for QueueOf<T, A, B> {
         //= values/other_causes: A pop and a shut of a queue of values are refused only with the cause of those of a
         //=   queue of numbers.
         ensures caused { IfErr result
-            (PopRefused A.pop_worn (arena_of self.now) seat.old seat.new turns) }
+            (PopCaused A.pop_worn (arena_of self.now) seat.old seat.new turns) }
     {
         match self.pop_slot(seat, turns) {
             Ok(Some(taken)) => Ok(Some(self.take_out(seat, taken))),
@@ -152,7 +152,7 @@ impl<T: Send, A: Algorithm<B>, const B: u32> Carrier for QueueOf<T, A, B> {
         ensures refusal { IfErr result StopsShut }
         //= values/other_causes
         ensures caused { IfErr result
-            (ShutRefused A.shut_worn (arena_of self.now) seat.old seat.new turns) }
+            (ShutCaused A.shut_worn (arena_of self.now) seat.old seat.new turns) }
     {
         A::shut(&self.arena, seat, turns)
     }

@@ -3,7 +3,7 @@ ghost use Rattle.ring_values.specs.Queues.{IsQueueSeat};
 
 use super::calls::{last, pop, push, same, shut};
 use history::Refusal;
-use ring_queue::{Emptiness, Role, Seat};
+use ring_queue::{RingEmptiness, Role, Seat};
 use ring_values::RingValues;
 use std::test::Fail;
 
@@ -11,7 +11,7 @@ use std::test::Fail;
 const LIMIT: u64 = 120;
 
 // Whether the ring is empty, both bounds of its length, and how many pushes it has left.
-fn told(queue: &RingValues<u64>, seat: &mut Seat<u64>) -> (Emptiness, u64, u64, u64)
+fn told(queue: &RingValues<u64>, seat: &mut Seat<u64>) -> (RingEmptiness, u64, u64, u64)
     requires { IsQueueSeat queue.now seat.old }
     ensures { IsQueueSeat queue.now seat.new }
 {
@@ -27,12 +27,12 @@ fn a_look_at_values_tells_what_is_there(rt: HostRuntime) -> Result<(), Fail> {
     let (queue, mut seats) = RingValues::<u64>::new(rt.alloc(), 8, 2, LIMIT, &[Role::Both; 2])?;
     let mut seat = last(&queue, &mut seats)?;
     let mut other = last(&queue, &mut seats)?;
-    let none = (Emptiness::Empty, 0, 0, 100);
+    let none = (RingEmptiness::Empty, 0, 0, 100);
     same(&rt, told(&queue, &mut seat), none);
     for value in 0..7u64 {
         same(&rt, push(&queue, &mut seat, value).is_ok(), true);
     }
-    let seven = (Emptiness::Holds, 7, 7, 93);
+    let seven = (RingEmptiness::Holds, 7, 7, 93);
     same(&rt, told(&queue, &mut other), seven);
     for value in 0..2u64 {
         let Ok(Some(item)) = pop(&queue, &mut other) else {
@@ -40,10 +40,10 @@ fn a_look_at_values_tells_what_is_there(rt: HostRuntime) -> Result<(), Fail> {
         };
         same(&rt, item.value, value);
     }
-    let five = (Emptiness::Holds, 5, 5, 93);
+    let five = (RingEmptiness::Holds, 5, 5, 93);
     same(&rt, told(&queue, &mut seat), five);
     same(&rt, shut(&queue, &mut other), Ok(()));
-    let closed = (Emptiness::Holds, 1, 5, 93);
+    let closed = (RingEmptiness::Holds, 1, 5, 93);
     same(&rt, told(&queue, &mut seat), closed);
     for value in 2..7u64 {
         let Ok(Some(item)) = pop(&queue, &mut other) else {
@@ -51,7 +51,7 @@ fn a_look_at_values_tells_what_is_there(rt: HostRuntime) -> Result<(), Fail> {
         };
         same(&rt, item.value, value);
     }
-    let nothing = (Emptiness::ShutEmpty, 0, 0, 93);
+    let nothing = (RingEmptiness::ShutEmpty, 0, 0, 93);
     same(&rt, told(&queue, &mut seat), nothing);
     let Err(unpushed) = push(&queue, &mut seat, 7) else {
         return Err(Fail::from("a push behind the shut"));
@@ -61,7 +61,7 @@ fn a_look_at_values_tells_what_is_there(rt: HostRuntime) -> Result<(), Fail> {
         (unpushed.refusal, unpushed.value),
         (Refusal::Closed, 7),
     );
-    let mark = (Emptiness::ShutEmpty, 0, 1, 92);
+    let mark = (RingEmptiness::ShutEmpty, 0, 1, 92);
     same(&rt, told(&queue, &mut other), mark);
     Ok(())
 }

@@ -3,7 +3,7 @@ use Rattle.std.proofs.lemmas.Result.{IfOk-weaker}
 use Rattle.ring_queue.specs.declared.roles.Role.TheVariants.{Giver, Taker}
 use Rattle.ring_queue.specs.NewRings.{IsMade}
 use Rattle.ring_queue.specs.Plans.{permit_of, permits_by}
-use Rattle.ring_queue.specs.Queues.{IsQueueSeat, permits_in}
+use Rattle.ring_queue.specs.Queues.{IsNumberSeat, permits_in}
 use Rattle.ring_queue.specs.Seats.{known_of}
 use Rattle.job_engine.specs.Crews.{ring_crew_roles}
 use Rattle.job_engine.proofs.NewSeats.{crew-new, map-crew_of}
@@ -13,7 +13,7 @@ pub results_over-requires-clause-crew : goal.results_over-requires-clause-crew
 results_over-requires-clause-crew g c κs within =
     let made = c.in_ok-queue in
     let roles = c.deref.ensures.value ∙ c.in_ok-roles.ensures.roles in
-    crew-new IsQueueSeat permits_in known_of made.queue made.seats.items c.args.workers (permit_of Taker) (permit_of Giver) refl refl
+    crew-new IsNumberSeat permits_in known_of made.queue made.seats.items c.args.workers (permit_of Taker) (permit_of Giver) refl refl
     (made.ensures.permits ∙ ap permits_by roles ∙ map-crew_of permit_of Taker Giver c.args.workers) made.ensures.seats made.ensures.unused
 
 pub returns-clause-over : goal.returns-clause-over

@@ -2,7 +2,7 @@ use Rattle.std.proofs.Common.{arith, ◌≡◌, ◌∙◌, ◌-◌, ◌^◌, ap,
 use Rattle.std.proofs.lemmas.Grind.{common_steps}
 use Rattle.ring_queue.specs.Plans.{permits_by}
 use Rattle.ring_queue.specs.NewRings.{IsMade}
-use Rattle.ring_queue.specs.Queues.{IsQueueSeat, permits_in}
+use Rattle.ring_queue.specs.Queues.{IsNumberSeat, permits_in}
 use Rattle.ring_queue.specs.Seats.{known_of}
 use Rattle.mail_engine.specs.Rows.{givers_and_taker, IsMailRing}
 use Rattle.mail_engine.proofs.Rows.{opened, permits_by-ring}
@@ -13,7 +13,7 @@ returns-clause-opened c =
     let row : permits_in c.in_ok-queue.queue ≡ givers_and_taker c.args.senders =
     c.in_ok-queue.ensures.permits ∙ ap permits_by (c.deref.ensures.value ∙ c.in_ok-roles.ensures.roles) ∙ permits_by-ring c.args.senders in
     let whole : c.in_ok-queue.seats.items ≡ c.pop.new.self.items ++ c.in-Some.receiver ∷ [] = grind (arith, common_steps) in
-    opened IsQueueSeat permits_in known_of c.args.senders c.in_ok-queue.queue c.in_ok-queue.seats.items c.pop.new.self.items c.in-Some.receiver
+    opened IsNumberSeat permits_in known_of c.args.senders c.in_ok-queue.queue c.in_ok-queue.seats.items c.pop.new.self.items c.in-Some.receiver
     row whole c.in_ok-queue.ensures.unused c.in_ok-queue.ensures.seats
 
 pub returns-clause-made : goal.returns-clause-made

@@ -1,6 +1,6 @@
 use Rattle.std.proofs.Common.{subst, ap, ◌∙◌}
 use Rattle.line_table.specs.declared.lines.Line.TheVariants.{D2}
-use Rattle.arena_lines.specs.declared.outcomes.Outcome.TheVariants.{Goes}
+use Rattle.arena_lines.specs.declared.outcomes.RowOutcome.TheVariants.{Goes}
 use Rattle.nonblocking.specs.declared.pop_outcomes.Turn.TheVariants as turn
 use Rattle.nonblocking.specs.Pops.{Looks}
 use Rattle.nonblocking.proofs.PopTurns.{moves_tail, turn_behind}

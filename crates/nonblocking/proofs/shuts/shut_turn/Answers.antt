@@ -1,6 +1,6 @@
 use Rattle.std.proofs.Common.{subst, ap, ◌∙◌}
 use Rattle.line_table.specs.declared.lines.Line.TheVariants.{S1}
-use Rattle.arena_lines.specs.declared.outcomes.Outcome.TheVariants.{Goes}
+use Rattle.arena_lines.specs.declared.outcomes.RowOutcome.TheVariants.{Goes}
 use Rattle.nonblocking.specs.declared.shut_outcomes.Turn.TheVariants as turn
 use Rattle.nonblocking.specs.Shuts.{turn_of, Looks}
 use Rattle.nonblocking.proofs.ShutTurns.{puts_end, swings, turn_behind}

@@ -1,7 +1,7 @@
 //! Calls by a seat that may make them, with small bodies.
 ghost use Rattle.std.specs.Prelude.{IfOk};
 ghost use Rattle.std.specs.List.{All};
-ghost use Rattle.ring_queue.specs.Queues.{IsQueueSeat};
+ghost use Rattle.ring_queue.specs.Queues.{IsNumberSeat};
 
 use history::{Body, Close, Fifo, Refusal, Rest, Taken};
 use ring_queue::{RingQueue, Role, Seat};
@@ -12,8 +12,8 @@ pub const AMPLE: u64 = 1 << 40;
 
 /// Pushes a small body in so many turns. A seat that may not push answers `BadSize`, which no queue does.
 pub fn push(queue: &RingQueue, seat: &mut Seat, body: u64, turns: u32) -> Result<(), Refusal>
-    requires { IsQueueSeat queue.now seat.old }
-    ensures { IsQueueSeat queue.now seat.new }
+    requires { IsNumberSeat queue.now seat.old }
+    ensures { IsNumberSeat queue.now seat.new }
 {
     let Some(body) = Body::new(body) else {
         return Err(Refusal::BadSize);
@@ -26,8 +26,8 @@ pub fn push(queue: &RingQueue, seat: &mut Seat, body: u64, turns: u32) -> Result
 
 /// Pushes the first of some small bodies in one turn: how many. A seat that may not push answers `BadSize`, which no queue does.
 pub fn push_all(queue: &RingQueue, seat: &mut Seat, numbers: &[u64]) -> Result<usize, Refusal>
-    requires { IsQueueSeat queue.now seat.old }
-    ensures { IsQueueSeat queue.now seat.new }
+    requires { IsNumberSeat queue.now seat.old }
+    ensures { IsNumberSeat queue.now seat.new }
 {
     let zero = Body::new(0).unwrap();
     let mut bodies = [zero; 8];
@@ -43,8 +43,8 @@ pub fn push_all(queue: &RingQueue, seat: &mut Seat, numbers: &[u64]) -> Result<u
 
 /// The value at the front, as its pusher and its body. A seat that may not pop answers `BadSize`, which no queue does.
 pub fn pop(queue: &RingQueue, seat: &mut Seat, turns: u32) -> Result<Option<(u16, u64)>, Refusal>
-    requires { IsQueueSeat queue.now seat.old }
-    ensures { IsQueueSeat queue.now seat.new }
+    requires { IsNumberSeat queue.now seat.old }
+    ensures { IsNumberSeat queue.now seat.new }
 {
     if turns == 0 || !queue.may_pop(seat) {
         return Err(Refusal::BadSize);
@@ -61,8 +61,8 @@ pub fn pop_up_to(
     most: usize,
     into: &mut Vec<Taken>,
 ) -> Result<usize, Refusal>
-    requires { IsQueueSeat queue.now seat.old }
-    ensures { IsQueueSeat queue.now seat.new }
+    requires { IsNumberSeat queue.now seat.old }
+    ensures { IsNumberSeat queue.now seat.new }
 {
     if most == 0 || into.capacity() - into.len() < most || !queue.may_pop(seat) {
         return Err(Refusal::BadSize);
@@ -72,8 +72,8 @@ pub fn pop_up_to(
 
 /// Shuts the queue. A seat that may not push answers `BadSize`, which no queue does.
 pub fn shut(queue: &RingQueue, seat: &mut Seat) -> Result<(), Refusal>
-    requires { IsQueueSeat queue.now seat.old }
-    ensures { IsQueueSeat queue.now seat.new }
+    requires { IsNumberSeat queue.now seat.old }
+    ensures { IsNumberSeat queue.now seat.new }
 {
     if !queue.may_push(seat) {
         return Err(Refusal::BadSize);
@@ -88,14 +88,14 @@ pub fn ring(
     credits: u32,
     roles: &[Role],
 ) -> Result<(RingQueue, Vec<Seat>), Refusal>
-    ensures { IfOk result (λ r. All (IsQueueSeat r.0) r.1.items) }
+    ensures { IfOk result (λ r. All (IsNumberSeat r.0) r.1.items) }
 {
     RingQueue::new(alloc, most, credits, AMPLE, roles)
 }
 
 /// What is left of a ring that is closed by all its seats. With another number of them it answers `BadSize`, which no queue does.
 pub fn close(queue: RingQueue, alloc: Global, seats: Vec<Seat>) -> Result<Rest, Refusal>
-    requires { All (IsQueueSeat queue) seats.items }
+    requires { All (IsNumberSeat queue) seats.items }
 {
     if seats.len() != queue.seat_count() {
         return Err(Refusal::BadSize);
@@ -106,9 +106,9 @@ pub fn close(queue: RingQueue, alloc: Global, seats: Vec<Seat>) -> Result<Rest, 
 
 /// The last of the seats.
 pub fn last(queue: &RingQueue, seats: &mut Vec<Seat>) -> Result<Seat, Refusal>
-    requires { All (IsQueueSeat queue.now) seats.old.items }
-    ensures seat { IfOk result (λ seat. IsQueueSeat queue.now seat) }
-    ensures left { All (IsQueueSeat queue.now) seats.new.items }
+    requires { All (IsNumberSeat queue.now) seats.old.items }
+    ensures seat { IfOk result (λ seat. IsNumberSeat queue.now seat) }
+    ensures left { All (IsNumberSeat queue.now) seats.new.items }
 {
     let _ = queue;
     seats.pop().ok_or(Refusal::BadSize)

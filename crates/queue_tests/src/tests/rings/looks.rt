@@ -1,16 +1,16 @@
 //! What a seat sees of a ring without taking anything.
-ghost use Rattle.ring_queue.specs.Queues.{IsQueueSeat};
+ghost use Rattle.ring_queue.specs.Queues.{IsNumberSeat};
 
 use super::calls::{last, pop, push, ring, shut};
 use crate::tests::comparisons::same;
 use history::Refusal;
-use ring_queue::{Emptiness, RingQueue, Role, Seat};
+use ring_queue::{RingEmptiness, RingQueue, Role, Seat};
 use std::test::Fail;
 
 // Whether the ring is empty, and both bounds of its length.
-fn told(queue: &RingQueue, seat: &mut Seat) -> (Emptiness, u64, u64)
-    requires { IsQueueSeat queue.now seat.old }
-    ensures { IsQueueSeat queue.now seat.new }
+fn told(queue: &RingQueue, seat: &mut Seat) -> (RingEmptiness, u64, u64)
+    requires { IsNumberSeat queue.now seat.old }
+    ensures { IsNumberSeat queue.now seat.new }
 {
     let found = queue.emptiness(seat);
     let len = queue.len(seat);
@@ -27,7 +27,7 @@ fn a_look_tells_what_is_there(rt: HostRuntime) -> Result<(), Fail> {
     same(
         &rt,
         told(&queue, &mut seat),
-        (Emptiness::Empty, 0, 0),
+        (RingEmptiness::Empty, 0, 0),
         "new",
     );
     for body in 0..7 {
@@ -36,7 +36,7 @@ fn a_look_tells_what_is_there(rt: HostRuntime) -> Result<(), Fail> {
     same(
         &rt,
         told(&queue, &mut other),
-        (Emptiness::Holds, 7, 7),
+        (RingEmptiness::Holds, 7, 7),
         "seven",
     );
     same(
@@ -48,14 +48,14 @@ fn a_look_tells_what_is_there(rt: HostRuntime) -> Result<(), Fail> {
     same(
         &rt,
         told(&queue, &mut seat),
-        (Emptiness::Holds, 6, 6),
+        (RingEmptiness::Holds, 6, 6),
         "six",
     );
     same(&rt, shut(&queue, &mut other), Ok(()), "the shut");
     same(
         &rt,
         told(&queue, &mut seat),
-        (Emptiness::Holds, 2, 6),
+        (RingEmptiness::Holds, 2, 6),
         "shut",
     );
     for body in 1..7 {
@@ -66,7 +66,7 @@ fn a_look_tells_what_is_there(rt: HostRuntime) -> Result<(), Fail> {
             "a pop",
         );
     }
-    let none = (Emptiness::ShutEmpty, 0, 0);
+    let none = (RingEmptiness::ShutEmpty, 0, 0);
     same(&rt, told(&queue, &mut seat), none, "shut and empty");
     let closed = Err(Refusal::Closed);
     same(
@@ -75,7 +75,7 @@ fn a_look_tells_what_is_there(rt: HostRuntime) -> Result<(), Fail> {
         closed,
         "from the reserve",
     );
-    let mark = (Emptiness::ShutEmpty, 0, 1);
+    let mark = (RingEmptiness::ShutEmpty, 0, 1);
     same(&rt, told(&queue, &mut other), mark, "with a place claimed");
     Ok(())
 }

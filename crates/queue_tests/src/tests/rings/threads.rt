@@ -1,6 +1,6 @@
 //! Four threads that push and pop on one ring.
 ghost use Rattle.std.specs.Prelude.{IfSome};
-ghost use Rattle.ring_queue.specs.Queues.{IsQueueSeat};
+ghost use Rattle.ring_queue.specs.Queues.{IsNumberSeat};
 
 use super::calls::{last, pop, push, ring, shut};
 use crate::tests::comparisons::same;
@@ -25,8 +25,8 @@ struct Tally {
 
 // Pushes the bodies 1 to `EACH`, and once more where the ring was full or others were in the way; how many were pushed.
 fn gives(queue: &RingQueue, mut seat: Seat) -> (Seat, u64)
-    requires { IsQueueSeat queue.now seat }
-    ensures { IsQueueSeat queue.now result.0 }
+    requires { IsNumberSeat queue.now seat }
+    ensures { IsNumberSeat queue.now result.0 }
 {
     let mut body = 1;
     for _ in 0..TRIES {
@@ -44,7 +44,7 @@ fn gives(queue: &RingQueue, mut seat: Seat) -> (Seat, u64)
 
 // Pops until the ring is shut and empty.
 fn takes(queue: &RingQueue, mut seat: Seat) -> Tally
-    requires { IsQueueSeat queue.now seat }
+    requires { IsNumberSeat queue.now seat }
 {
     let mut tally = Tally {
         count: 0,

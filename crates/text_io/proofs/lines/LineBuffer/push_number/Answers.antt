@@ -1,6 +1,6 @@
 use Rattle.std.proofs.Common.{◌≤◌, length, decimal, arith, ap, length-append}
 use Rattle.std.proofs.lemmas.Fmt.{length-decimal-le}
-use Rattle.text_io.proofs.lines.Line.push_number.Goals as goal
+use Rattle.text_io.proofs.lines.LineBuffer.push_number.Goals as goal
 
 pub push_digits-requires : goal.push_digits-requires
 push_digits-requires c =

@@ -1,6 +1,6 @@
 use Rattle.std.proofs.Common.{◌+◌, ◌++◌, [], ◌∷◌, ◌/◌, ◌%◌, decimal, length, arith, ap, ◌∙◌, sym, append_assoc, length-append}
 use Rattle.std.proofs.lemmas.Fmt.{decimal_digit, decimal_step, decimal_nonempty}
-use Rattle.text_io.proofs.lines.Line.+push_digits.Goals as goal
+use Rattle.text_io.proofs.lines.LineBuffer.+push_digits.Goals as goal
 
 pub push-requires : goal.push-requires
 push-requires t c = omega (arith, decimal_nonempty c.args.number c.ranges.number.fits)
