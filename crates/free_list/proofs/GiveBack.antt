@@ -33,7 +33,7 @@ use Rattle.arena_lines.proofs.Registers.{same_registers}
 use Rattle.free_list.specs.Registers.{Running}
 use Rattle.free_list.specs.declared.outcomes.Gave.TheVariants.{Back, Again}
 use Rattle.free_list.specs.Runs.{in_hand, gave_of, Frees, CallIsAt, StartsGive, Follows, GoesTo, Leaves}
-use Rattle.free_list.specs.Gives.{IsBack, GiveTurns, Sets, Giving, GiveAnswers}
+use Rattle.free_list.specs.Gives.{IsBack, GiveTurns, StandsAfterF1, Giving, GiveAnswers}
 use Rattle.free_list.proofs.Steps.{ref_free}
 use Rattle.free_list.proofs.Ways.{no_way, one_line, then_give, leaves}
 use Rattle.free_list.proofs.Standing.{stands_on, settled_as}
@@ -97,8 +97,8 @@ module _ {T : Type 0} (r : Arena) (s t : Seat T) (prologue : Prologue) (a : Runn
   abbrev first : (now : ℕ) → Ref → Bool → Option Reply → Outcome
   first now top p due = if p then sets_aside (freed r.plan.setup.kind now due (record b { top = top })) else goes F2 (record b { top = top })
 
-  pub after_f1 : (h : Held) (out : RowOutcome Running) → StartsGive r s prologue h → in_hand a ≡ h → Follows r s t prologue F1 a out → Sets r s t h out
-  after_f1 h out st e f = subst (Sets r s t h) (sym f.leads_to) (go (nat_eq (ref_of r.plan.setup.bits f.found).count r.plan.setup.limit) refl)
+  pub after_f1 : (h : Held) (out : RowOutcome Running) → StartsGive r s prologue h → in_hand a ≡ h → Follows r s t prologue F1 a out → StandsAfterF1 r s t h out
+  after_f1 h out st e f = subst (StandsAfterF1 r s t h) (sym f.leads_to) (go (nat_eq (ref_of r.plan.setup.bits f.found).count r.plan.setup.limit) refl)
     where
       free : ref_of r.plan.setup.bits f.found ≡ f.did.told.was.world.shared.free
       free = ref_free r s t prologue f.found F1 f.did f.did.told.found
@@ -111,7 +111,7 @@ module _ {T : Type 0} (r : Arena) (s t : Seat T) (prologue : Prologue) (a : Runn
       went p w = settled_as r s t prologue F1 f.found f.did (first (f.did.told.was.world.steps + 1) f.did.told.was.world.shared.free p None)
           (λ i. first (f.did.told.was.world.steps + 1) f.did.told.was.world.shared.free (same p w i) (st.frees.early i))
 
-      go : (p : Bool) → nat_eq (ref_of r.plan.setup.bits f.found).count r.plan.setup.limit ≡ p → Sets r s t h (if p then Ends Done else Goes F2 (record a { top = ref_of r.plan.setup.bits f.found }))
+      go : (p : Bool) → nat_eq (ref_of r.plan.setup.bits f.found).count r.plan.setup.limit ≡ p → StandsAfterF1 r s t h (if p then Ends Done else Goes F2 (record a { top = ref_of r.plan.setup.bits f.found }))
       go true w =
           record {
             way = one_line r s t prologue F1 f.found f.did (refl, none_due b st.frees.early, refl);
@@ -181,7 +181,7 @@ module _ {T : Type 0} (r : Arena) (s t : Seat T) (prologue : Prologue) (a : Runn
           }
 
 -- after F1 it stands before F2
-pub at_f2 : {T : Type 0} (r : Arena) (s t : Seat T) (h : Held) (l : Line) (a : Running) → Sets r s t h (Goes l a) → GoesTo r s t F2 a × (in_hand a ≡ h)
+pub at_f2 : {T : Type 0} (r : Arena) (s t : Seat T) (h : Held) (l : Line) (a : Running) → StandsAfterF1 r s t h (Goes l a) → GoesTo r s t F2 a × (in_hand a ≡ h)
 at_f2 r s t h F2 a x = x
 at_f2 r s t h _ a x = absurd x
 

@@ -30,7 +30,7 @@ use Rattle.arena_lines.proofs.Registers.{same_registers}
 use Rattle.free_list.specs.declared.outcomes.Turn.TheVariants.{Took, Failed}
 use Rattle.free_list.specs.Registers.{Running}
 use Rattle.free_list.specs.Runs.{follow, in_hand, turn_of, AgreesAt, CallIsAt, Follows, GoesTo}
-use Rattle.free_list.specs.Takes.{WasThere, IsRefusedBy, Turns, Looks}
+use Rattle.free_list.specs.Takes.{WasThere, IsRefusedBy, Turns, StandsAfterN2}
 use Rattle.free_list.proofs.Steps.{ref_free, ref_n3}
 use Rattle.free_list.proofs.Ways.{IsQuiet, one_line}
 
@@ -158,20 +158,20 @@ module _ {T : Type 0} (r : Arena) (s t : Seat T) (prologue : Prologue) where
             };
           }
 
-      looked : (p q u : Bool) → here ≡ second_outcome now free p q u → Looks r s t (second free p q u)
+      looked : (p q u : Bool) → here ≡ second_outcome now free p q u → StandsAfterN2 r s t (second free p q u)
       looked true true u e = on N5 _ e refl (λ c k z. ap (λ x. x.f) z ∙ h.knows)
       looked true false u e = over NoNode (record b { top = free }) refl e (inl refl)
       looked false q true e = over (WornOut OfFree) (record b { top = free }) refl e (inr refl)
       looked false q false e = on N3 _ e refl (λ c k z. ap (λ x. x.top) z)
 
-      looks : Looks r s t (follow r.plan.setup a N2 n)
+      looks : StandsAfterN2 r s t (follow r.plan.setup a N2 n)
       looks =
-          subst (λ x. Looks r s t (second x (is_null x) (nat_lt a.f r.plan.setup.size) (nat_eq x.count r.plan.setup.limit))) (sym (ref_free r s t prologue n N2 d d.told.found))
+          subst (λ x. StandsAfterN2 r s t (second x (is_null x) (nat_lt a.f r.plan.setup.size) (nat_eq x.count r.plan.setup.limit))) (sym (ref_free r s t prologue n N2 d d.told.found))
           (looked (is_null free) (nat_lt a.f r.plan.setup.size) (nat_eq free.count r.plan.setup.limit)
           (ap (λ k. second_outcome now free (is_null free) (nat_lt k r.plan.setup.size) (nat_eq free.count r.plan.setup.limit)) h.knows))
 
-    pub after_n2 : (out : RowOutcome Running) → CallIsAt r s prologue N2 a → Follows r s t prologue N2 a out → Looks r s t out
-    after_n2 out h f = subst (Looks r s t) (sym f.leads_to) (looks f.found f.did h)
+    pub after_n2 : (out : RowOutcome Running) → CallIsAt r s prologue N2 a → Follows r s t prologue N2 a out → StandsAfterN2 r s t out
+    after_n2 out h f = subst (StandsAfterN2 r s t) (sym f.leads_to) (looks f.found f.did h)
 
     -- N3
     pub after_n3 : (c : Running) → CallIsAt r s prologue N3 a → Follows r s t prologue N3 a (Goes N4 c) → GoesTo r s t N4 c
@@ -246,7 +246,7 @@ module _ {T : Type 0} (r : Arena) (s t : Seat T) (prologue : Prologue) where
         go false e = fell N5 f.found f.did (refl, tt, refl) (λ o. refl) (ap (λ c. c.line) (settled_as N5 f.found f.did (fifth false) (ap fifth (same false e))).1)
 
 -- after N2 it stands before N3, if not before N5
-pub at_n3 : {T : Type 0} (r : Arena) (s t : Seat T) (l : Line) (a : Running) → l ≢ N5 → Looks r s t (Goes l a) → GoesTo r s t N3 a
+pub at_n3 : {T : Type 0} (r : Arena) (s t : Seat T) (l : Line) (a : Running) → l ≢ N5 → StandsAfterN2 r s t (Goes l a) → GoesTo r s t N3 a
 at_n3 r s t N3 a other h = h
 at_n3 r s t N5 a other h = absurd (other refl)
 at_n3 r s t _ a other h = absurd h

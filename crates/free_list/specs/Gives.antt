@@ -29,31 +29,31 @@ pub record LetGo {T : Type 0} (r : Arena) (t : Seat T) (node : ℕ) : Type 0 whe
   pub back : NowHolds r t (IsBack node)
 
 -- a turn that failed
-pub record Slipped {T : Type 0} (r : Arena) (t : Seat T) (es : List Event) (h : Held) : Type 0 where
+pub record GiveFailed {T : Type 0} (r : Arena) (t : Seat T) (es : List Event) (h : Held) : Type 0 where
   pub stands : StartsGive r t continues h
   pub last : FailedAt es
 
 -- what a turn leads to
 abbrev pub GiveTurned : {T : Type 0} → Arena → Seat T → List Event → Held → Gave → Type 0
 GiveTurned r t es h Back = LetGo r t h.node
-GiveTurned r t es h Again = Slipped r t es h
+GiveTurned r t es h Again = GiveFailed r t es h
 
 -- whether a turn failed, as a number
-abbrev pub slips : Gave → ℕ
-slips Back = 0
-slips Again = 1
+abbrev pub gave_fails : Gave → ℕ
+gave_fails Back = 0
+gave_fails Again = 1
 
 -- lines of a give back, on which so many turns failed, and then the end of a turn
 pub record GiveTurns {T : Type 0} (r : Arena) (s t : Seat T) (n : ℕ) (h : Held) (out : Gave) : Type 0 where
   pub way : Way s t
-  pub failed : failed_turns way.lines ≡ n + slips out
+  pub failed : failed_turns way.lines ≡ n + gave_fails out
   pub turned : GiveTurned r t way.lines h out
 
 -- after F1 the call stands before F2, with its node, or the node left the hand
-abbrev pub Sets : {T : Type 0} → Arena → Seat T → Seat T → Held → RowOutcome Running → Type 0
-Sets r s t h (Goes F2 a) = GoesTo r s t F2 a × (in_hand a ≡ h)
-Sets r s t h (Goes l a) = ⊥
-Sets r s t h (Ends reply) = GiveTurns r s t 0 h Back
+abbrev pub StandsAfterF1 : {T : Type 0} → Arena → Seat T → Seat T → Held → RowOutcome Running → Type 0
+StandsAfterF1 r s t h (Goes F2 a) = GoesTo r s t F2 a × (in_hand a ≡ h)
+StandsAfterF1 r s t h (Goes l a) = ⊥
+StandsAfterF1 r s t h (Ends reply) = GiveTurns r s t 0 h Back
 
 -- a give back after so many failed turns
 pub record Giving {T : Type 0} (r : Arena) (s t : Seat T) (h : Held) (n : ℕ) : Type 0 where

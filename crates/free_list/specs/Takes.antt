@@ -55,7 +55,7 @@ pub record Got {T : Type 0} (r : Arena) (s t : Seat T) (es : List Event) (h : He
   pub sole : NowHolds r t (λ w. IsSole w (view t).number h.node)
 
 -- a turn that failed
-pub record Fell {T : Type 0} (r : Arena) (t : Seat T) (es : List Event) : Type 0 where
+pub record TurnFailed {T : Type 0} (r : Arena) (t : Seat T) (es : List Event) : Type 0 where
   pub before : IsBefore r t continues N1
   pub last : FailedAt es
 
@@ -70,7 +70,7 @@ pub record Refuses {T : Type 0} (r : Arena) (s t : Seat T) (es : List Event) (re
 -- what a turn leads to
 abbrev pub Turned : {T : Type 0} → Arena → Seat T → Seat T → List Event → Turn → Type 0
 Turned r s t es (Took h) = Got r s t es h
-Turned r s t es Failed = Fell r t es
+Turned r s t es Failed = TurnFailed r t es
 Turned r s t es (Refused refusal) = Refuses r s t es refusal
 
 -- whether a turn failed, as a number
@@ -85,11 +85,11 @@ pub record Turns {T : Type 0} (r : Arena) (s t : Seat T) (n : ℕ) (out : Turn) 
   pub turned : Turned r s t way.lines out
 
 -- after N2 the call stands before N3 or N5, or its turn ends
-abbrev pub Looks : {T : Type 0} → Arena → Seat T → Seat T → RowOutcome Running → Type 0
-Looks r s t (Goes N3 a) = GoesTo r s t N3 a
-Looks r s t (Goes N5 a) = GoesTo r s t N5 a
-Looks r s t (Goes l a) = ⊥
-Looks r s t (Ends reply) = Turns r s t 0 (turn_of (Ends reply))
+abbrev pub StandsAfterN2 : {T : Type 0} → Arena → Seat T → Seat T → RowOutcome Running → Type 0
+StandsAfterN2 r s t (Goes N3 a) = GoesTo r s t N3 a
+StandsAfterN2 r s t (Goes N5 a) = GoesTo r s t N5 a
+StandsAfterN2 r s t (Goes l a) = ⊥
+StandsAfterN2 r s t (Ends reply) = Turns r s t 0 (turn_of (Ends reply))
 
 -- a take after so many failed turns
 pub record Trying {T : Type 0} (r : Arena) (s t : Seat T) (n : ℕ) : Type 0 where

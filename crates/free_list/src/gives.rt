@@ -7,7 +7,7 @@ ghost use Rattle.node_arena.specs.Paths.{HadNoEffect, SeesNoMore, added};
 ghost use Rattle.line_table.specs.declared.lines.Line.TheVariants as lines;
 ghost use Rattle.node_arena.specs.Prologues.{continues};
 ghost use Rattle.free_list.specs.Runs.{CallIsAt, Follows, GoesTo, StartsGive, giving};
-ghost use Rattle.free_list.specs.Gives.{Sets, GiveTurns, GiveAnswers, IsGivenBack, GiveBackRefused};
+ghost use Rattle.free_list.specs.Gives.{StandsAfterF1, GiveTurns, GiveAnswers, IsGivenBack, GiveBackRefused};
 
 use crate::outcomes::{ActorOf, Gave, given, registers};
 use arena_lines::{RowOutcome, access, first_row, frees, frees_aside, goes, onward, row};
@@ -24,7 +24,7 @@ fn f1<const B: u32, T>(
     index: u32,
 ) -> RowOutcome<ActorOf<B>>
     requires stands { StartsGive arena.now seat.old (giving index) held }
-    ensures { Sets arena.now seat.old seat.new held result }
+    ensures { StandsAfterF1 arena.now seat.old seat.new held result }
 {
     let setup = arena.setup();
     let mut a = registers(arena, held.node, held.mark);

@@ -7,7 +7,7 @@ ghost use Rattle.node_arena.specs.Paths.{HadNoEffect, SeesNoMore, added};
 ghost use Rattle.line_table.specs.declared.lines.Line.TheVariants as lines;
 ghost use Rattle.node_arena.specs.Prologues.{continues};
 ghost use Rattle.free_list.specs.Runs.{CallIsAt, Follows, GoesTo, taking};
-ghost use Rattle.free_list.specs.Takes.{Looks, Turns, AnswersTake, IsTaken, TakeRefused, FailsFewer};
+ghost use Rattle.free_list.specs.Takes.{StandsAfterN2, Turns, AnswersTake, IsTaken, TakeRefused, FailsFewer};
 
 use crate::outcomes::{ActorOf, Turn, registers, turned};
 use arena_lines::{RowOutcome, Reply, access, ends, first_row, goes, onward, row, with_node, worn};
@@ -31,7 +31,7 @@ fn n2<const B: u32, T>(
     mut a: ActorOf<B>,
 ) -> RowOutcome<ActorOf<B>>
     requires stands { CallIsAt arena.now seat.old continues lines.N2 a }
-    ensures { Looks arena.now seat.old seat.new result }
+    ensures { StandsAfterN2 arena.now seat.old seat.new result }
 {
     let setup = arena.setup();
     line_table!(N2 (setup me a found) row (arena seat found))

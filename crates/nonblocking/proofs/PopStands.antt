@@ -58,7 +58,7 @@ module _ {T : Type 0} (r : Arena) (s t : Seat T) (prologue : Prologue) (n : ℕ)
   after_d4 h d = leads D4 d (out_at D4 d) refl D5 (record a { next = ref_of r.plan.setup.bits n }) refl (λ x. (h.knows.0, h.knows.1, sym (ref_d4 r s t prologue n d)))
 
   -- after D5: the turn goes on, in silence
-  pub record On (d : DidStep r s t prologue D5 n) (l : Line) (c : Running) : Type 0 where
+  pub record GoesOnAt (d : DidStep r s t prologue D5 n) (l : Line) (c : Running) : Type 0 where
     pub stands : CallIsAt r t continues l c
     pub same : c ≡ a
     pub quiet : (out_at D5 d).reply ≡ None
@@ -82,15 +82,15 @@ module _ {T : Type 0} (r : Arena) (s t : Seat T) (prologue : Prologue) (n : ℕ)
     pub empty : (view t).actor.pocket ≡ None
     pub replies : (out_at D5 d).reply ≡ Some (reply.Refused Closed)
 
-  abbrev pub Fifth : DidStep r s t prologue D5 n → RowOutcome Running → Type 0
-  Fifth d (Goes D2 c) = On d D2 c
-  Fifth d (Goes D10 c) = On d D10 c
-  Fifth d (Goes D12 c) = On d D12 c
-  Fifth d (Goes l c) = ⊥
-  Fifth d (Ends IsEmpty) = FoundNull d
-  Fifth d (Ends (IsRefused Closed)) = FoundShut d
-  Fifth d (Ends (IsRefused refusal)) = FoundWorn d refusal
-  Fifth d (Ends reply) = ⊥
+  abbrev pub AfterD5 : DidStep r s t prologue D5 n → RowOutcome Running → Type 0
+  AfterD5 d (Goes D2 c) = GoesOnAt d D2 c
+  AfterD5 d (Goes D10 c) = GoesOnAt d D10 c
+  AfterD5 d (Goes D12 c) = GoesOnAt d D12 c
+  AfterD5 d (Goes l c) = ⊥
+  AfterD5 d (Ends IsEmpty) = FoundNull d
+  AfterD5 d (Ends (IsRefused Closed)) = FoundShut d
+  AfterD5 d (Ends (IsRefused refusal)) = FoundWorn d refusal
+  AfterD5 d (Ends reply) = ⊥
 
   abbrev fifth_outcome : (now : ℕ) → (p q u c w : Bool) → Outcome
   fifth_outcome now p q u c w =
@@ -114,7 +114,7 @@ module _ {T : Type 0} (r : Arena) (s t : Seat T) (prologue : Prologue) (n : ℕ)
         (nat_eq (h.knows.1 i).count r.plan.setup.limit)) ∙
         (λ i. fifth_outcome (d.told.was.world.steps + 1) (e i) (f i) (g i) (m i) (k i))
 
-    pub after_d5 : Fifth d (fifth (same_ref (ref_of r.plan.setup.bits n) a.head) (nat_eq a.head.node a.tail.node) (is_null a.next)
+    pub after_d5 : AfterD5 d (fifth (same_ref (ref_of r.plan.setup.bits n) a.head) (nat_eq a.head.node a.tail.node) (is_null a.next)
         (is_shut r.plan.setup.bits a.next) (nat_eq a.tail.count r.plan.setup.limit))
     after_d5 = go (same_ref (ref_of r.plan.setup.bits n) a.head) (nat_eq a.head.node a.tail.node) (is_null a.next) (is_shut r.plan.setup.bits a.next)
         (nat_eq a.tail.count r.plan.setup.limit) refl refl refl refl refl
@@ -123,7 +123,7 @@ module _ {T : Type 0} (r : Arena) (s t : Seat T) (prologue : Prologue) (n : ℕ)
         now = d.told.was.world.steps + 1
 
         go : (p q u c w : Bool) → same_ref (ref_of r.plan.setup.bits n) a.head ≡ p → nat_eq a.head.node a.tail.node ≡ q → is_null a.next ≡ u
-            → is_shut r.plan.setup.bits a.next ≡ c → nat_eq a.tail.count r.plan.setup.limit ≡ w → Fifth d (fifth p q u c w)
+            → is_shut r.plan.setup.bits a.next ≡ c → nat_eq a.tail.count r.plan.setup.limit ≡ w → AfterD5 d (fifth p q u c w)
         go false q u c w e f g m k =
             let is = fifth_is false q u c w e f g m k in
             record { stands = leads D5 d (fifth_outcome now false q u c w) is D2 a refl (λ x. tt); same = refl; quiet = ap (λ x. x.reply) is }

@@ -31,10 +31,10 @@ use Rattle.arena_lines.specs.declared.outcomes.RowOutcome.TheVariants.{Goes, End
 use Rattle.arena_lines.specs.declared.outcomes.Reply.TheVariants.{Done as IsDone, Value as IsValue, Empty as IsEmpty, Refused as IsRefused}
 use Rattle.nonblocking.specs.declared.pop_outcomes.Turn.{Turn}
 use Rattle.nonblocking.specs.declared.pop_outcomes.Turn.TheVariants as turn
-use Rattle.nonblocking.specs.Pops.{Running, Stops, turn_of, CallIsAt, Follows, Fell, Looked, Looks, Turned, TurnMoves, Turns}
+use Rattle.nonblocking.specs.Pops.{Running, Stops, turn_of, CallIsAt, Follows, TurnFailed, FrontRead, ReadsFront, Turned, TurnMoves, Turns}
 use Rattle.arena_lines.proofs.Registers.{same_registers}
 use Rattle.nonblocking.proofs.FailedTurns.{turns_then, fails_last}
-use Rattle.nonblocking.proofs.PopStands.{stands_d2, after_d2, after_d3, after_d4, Fifth, after_d5, after_d10, never_d12, after_d12, Won, won_d13, Lost, lost_d13}
+use Rattle.nonblocking.proofs.PopStands.{stands_d2, after_d2, after_d3, after_d4, AfterD5, after_d5, after_d10, never_d12, after_d12, Won, won_d13, Lost, lost_d13}
 
 -- after D2, D3 and D4
 pub to_d3 : {T : Type 0} (r : Arena) (s t : Seat T) (prologue : Prologue) (l : Line) (a b : Running) → IsBefore r s prologue D2 → Follows r s t prologue D2 a (Goes l b) → CallIsAt r t continues D3 b
@@ -53,7 +53,7 @@ module _ {T : Type 0} (r : Arena) (s t x : Seat T) (l : Line) (n : ℕ) (d : Did
   abbrev last : Event
   last = event r t x continues l n d
 
-  fell : ExtendsPath (view t) (view x) (last ∷ []) → IsBefore r x continues D2 → Fell r s x (before ++ last ∷ [])
+  fell : ExtendsPath (view t) (view x) (last ∷ []) → IsBefore r x continues D2 → TurnFailed r s x (before ++ last ∷ [])
   fell walk h =
       record {
         before = h;
@@ -103,7 +103,7 @@ module _ {T : Type 0} (r : Arena) (s u t v x : Seat T) (prologue : Prologue) (a 
   counts : (o : Option Line) → (view x).actor.line ≡ o → failed_turns (reads ++ five ∷ []) ≡ failed_at D5 o
   counts o e = turns_then r v x D5 f5.found f5.did reads o e refl
 
-  stopped : (refusal : Refusal) → Fifth r v x continues f5.found d f5.did (Ends (IsRefused refusal)) → ((view x).actor.pocket ≡ None) × Stops r s x (reads ++ five ∷ []) refusal
+  stopped : (refusal : Refusal) → AfterD5 r v x continues f5.found d f5.did (Ends (IsRefused refusal)) → ((view x).actor.pocket ≡ None) × Stops r s x (reads ++ five ∷ []) refusal
   stopped Closed f = (
     f.empty,
     record {
@@ -124,7 +124,7 @@ module _ {T : Type 0} (r : Arena) (s u t v x : Seat T) (prologue : Prologue) (a 
     },
   )
 
-  by_outcome : (o : RowOutcome Running) → Fifth r v x continues f5.found d f5.did o → ((view x).actor.pocket ≡ None) × Looked r s x (reads ++ five ∷ []) o
+  by_outcome : (o : RowOutcome Running) → AfterD5 r v x continues f5.found d f5.did o → ((view x).actor.pocket ≡ None) × FrontRead r s x (reads ++ five ∷ []) o
   by_outcome (Goes D2 e) f = (empty_before r x continues D2 f.stands.before, fell r s v x D5 f5.found f5.did reads walked refl refl (five_walk None f.quiet refl) f.stands.before)
   by_outcome (Goes D10 e) f = (empty_before r x continues D10 f.stands.before, record { stands = f.stands; walks = on_walk None f.quiet refl; never = counts (Some D10) f.stands.before.line })
   by_outcome (Goes D12 e) f = (empty_before r x continues D12 f.stands.before, record { stands = f.stands; walks = on_walk None f.quiet refl; never = counts (Some D12) f.stands.before.line })
@@ -150,9 +150,9 @@ module _ {T : Type 0} (r : Arena) (s u t v x : Seat T) (prologue : Prologue) (a 
       )
   by_outcome (Ends (IsRefused refusal)) f = stopped refusal f
 
-  pub looks : Looks r s x out
+  pub looks : ReadsFront r s x out
   looks =
-      let all = by_outcome out (subst (Fifth r v x continues f5.found d f5.did) (sym f5.leads_to) (after_d5 r v x continues f5.found d at_d5 f5.did)) in
+      let all = by_outcome out (subst (AfterD5 r v x continues f5.found d f5.did) (sym f5.leads_to) (after_d5 r v x continues f5.found d at_d5 f5.did)) in
       record {
         seat = f5.did.seat;
         empty = all.0;

@@ -77,16 +77,16 @@ module _ {T : Type 0} (r : Arena) (s t : Seat T) (prologue : Prologue) (n : ℕ)
 
   -- E3: the node is ready, or its own next is worn out
   module _ (h : CallIsAt r s prologue E3 a) (d : DidStep r s t prologue E3 n) where
-    abbrev pub Third : RowOutcome Running → Type 0
-    Third (Goes E5 c) = CallIsAt r t continues E5 c × (c.node ≡ a.node) × (c.val ≡ a.val)
-    Third (Goes l c) = ⊥
-    Third (Ends (IsRefused refusal)) = Worn r s t prologue E3 n a h d None OfNext refusal
-    Third (Ends reply) = ⊥
+    abbrev pub AfterE3 : RowOutcome Running → Type 0
+    AfterE3 (Goes E5 c) = CallIsAt r t continues E5 c × (c.node ≡ a.node) × (c.val ≡ a.val)
+    AfterE3 (Goes l c) = ⊥
+    AfterE3 (Ends (IsRefused refusal)) = Worn r s t prologue E3 n a h d None OfNext refusal
+    AfterE3 (Ends reply) = ⊥
 
     abbrev third : ℕ → Ref → Bool → Outcome
     third now x p = let c = record b1 { mark = x.count } in if p then sets_aside (worn now OfNext c) else goes E5 c
 
-    pub after_e3 : Third (follow r.plan.setup a E3 n)
+    pub after_e3 : AfterE3 (follow r.plan.setup a E3 n)
     after_e3 = go (nat_eq (ref_of r.plan.setup.bits n).count r.plan.setup.limit) refl
       where
         o : (p : Bool) → nat_eq (ref_of r.plan.setup.bits n).count r.plan.setup.limit ≡ p
@@ -95,7 +95,7 @@ module _ {T : Type 0} (r : Arena) (s t : Seat T) (prologue : Prologue) (n : ℕ)
             (third (d.told.was.world.steps + 1) (ref_of r.plan.setup.bits n)) e
 
         go : (p : Bool) → nat_eq (ref_of r.plan.setup.bits n).count r.plan.setup.limit ≡ p
-            → Third (if p then Ends (IsRefused (WornOut OfNext)) else Goes E5 (record a { mark = (ref_of r.plan.setup.bits n).count }))
+            → AfterE3 (if p then Ends (IsRefused (WornOut OfNext)) else Goes E5 (record a { mark = (ref_of r.plan.setup.bits n).count }))
         go true e =
             let x = over E3 h (empty_before r s prologue E3 h.before) d (third (d.told.was.world.steps + 1) (ref_of r.plan.setup.bits n) true) (o true e) refl refl in
             record { over = x.0; pocket = x.1; is = refl; replies = ap (λ c. c.reply) (o true e) }
@@ -118,14 +118,14 @@ module _ {T : Type 0} (r : Arena) (s t : Seat T) (prologue : Prologue) (n : ℕ)
       pub pocket : (view t).actor.pocket ≡ Some (in_hand a)
       pub replies : (outcome_at r.plan.setup d.told.was (view s).number b1 E7).reply ≡ Some (reply.Refused Closed)
 
-    abbrev pub Seventh : RowOutcome Running → Type 0
-    Seventh (Goes E9 c) = CallIsAt r t continues E9 c × (c ≡ a) × Quiet
-    Seventh (Goes E13 c) = CallIsAt r t continues E13 c × (c ≡ a) × Quiet
-    Seventh (Goes E5 c) = CallIsAt r t continues E5 c × (c ≡ a) × Quiet
-    Seventh (Goes l c) = ⊥
-    Seventh (Ends (IsRefused Closed)) = Shut
-    Seventh (Ends (IsRefused refusal)) = Worn r s t prologue E7 n a h d (Some (in_hand a)) OfTail refusal × Quiet
-    Seventh (Ends reply) = ⊥
+    abbrev pub AfterE7 : RowOutcome Running → Type 0
+    AfterE7 (Goes E9 c) = CallIsAt r t continues E9 c × (c ≡ a) × Quiet
+    AfterE7 (Goes E13 c) = CallIsAt r t continues E13 c × (c ≡ a) × Quiet
+    AfterE7 (Goes E5 c) = CallIsAt r t continues E5 c × (c ≡ a) × Quiet
+    AfterE7 (Goes l c) = ⊥
+    AfterE7 (Ends (IsRefused Closed)) = Shut
+    AfterE7 (Ends (IsRefused refusal)) = Worn r s t prologue E7 n a h d (Some (in_hand a)) OfTail refusal × Quiet
+    AfterE7 (Ends reply) = ⊥
 
     abbrev seventh : ℕ → (p q c u : Bool) → Outcome
     seventh now p q c u = if p then if q then goes E9 b1 else if c then closed now (to_pocket b1) else if u then worn now OfTail (to_pocket b1) else goes E13 b1 else goes E5 b1
@@ -133,7 +133,7 @@ module _ {T : Type 0} (r : Arena) (s t : Seat T) (prologue : Prologue) (n : ℕ)
     abbrev leads_to : (p q c u : Bool) → RowOutcome Running
     leads_to p q c u = if p then if q then Goes E9 a else if c then Ends (IsRefused Closed) else if u then Ends (IsRefused (WornOut OfTail)) else Goes E13 a else Goes E5 a
 
-    pub after_e7 : Seventh (follow r.plan.setup a E7 n)
+    pub after_e7 : AfterE7 (follow r.plan.setup a E7 n)
     after_e7 = go (same_ref (ref_of r.plan.setup.bits n) a.tail) (is_null a.next) (is_shut r.plan.setup.bits a.next) (nat_eq a.tail.count r.plan.setup.limit) refl refl refl refl
       where
         now : ℕ
@@ -151,7 +151,7 @@ module _ {T : Type 0} (r : Arena) (s t : Seat T) (prologue : Prologue) (n : ℕ)
         on p q c u e quiet k line hand knows = (leads r s t prologue E7 n a h d (seventh now p q c u) e k a line hand knows, refl, subst (λ (m : Outcome). IsSilent m.reply) (sym e) quiet)
 
         go : (p q c u : Bool) → same_ref (ref_of r.plan.setup.bits n) a.tail ≡ p → is_null a.next ≡ q → is_shut r.plan.setup.bits a.next ≡ c
-            → nat_eq a.tail.count r.plan.setup.limit ≡ u → Seventh (leads_to p q c u)
+            → nat_eq a.tail.count r.plan.setup.limit ≡ u → AfterE7 (leads_to p q c u)
         go true true c u x y v w = on true true c u (o true true c u x y v w) tt E9 refl h.hand (λ z. h.knows)
         go true false true u x y v w =
             let e = o true false true u x y v w in
@@ -174,12 +174,12 @@ module _ {T : Type 0} (r : Arena) (s t : Seat T) (prologue : Prologue) (n : ℕ)
     abbrev Lost : Type 0
     Lost = entries_at r.plan.setup d.told.was (view s).number b1 E9 ≡ []
 
-    abbrev pub Ninth : RowOutcome Running → Type 0
-    Ninth (Goes E17 c) = CallIsAt r t continues E17 c × Won
-    Ninth (Goes E5 c) = CallIsAt r t continues E5 c × (c ≡ a) × Lost
-    Ninth (Goes l c) = ⊥
-    Ninth (Ends IsDone) = ((view t).actor.line ≡ None) × ((view t).actor.pocket ≡ None) × Won
-    Ninth (Ends reply) = ⊥
+    abbrev pub AfterE9 : RowOutcome Running → Type 0
+    AfterE9 (Goes E17 c) = CallIsAt r t continues E17 c × Won
+    AfterE9 (Goes E5 c) = CallIsAt r t continues E5 c × (c ≡ a) × Lost
+    AfterE9 (Goes l c) = ⊥
+    AfterE9 (Ends IsDone) = ((view t).actor.line ≡ None) × ((view t).actor.pocket ≡ None) × Won
+    AfterE9 (Ends reply) = ⊥
 
     abbrev ninth : ℕ → (p u : Bool) → Outcome
     ninth now p u =
@@ -189,7 +189,7 @@ module _ {T : Type 0} (r : Arena) (s t : Seat T) (prologue : Prologue) (n : ℕ)
     abbrev gone : (p u : Bool) → RowOutcome Running
     gone p u = if p then if u then Ends IsDone else Goes E17 (record a { due = Some IsDone }) else Goes E5 a
 
-    pub after_e9 : Ninth (follow r.plan.setup a E9 n)
+    pub after_e9 : AfterE9 (follow r.plan.setup a E9 n)
     after_e9 = go (same_ref (ref_of r.plan.setup.bits n) a.next) (nat_eq a.tail.count r.plan.setup.limit) refl refl
       where
         now : ℕ
@@ -204,7 +204,7 @@ module _ {T : Type 0} (r : Arena) (s t : Seat T) (prologue : Prologue) (n : ℕ)
         put : (p : Bool) → same_ref (ref_of r.plan.setup.bits n) a.next ≡ p → entries_at r.plan.setup d.told.was (view s).number b1 E9 ≡ (if p then Push (view s).number b1.val.body ∷ [] else [])
         put p x = ap (λ q. if q then Push (view s).number b1.val.body ∷ [] else []) (test p x)
 
-        go : (p u : Bool) → same_ref (ref_of r.plan.setup.bits n) a.next ≡ p → nat_eq a.tail.count r.plan.setup.limit ≡ u → Ninth (gone p u)
+        go : (p u : Bool) → same_ref (ref_of r.plan.setup.bits n) a.next ≡ p → nat_eq a.tail.count r.plan.setup.limit ≡ u → AfterE9 (gone p u)
         go true true x w = let k = over E9 h (empty_before r s prologue E9 h.before) d (ninth now true true) (o true true x w) refl refl in (k.0, k.1, put true x)
         go true false x w = (leads r s t prologue E9 n a h d (ninth now true false) (o true false x w) E17 (record a { due = Some IsDone }) refl h.hand (λ z. h.knows.0), put true x)
         go false u x w = (leads r s t prologue E9 n a h d (ninth now false u) (o false u x w) E5 a refl h.hand (λ z. tt), refl, put false x)

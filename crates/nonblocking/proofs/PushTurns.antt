@@ -29,10 +29,10 @@ use Rattle.arena_lines.specs.declared.outcomes.Reply.{Reply}
 use Rattle.arena_lines.specs.declared.outcomes.Reply.TheVariants.{Done as IsDone, Value as IsValue, Empty as IsEmpty, Refused as IsRefused}
 use Rattle.nonblocking.specs.declared.push_outcomes.Turn.{Turn}
 use Rattle.nonblocking.specs.declared.push_outcomes.Turn.TheVariants.{Pushed, Failed, Refused as TurnRefused}
-use Rattle.nonblocking.specs.Pushes.{Running, in_hand, follow, CallIsAt, Follows, Comes, Slipped, FoundWorn, SawShut, Stops, Filled, Fills, Looked, Looks, Turned, TurnMoves, Turns}
+use Rattle.nonblocking.specs.Pushes.{Running, in_hand, follow, CallIsAt, Follows, GoesOn, TurnFailed, FoundWorn, SawShut, Stops, Filled, Fills, TailRead, ReadsTail, Turned, TurnMoves, Turns}
 use Rattle.arena_lines.proofs.Registers.{same_registers}
 use Rattle.nonblocking.proofs.FailedTurns.{turns_then, fails_last}
-use Rattle.nonblocking.proofs.PushStands.{after_e2, after_e5, after_e6, after_e13, after_e17, Worn, Third, after_e3, Seventh, after_e7, Ninth, after_e9}
+use Rattle.nonblocking.proofs.PushStands.{after_e2, after_e5, after_e6, after_e13, after_e17, Worn, AfterE3, after_e3, AfterE7, after_e7, AfterE9, after_e9}
 
 -- after E2
 pub to_e3 : {T : Type 0} (r : Arena) (s t : Seat T) (prologue : Prologue) (l : Line) (a b : Running) → CallIsAt r s prologue E2 a
@@ -69,7 +69,7 @@ module _ {T : Type 0} (r : Arena) (s u t : Seat T) (prologue : Prologue) (l : Li
   at : CallIsAt r u continues E3 b × (b ≡ a)
   at = to_e3 r s u prologue l a b h f
 
-  filled : (o : RowOutcome Running) → Third r u t continues g.found b at.0 g.did o → Filled r s t a (one ∷ two ∷ []) o
+  filled : (o : RowOutcome Running) → AfterE3 r u t continues g.found b at.0 g.did o → Filled r s t a (one ∷ two ∷ []) o
   filled (Goes E5 c) k = (k.0, k.1 ∙ ap (λ (x : Running). x.node) at.1, k.2 ∙ ap (λ (x : Running). x.val) at.1, refl)
   filled (Goes _ c) k = absurd k
   filled (Ends IsDone) k = absurd k
@@ -112,7 +112,7 @@ stands_e5 r t a c hand val h =
 
 -- a line whose turn failed
 module _ {T : Type 0} (r : Arena) (s t : Seat T) (l : Line) (n : ℕ) (d : DidStep r s t continues l n) (before : List Event) (never : failed_turns before ≡ 0) (one : failed_at l (Some E5) ≡ 1) where
-  slips : (a : Running) → CallIsAt r t continues E5 a → Slipped r t a (before ++ event r s t continues l n d ∷ [])
+  slips : (a : Running) → CallIsAt r t continues E5 a → TurnFailed r t a (before ++ event r s t continues l n d ∷ [])
   slips a h =
       record {
         stands = h;
@@ -161,7 +161,7 @@ module _ {T : Type 0} (r : Arena) (s u v t : Seat T) (l k : Line) (a b c : Runni
       subst (λ p. FoundWorn r s t (Some p) (before ++ seven ∷ []) OfTail refusal) hand
       (found_worn r s v t E7 m.found c at7.0 m.did before two_lines (Some (in_hand c)) OfTail refusal (counts None y.over) y)
 
-  worn_or : (refusal : Refusal) → Seventh r v t continues m.found c at7.0 m.did (Ends (IsRefused refusal)) → Stops r s t a (before ++ seven ∷ []) refusal
+  worn_or : (refusal : Refusal) → AfterE7 r v t continues m.found c at7.0 m.did (Ends (IsRefused refusal)) → Stops r s t a (before ++ seven ∷ []) refusal
   worn_or Closed y =
       subst (λ p. SawShut r s t (Some p) (before ++ seven ∷ [])) hand
       (record {
@@ -174,7 +174,7 @@ module _ {T : Type 0} (r : Arena) (s u v t : Seat T) (l k : Line) (a b c : Runni
       })
   worn_or _ y = (three_lines y.1, worn_at _ y.0)
 
-  looked : (o : RowOutcome Running) → Seventh r v t continues m.found c at7.0 m.did o → Looked r s t a (before ++ seven ∷ []) o
+  looked : (o : RowOutcome Running) → AfterE7 r v t continues m.found c at7.0 m.did o → TailRead r s t a (before ++ seven ∷ []) o
   looked (Goes E9 x) y = (three_lines y.2, record { stands = y.0; hand = ap in_hand y.1 ∙ hand; val = ap (λ (z : Running). z.val) y.1 ∙ val; never = counts (Some E9) y.0.before.line })
   looked (Goes E13 x) y = (three_lines y.2, record { stands = y.0; hand = ap in_hand y.1 ∙ hand; val = ap (λ (z : Running). z.val) y.1 ∙ val; never = counts (Some E13) y.0.before.line })
   looked (Goes E5 x) y = (three_lines y.2, slips r v t E7 m.found m.did before refl refl a (stands_e5 r t a x (ap in_hand y.1 ∙ hand) (ap (λ (z : Running). z.val) y.1 ∙ val) y.0))
@@ -184,14 +184,14 @@ module _ {T : Type 0} (r : Arena) (s u v t : Seat T) (l k : Line) (a b c : Runni
   looked (Ends IsEmpty) y = absurd y
   looked (Ends (IsRefused refusal)) y = worn_or refusal y
 
-  pub looks : Looks r s t a out
+  pub looks : ReadsTail r s t a out
   looks =
       record {
         stored = then_stored s v t (then_stored s u v f.did.stored g.did.stored) m.did.stored;
         slots = then_slots s v t (then_slots s u v (quiet_slots r s u continues E5 f.found f.did refl)
             (quiet_slots r u v continues E6 g.found g.did refl)) (quiet_slots r v t continues E7 m.found m.did refl);
         lines = before ++ seven ∷ [];
-        looked = subst (Looked r s t a (before ++ seven ∷ [])) (sym m.leads_to) (looked (follow r.plan.setup c E7 m.found) (after_e7 r v t continues m.found c at7.0 m.did));
+        looked = subst (TailRead r s t a (before ++ seven ∷ [])) (sym m.leads_to) (looked (follow r.plan.setup c E7 m.found) (after_e7 r v t continues m.found c at7.0 m.did));
       }
 
 -- E9, and E17 where it is to be made
@@ -199,11 +199,11 @@ module _ {T : Type 0} (r : Arena) (s t : Seat T) (a : Running) (out : RowOutcome
   abbrev nine : Event
   nine = event r s t continues E9 f.found f.did
 
-  ninth : Ninth r s t continues f.found a h f.did out
-  ninth = subst (Ninth r s t continues f.found a h f.did) (sym f.leads_to) (after_e9 r s t continues f.found a h f.did)
+  ninth : AfterE9 r s t continues f.found a h f.did out
+  ninth = subst (AfterE9 r s t continues f.found a h f.did) (sym f.leads_to) (after_e9 r s t continues f.found a h f.did)
 
-  at_ninth : (o : RowOutcome Running) → out ≡ o → Ninth r s t continues f.found a h f.did o
-  at_ninth o e = subst (Ninth r s t continues f.found a h f.did) e ninth
+  at_ninth : (o : RowOutcome Running) → out ≡ o → AfterE9 r s t continues f.found a h f.did o
+  at_ninth o e = subst (AfterE9 r s t continues f.found a h f.did) e ninth
 
   acts : entries_at r.plan.setup f.did.told.was (view s).number (view s).actor E9 ≡ Push (view s).number (view s).actor.val.body ∷ []
       → Acts (view s) (view t) (Push (view s).number (value_of a.val).body) (nine ∷ [])
@@ -233,7 +233,7 @@ module _ {T : Type 0} (r : Arena) (s t : Seat T) (a : Running) (out : RowOutcome
   pub links_not : (l : Line) (b : Running) → out ≡ Goes l b → (l ≡ E17 → ⊥) → Turns r s t a Failed
   links_not l b e other = go l other (at_ninth (Goes l b) e)
     where
-      go : (l : Line) → (l ≡ E17 → ⊥) → Ninth r s t continues f.found a h f.did (Goes l b) → Turns r s t a Failed
+      go : (l : Line) → (l ≡ E17 → ⊥) → AfterE9 r s t continues f.found a h f.did (Goes l b) → Turns r s t a Failed
       go E17 other k = absurd (other refl)
       go E5 other k =
           record {
@@ -270,9 +270,9 @@ module _ {T : Type 0} (r : Arena) (s t : Seat T) (a : Running) (out : RowOutcome
       }
 
 -- a whole turn
-module _ {T : Type 0} (r : Arena) (s t : Seat T) (a : Running) (out : RowOutcome Running) (f : Looks r s t a out) where
-  looked_as : (o : RowOutcome Running) → out ≡ o → Looked r s t a f.lines o
-  looked_as o e = subst (Looked r s t a f.lines) e f.looked
+module _ {T : Type 0} (r : Arena) (s t : Seat T) (a : Running) (out : RowOutcome Running) (f : ReadsTail r s t a out) where
+  looked_as : (o : RowOutcome Running) → out ≡ o → TailRead r s t a f.lines o
+  looked_as o e = subst (TailRead r s t a f.lines) e f.looked
 
   -- it comes to E9
   pub turn_at_e9 : (l : Line) (c : Running) → out ≡ Goes l c → l ≡ E9 → CallIsAt r t continues E9 c
@@ -315,13 +315,13 @@ module _ {T : Type 0} (r : Arena) (s t : Seat T) (a : Running) (out : RowOutcome
         turned = go last g.turned;
       }
     where
-      both : ExtendsPath (view s) (view t) f.lines × Comes r t E9 a c f.lines
+      both : ExtendsPath (view s) (view t) f.lines × GoesOn r t E9 a c f.lines
       both = looked_as (Goes E9 c) (e ∙ ap (λ k. Goes k c) is)
 
       walks : ExtendsPath (view s) (view t) f.lines
       walks = both.0
 
-      k : Comes r t E9 a c f.lines
+      k : GoesOn r t E9 a c f.lines
       k = both.1
 
       body : (value_of c.val).body ≡ (value_of a.val).body

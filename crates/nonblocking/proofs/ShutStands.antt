@@ -71,14 +71,14 @@ module _ {T : Type 0} (r : Arena) (s t : Seat T) (prologue : Prologue) (n : ℕ)
       pub pocket : HasPocket r t continues
       pub replies : (out_at S3 d).reply ≡ Some (reply.Refused refusal)
 
-    abbrev pub Third : RowOutcome Running → Type 0
-    Third (Goes S1 c) = CallIsAt r t continues S1 c × Quiet
-    Third (Goes S4 c) = CallIsAt r t continues S4 c × Quiet
-    Third (Goes S5 c) = CallIsAt r t continues S5 c × Quiet
-    Third (Goes l c) = ⊥
-    Third (Ends (IsRefused Closed)) = Stopped Closed
-    Third (Ends (IsRefused refusal)) = Stopped (WornOut OfTail) × (refusal ≡ WornOut OfTail)
-    Third (Ends reply) = ⊥
+    abbrev pub AfterS3 : RowOutcome Running → Type 0
+    AfterS3 (Goes S1 c) = CallIsAt r t continues S1 c × Quiet
+    AfterS3 (Goes S4 c) = CallIsAt r t continues S4 c × Quiet
+    AfterS3 (Goes S5 c) = CallIsAt r t continues S5 c × Quiet
+    AfterS3 (Goes l c) = ⊥
+    AfterS3 (Ends (IsRefused Closed)) = Stopped Closed
+    AfterS3 (Ends (IsRefused refusal)) = Stopped (WornOut OfTail) × (refusal ≡ WornOut OfTail)
+    AfterS3 (Ends reply) = ⊥
 
     abbrev third : ℕ → (p q c u : Bool) → Outcome
     third now p q c u = if p then if q then goes S4 b else if c then closed now b else if u then worn now OfTail b else goes S5 b else goes S1 b
@@ -86,7 +86,7 @@ module _ {T : Type 0} (r : Arena) (s t : Seat T) (prologue : Prologue) (n : ℕ)
     abbrev leads_to : (p q c u : Bool) → RowOutcome Running
     leads_to p q c u = if p then if q then Goes S4 a else if c then Ends (IsRefused Closed) else if u then Ends (IsRefused (WornOut OfTail)) else Goes S5 a else Goes S1 a
 
-    pub after_s3 : Third (follow r.plan.setup a S3 n)
+    pub after_s3 : AfterS3 (follow r.plan.setup a S3 n)
     after_s3 = go (same_ref (ref_of r.plan.setup.bits n) a.tail) (is_null a.next) (is_shut r.plan.setup.bits a.next) (nat_eq a.tail.count r.plan.setup.limit) refl refl refl refl
       where
         now : ℕ
@@ -108,7 +108,7 @@ module _ {T : Type 0} (r : Arena) (s t : Seat T) (prologue : Prologue) (n : ℕ)
             { over = k.0; pocket = k.1; replies = ap (λ (m : Outcome). m.reply) e ∙ replies }
 
         go : (p q c u : Bool) → same_ref (ref_of r.plan.setup.bits n) a.tail ≡ p → is_null a.next ≡ q → is_shut r.plan.setup.bits a.next ≡ c
-            → nat_eq a.tail.count r.plan.setup.limit ≡ u → Third (leads_to p q c u)
+            → nat_eq a.tail.count r.plan.setup.limit ≡ u → AfterS3 (leads_to p q c u)
         go true true c u x y v w = on true true c u (o true true c u x y v w) tt S4 refl refl (λ z. h.knows)
         go true false true u x y v w = stops true false true u Closed (o true false true u x y v w) refl refl refl
         go true false false true x y v w = (stops true false false true (WornOut OfTail) (o true false false true x y v w) refl refl refl, refl)
@@ -123,16 +123,16 @@ module _ {T : Type 0} (r : Arena) (s t : Seat T) (prologue : Prologue) (n : ℕ)
     abbrev Lost : Type 0
     Lost = entries_at r.plan.setup d.told.was (view s).number b S4 ≡ []
 
-    abbrev pub Fourth : RowOutcome Running → Type 0
-    Fourth (Goes S1 c) = CallIsAt r t continues S1 c × Lost
-    Fourth (Goes l c) = ⊥
-    Fourth (Ends IsDone) = ((view t).actor.line ≡ None) × HasPocket r t continues × Won
-    Fourth (Ends reply) = ⊥
+    abbrev pub AfterS4 : RowOutcome Running → Type 0
+    AfterS4 (Goes S1 c) = CallIsAt r t continues S1 c × Lost
+    AfterS4 (Goes l c) = ⊥
+    AfterS4 (Ends IsDone) = ((view t).actor.line ≡ None) × HasPocket r t continues × Won
+    AfterS4 (Ends reply) = ⊥
 
     abbrev fourth : ℕ → Bool → Outcome
     fourth now p = if p then record (ends now reply.Done b) { at = Some now } else goes S1 b
 
-    pub after_s4 : Fourth (follow r.plan.setup a S4 n)
+    pub after_s4 : AfterS4 (follow r.plan.setup a S4 n)
     after_s4 = go (same_ref (ref_of r.plan.setup.bits n) a.next) refl
       where
         now : ℕ
@@ -144,6 +144,6 @@ module _ {T : Type 0} (r : Arena) (s t : Seat T) (prologue : Prologue) (n : ℕ)
         put : (p : Bool) → same_ref (ref_of r.plan.setup.bits n) a.next ≡ p → entries_at r.plan.setup d.told.was (view s).number b S4 ≡ (if p then entry.Shut (view s).number ∷ [] else [])
         put p x = ap (λ q. if q then entry.Shut (view s).number ∷ [] else []) (test p x)
 
-        go : (p : Bool) → same_ref (ref_of r.plan.setup.bits n) a.next ≡ p → Fourth (if p then Ends IsDone else Goes S1 a)
+        go : (p : Bool) → same_ref (ref_of r.plan.setup.bits n) a.next ≡ p → AfterS4 (if p then Ends IsDone else Goes S1 a)
         go true x = let k = over S4 h d (fourth now true) (ap (fourth now) (test true x)) refl refl in (k.0, k.1, put true x)
         go false x = (leads S4 h d (fourth now false) (ap (fourth now) (test false x)) S1 a refl refl (λ z. tt), put false x)

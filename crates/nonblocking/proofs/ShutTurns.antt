@@ -24,9 +24,9 @@ use Rattle.arena_lines.specs.declared.outcomes.Reply.TheVariants.{Done as IsDone
 use Rattle.arena_lines.proofs.Registers.{same_registers}
 use Rattle.nonblocking.specs.declared.shut_outcomes.Turn.{Turn}
 use Rattle.nonblocking.specs.declared.shut_outcomes.Turn.TheVariants as turn
-use Rattle.nonblocking.specs.Shuts.{Running, turn_of, HasPocket, CallIsAt, Follows, Stops, Looked, Looks, Turned, Turns}
+use Rattle.nonblocking.specs.Shuts.{Running, turn_of, HasPocket, CallIsAt, Follows, Stops, EndRead, ReadsEnd, Turned, Turns}
 use Rattle.nonblocking.proofs.FailedTurns.{turns_then, fails_last}
-use Rattle.nonblocking.proofs.ShutStands.{after_s1, after_s2, after_s5, Third, after_s3, Fourth, after_s4}
+use Rattle.nonblocking.proofs.ShutStands.{after_s1, after_s2, after_s5, AfterS3, after_s3, AfterS4, after_s4}
 
 -- after S1 and S2
 pub to_s2 : {T : Type 0} (r : Arena) (s t : Seat T) (prologue : Prologue) (l : Line) (a b : Running) → CallIsAt r s prologue S1 a → Follows r s t prologue S1 a (Goes l b) → CallIsAt r t continues S2 b
@@ -64,7 +64,7 @@ module _ {T : Type 0} (r : Arena) (s u v t : Seat T) (prologue : Prologue) (l k 
   three_lines : IsSilent (outcome_at r.plan.setup m.did.told.was (view v).number (view v).actor S3).reply → ExtendsPath (view s) (view t) (before ++ three ∷ [])
   three_lines quiet = walk_then (view s) (view v) (view t) before (three ∷ []) two_lines (walk_silent r v t continues S3 m.found m.did refl quiet)
 
-  stopped : (refusal : Refusal) → Third r v t continues m.found c at_s3 m.did (Ends (IsRefused refusal)) → HasPocket r t continues × Stops r s t (before ++ three ∷ []) refusal
+  stopped : (refusal : Refusal) → AfterS3 r v t continues m.found c at_s3 m.did (Ends (IsRefused refusal)) → HasPocket r t continues × Stops r s t (before ++ three ∷ []) refusal
   stopped Closed y = (
     y.pocket,
     record {
@@ -85,7 +85,7 @@ module _ {T : Type 0} (r : Arena) (s u v t : Seat T) (prologue : Prologue) (l k 
     },
   )
 
-  by_outcome : (o : RowOutcome Running) → Third r v t continues m.found c at_s3 m.did o → HasPocket r t continues × Looked r s t (before ++ three ∷ []) o
+  by_outcome : (o : RowOutcome Running) → AfterS3 r v t continues m.found c at_s3 m.did o → HasPocket r t continues × EndRead r s t (before ++ three ∷ []) o
   by_outcome (Goes S1 x) y = (
     y.0.pocket,
     record {
@@ -103,9 +103,9 @@ module _ {T : Type 0} (r : Arena) (s u v t : Seat T) (prologue : Prologue) (l k 
   by_outcome (Ends IsEmpty) y = absurd y
   by_outcome (Ends (IsRefused refusal)) y = stopped refusal y
 
-  pub looks : Looks r s t out
+  pub looks : ReadsEnd r s t out
   looks =
-      let all = by_outcome out (subst (Third r v t continues m.found c at_s3 m.did) (sym m.leads_to) (after_s3 r v t continues m.found c at_s3 m.did)) in
+      let all = by_outcome out (subst (AfterS3 r v t continues m.found c at_s3 m.did) (sym m.leads_to) (after_s3 r v t continues m.found c at_s3 m.did)) in
       record {
         seat = m.did.seat;
         pocket = all.0;
@@ -121,7 +121,7 @@ module _ {T : Type 0} (r : Arena) (s t : Seat T) (a : Running) (out : RowOutcome
   abbrev four : Event
   four = event r s t continues S4 f.found f.did
 
-  ended : (o : RowOutcome Running) → Fourth r s t continues f.found a h f.did o → HasPocket r t continues × Turned r s t (four ∷ []) (turn_of o)
+  ended : (o : RowOutcome Running) → AfterS4 r s t continues f.found a h f.did o → HasPocket r t continues × Turned r s t (four ∷ []) (turn_of o)
   ended (Goes S1 x) y = (
     y.0.pocket,
     record {
@@ -146,7 +146,7 @@ module _ {T : Type 0} (r : Arena) (s t : Seat T) (a : Running) (out : RowOutcome
 
   pub puts_end : Turns r s t (turn_of out)
   puts_end =
-      let all = ended out (subst (Fourth r s t continues f.found a h f.did) (sym f.leads_to) (after_s4 r s t continues f.found a h f.did)) in
+      let all = ended out (subst (AfterS4 r s t continues f.found a h f.did) (sym f.leads_to) (after_s4 r s t continues f.found a h f.did)) in
       record { seat = f.did.seat; pocket = all.0; stored = f.did.stored; slots = shut_slots r s t continues S4 f.found f.did (view s).number _ refl; lines = four ∷ []; turned = all.1 }
 
 -- Tail is swung on, and the turn failed

@@ -112,7 +112,7 @@ pub record Took {T : Type 0} (r : Arena) (s t : Seat T) (es : List Event) (word 
   pub never : failed_turns es ≡ 0
 
 -- a turn that failed
-pub record Fell {T : Type 0} (r : Arena) (s t : Seat T) (es : List Event) : Type 0 where
+pub record TurnFailed {T : Type 0} (r : Arena) (s t : Seat T) (es : List Event) : Type 0 where
   pub before : IsBefore r t continues D2
   pub walks : ExtendsPath (view s) (view t) es
   pub once : failed_turns es ≡ 1
@@ -152,28 +152,28 @@ pub record GoesOn {T : Type 0} (r : Arena) (s t : Seat T) (es : List Event) (l :
   pub never : failed_turns es ≡ 0
 
 -- what the lines D2 to D5 come to
-abbrev pub Looked : {T : Type 0} → Arena → Seat T → Seat T → List Event → RowOutcome Running → Type 0
-Looked r s t es (Goes D2 a) = Fell r s t es
-Looked r s t es (Goes D10 a) = GoesOn r s t es D10 a
-Looked r s t es (Goes D12 a) = GoesOn r s t es D12 a
-Looked r s t es (Goes l a) = ⊥
-Looked r s t es (Ends IsEmpty) = SawEmpty s t es
-Looked r s t es (Ends (IsRefused refusal)) = Stops r s t es refusal
-Looked r s t es (Ends reply) = ⊥
+abbrev pub FrontRead : {T : Type 0} → Arena → Seat T → Seat T → List Event → RowOutcome Running → Type 0
+FrontRead r s t es (Goes D2 a) = TurnFailed r s t es
+FrontRead r s t es (Goes D10 a) = GoesOn r s t es D10 a
+FrontRead r s t es (Goes D12 a) = GoesOn r s t es D12 a
+FrontRead r s t es (Goes l a) = ⊥
+FrontRead r s t es (Ends IsEmpty) = SawEmpty s t es
+FrontRead r s t es (Ends (IsRefused refusal)) = Stops r s t es refusal
+FrontRead r s t es (Ends reply) = ⊥
 
 -- the lines D2 to D5
-pub record Looks {T : Type 0} (r : Arena) (s t : Seat T) (out : RowOutcome Running) : Type 0 where
+pub record ReadsFront {T : Type 0} (r : Arena) (s t : Seat T) (out : RowOutcome Running) : Type 0 where
   pub seat : IsSeat r t
   pub empty : (view t).actor.pocket ≡ None
   pub stored : KeepsStored s t
   pub slots : KeepsSlots s t
   pub lines : List Event
-  pub looked : Looked r s t lines out
+  pub looked : FrontRead r s t lines out
 
 -- what the lines of a turn come to
 abbrev pub Turned : {T : Type 0} → Arena → Seat T → Seat T → List Event → Turn → Type 0
 Turned r s t es (turn.Took word h) = Took r s t es word h
-Turned r s t es turn.Failed = Fell r s t es
+Turned r s t es turn.Failed = TurnFailed r s t es
 Turned r s t es turn.Empty = SawEmpty s t es
 Turned r s t es (turn.Refused refusal) = Stops r s t es refusal
 

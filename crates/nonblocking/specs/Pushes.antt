@@ -97,14 +97,14 @@ pub record Follows {T : Type 0} (r : Arena) (s t : Seat T) (prologue : Prologue)
   pub leads_to : out ≡ follow r.plan.setup a l found
 
 -- a push stands before a line with the same node, mark and value, and no turn failed
-pub record Comes {T : Type 0} (r : Arena) (t : Seat T) (l : Line) (a c : Running) (es : List Event) : Type 0 where
+pub record GoesOn {T : Type 0} (r : Arena) (t : Seat T) (l : Line) (a c : Running) (es : List Event) : Type 0 where
   pub stands : CallIsAt r t continues l c
   pub hand : in_hand c ≡ in_hand a
   pub val : c.val ≡ a.val
   pub never : failed_turns es ≡ 0
 
 -- a turn failed
-pub record Slipped {T : Type 0} (r : Arena) (t : Seat T) (a : Running) (es : List Event) : Type 0 where
+pub record TurnFailed {T : Type 0} (r : Arena) (t : Seat T) (a : Running) (es : List Event) : Type 0 where
   pub stands : CallIsAt r t continues E5 a
   pub once : failed_turns es ≡ 1
   pub last : FailedAt es
@@ -156,25 +156,25 @@ pub record Fills {T : Type 0} (r : Arena) (s t : Seat T) (a : Running) (out : Ro
   pub filled : Filled r s t a lines out
 
 -- what E5 to E7 come to
-abbrev pub Looked : {T : Type 0} → Arena → Seat T → Seat T → Running → List Event → RowOutcome Running → Type 0
-Looked r s t a es (Goes E9 c) = ExtendsPath (view s) (view t) es × Comes r t E9 a c es
-Looked r s t a es (Goes E13 c) = ExtendsPath (view s) (view t) es × Comes r t E13 a c es
-Looked r s t a es (Goes E5 c) = ExtendsPath (view s) (view t) es × Slipped r t a es
-Looked r s t a es (Goes l c) = ⊥
-Looked r s t a es (Ends (IsRefused refusal)) = Stops r s t a es refusal
-Looked r s t a es (Ends reply) = ⊥
+abbrev pub TailRead : {T : Type 0} → Arena → Seat T → Seat T → Running → List Event → RowOutcome Running → Type 0
+TailRead r s t a es (Goes E9 c) = ExtendsPath (view s) (view t) es × GoesOn r t E9 a c es
+TailRead r s t a es (Goes E13 c) = ExtendsPath (view s) (view t) es × GoesOn r t E13 a c es
+TailRead r s t a es (Goes E5 c) = ExtendsPath (view s) (view t) es × TurnFailed r t a es
+TailRead r s t a es (Goes l c) = ⊥
+TailRead r s t a es (Ends (IsRefused refusal)) = Stops r s t a es refusal
+TailRead r s t a es (Ends reply) = ⊥
 
 -- Tail was read, and what follows its node: E5 to E7
-pub record Looks {T : Type 0} (r : Arena) (s t : Seat T) (a : Running) (out : RowOutcome Running) : Type 0 where
+pub record ReadsTail {T : Type 0} (r : Arena) (s t : Seat T) (a : Running) (out : RowOutcome Running) : Type 0 where
   pub stored : KeepsStored s t
   pub slots : KeepsSlots s t
   pub lines : List Event
-  pub looked : Looked r s t a lines out
+  pub looked : TailRead r s t a lines out
 
 -- what a turn comes to
 abbrev pub Turned : {T : Type 0} → Arena → Seat T → Seat T → Running → List Event → Turn → Type 0
 Turned r s t a es Pushed = Linked r s t a es
-Turned r s t a es Failed = ExtendsPath (view s) (view t) es × Slipped r t a es
+Turned r s t a es Failed = ExtendsPath (view s) (view t) es × TurnFailed r t a es
 Turned r s t a es (TurnRefused refusal) = Stops r s t a es refusal
 
 -- the turn that pushes gives the slot that is out with the seat, and else those that are out are those that were

@@ -85,7 +85,7 @@ pub record HasShut {T : Type 0} (s t : Seat T) (es : List Event) : Type 0 where
   pub never : failed_turns es ≡ 0
 
 -- a turn that failed
-pub record Fell {T : Type 0} (r : Arena) (s t : Seat T) (es : List Event) : Type 0 where
+pub record TurnFailed {T : Type 0} (r : Arena) (s t : Seat T) (es : List Event) : Type 0 where
   pub before : IsBefore r t continues S1
   pub walks : ExtendsPath (view s) (view t) es
   pub once : failed_turns es ≡ 1
@@ -118,27 +118,27 @@ pub record GoesOn {T : Type 0} (r : Arena) (s t : Seat T) (es : List Event) (l :
   pub never : failed_turns es ≡ 0
 
 -- what the lines S1 to S3 come to
-abbrev pub Looked : {T : Type 0} → Arena → Seat T → Seat T → List Event → RowOutcome Running → Type 0
-Looked r s t es (Goes S1 a) = Fell r s t es
-Looked r s t es (Goes S4 a) = GoesOn r s t es S4 a
-Looked r s t es (Goes S5 a) = GoesOn r s t es S5 a
-Looked r s t es (Goes l a) = ⊥
-Looked r s t es (Ends (IsRefused refusal)) = Stops r s t es refusal
-Looked r s t es (Ends reply) = ⊥
+abbrev pub EndRead : {T : Type 0} → Arena → Seat T → Seat T → List Event → RowOutcome Running → Type 0
+EndRead r s t es (Goes S1 a) = TurnFailed r s t es
+EndRead r s t es (Goes S4 a) = GoesOn r s t es S4 a
+EndRead r s t es (Goes S5 a) = GoesOn r s t es S5 a
+EndRead r s t es (Goes l a) = ⊥
+EndRead r s t es (Ends (IsRefused refusal)) = Stops r s t es refusal
+EndRead r s t es (Ends reply) = ⊥
 
 -- the lines S1 to S3
-pub record Looks {T : Type 0} (r : Arena) (s t : Seat T) (out : RowOutcome Running) : Type 0 where
+pub record ReadsEnd {T : Type 0} (r : Arena) (s t : Seat T) (out : RowOutcome Running) : Type 0 where
   pub seat : IsSeat r t
   pub pocket : HasPocket r t continues
   pub stored : KeepsStored s t
   pub slots : KeepsSlots s t
   pub lines : List Event
-  pub looked : Looked r s t lines out
+  pub looked : EndRead r s t lines out
 
 -- what the lines of a turn come to
 abbrev pub Turned : {T : Type 0} → Arena → Seat T → Seat T → List Event → Turn → Type 0
 Turned r s t es turn.Shut = HasShut s t es
-Turned r s t es turn.Failed = Fell r s t es
+Turned r s t es turn.Failed = TurnFailed r s t es
 Turned r s t es (turn.Refused refusal) = Stops r s t es refusal
 
 -- lines of a turn, to its end

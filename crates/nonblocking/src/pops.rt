@@ -5,7 +5,7 @@ ghost use Rattle.node_arena.specs.Prologues.{continues};
 ghost use Rattle.node_arena.specs.Plans.{may_pop};
 ghost use Rattle.node_arena.specs.Seats.{IsReady, IsBefore, role_of, pocket_of};
 ghost use Rattle.nonblocking.specs.Values.{IsNonBlocking};
-ghost use Rattle.nonblocking.specs.Pops.{popping, CallIsAt, Looks, Turns, Tries};
+ghost use Rattle.nonblocking.specs.Pops.{popping, CallIsAt, ReadsFront, Turns, Tries};
 ghost use Rattle.nonblocking.specs.Worn.{pop_worn};
 ghost use Rattle.arena_queue.specs.Answers.{PopsWithoutNode};
 
@@ -25,7 +25,7 @@ fn read_front<const B: u32, T>(
 ) -> RowOutcome<ActorOf<B>>
     requires before { IsBefore arena.now seat.old (popping index) lines.D2 }
     requires non_blocking { IsNonBlocking arena.now }
-    ensures { Looks arena.now seat.old seat.new result }
+    ensures { ReadsFront arena.now seat.old seat.new result }
 {
     let a = d2(arena, seat, blank(arena), index);
     let a = d3(arena, seat, a);

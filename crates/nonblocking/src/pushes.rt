@@ -7,7 +7,7 @@ ghost use Rattle.node_arena.specs.Loads.{IsLoaded};
 ghost use Rattle.node_arena.specs.Seats.{IsReady, role_of, pocket_of};
 ghost use Rattle.nonblocking.specs.Values.{IsNonBlocking};
 ghost use Rattle.node_arena.specs.Machine.{value_of};
-ghost use Rattle.nonblocking.specs.Pushes.{pushing, registers_of, CallIsAt, Fills, Looks, Turns};
+ghost use Rattle.nonblocking.specs.Pushes.{pushing, registers_of, CallIsAt, Fills, ReadsTail, Turns};
 ghost use Rattle.nonblocking.specs.Worn.{push_worn};
 ghost use Rattle.arena_queue.specs.Answers.{PushesWithNode};
 
@@ -38,7 +38,7 @@ fn read_tail<const B: u32, T>(
     a: ActorOf<B>,
 ) -> RowOutcome<ActorOf<B>>
     requires stands { CallIsAt arena.now seat.old continues lines.E5 a }
-    ensures { Looks arena.now seat.old seat.new a.entry result }
+    ensures { ReadsTail arena.now seat.old seat.new a.entry result }
 {
     let a = e5(arena, seat, a);
     let a = e6(arena, seat, a);

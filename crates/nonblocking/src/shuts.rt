@@ -4,7 +4,7 @@ ghost use Rattle.line_table.specs.declared.lines.Line.TheVariants as lines;
 ghost use Rattle.node_arena.specs.Plans.{may_push};
 ghost use Rattle.node_arena.specs.Seats.{IsReady, IsBefore, role_of};
 ghost use Rattle.nonblocking.specs.Values.{IsNonBlocking};
-ghost use Rattle.nonblocking.specs.Shuts.{shutting, HasPocket, Looks, Turns};
+ghost use Rattle.nonblocking.specs.Shuts.{shutting, HasPocket, ReadsEnd, Turns};
 ghost use Rattle.nonblocking.specs.Worn.{shut_worn};
 ghost use Rattle.arena_queue.specs.Answers.{AnswersShut};
 
@@ -23,7 +23,7 @@ fn read_end<const B: u32, T>(
 ) -> RowOutcome<ActorOf<B>>
     requires before { IsBefore arena.now seat.old (shutting index) lines.S1 }
     requires pocket { HasPocket arena.now seat.old (shutting index) }
-    ensures { Looks arena.now seat.old seat.new result }
+    ensures { ReadsEnd arena.now seat.old seat.new result }
 {
     let a = s1(arena, seat, blank(arena), index);
     let a = s2(arena, seat, a);

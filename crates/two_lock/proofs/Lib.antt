@@ -3,7 +3,7 @@ pub mod PushStands
 pub mod PushTries
 pub mod PopSteps
 pub mod PopStands
-pub mod Fronts
+pub mod UnderLock
 pub mod PopCalls
 pub mod ShutStands
 pub mod ShutTries

@@ -26,7 +26,7 @@ use Rattle.arena_lines.specs.declared.outcomes.RowOutcome.{RowOutcome}
 use Rattle.arena_lines.specs.declared.outcomes.RowOutcome.TheVariants.{Goes, Ends}
 use Rattle.arena_lines.specs.declared.outcomes.Reply.{Reply}
 use Rattle.arena_lines.specs.declared.outcomes.Reply.TheVariants.{Done as IsDone, Value as IsValue, Empty as IsEmpty, Refused as IsRefused}
-use Rattle.two_lock.specs.Pops.{Running, popping, has_lock, Follows, Fronts, Trying}
+use Rattle.two_lock.specs.Pops.{Running, popping, has_lock, Follows, PopsUnderLock, Trying}
 use Rattle.two_lock.specs.Worn.{pop_worn}
 use Rattle.arena_queue.specs.Answers.{PopsWithoutNode}
 use Rattle.arena_queue.proofs.Pops.{draws_late, draws_worn, draws_shut, draws_taken, draws_kept, draws_empty}
@@ -116,27 +116,27 @@ pop_gives_up r s t spent turns (suc m) some all g =
 
 -- what the lines under the lock came to ends the pop
 module _ {T : Type 0} (r : Arena) (s t : Seat T) (failed turns : ℕ) where
-  pub pop_worn_out : (refusal : Refusal) → Fronts r s t (Ends (IsRefused refusal)) → PopsWithoutNode pop_worn r s (keeping t None failed) failed turns (Err refusal)
+  pub pop_worn_out : (refusal : Refusal) → PopsUnderLock r s t (Ends (IsRefused refusal)) → PopsWithoutNode pop_worn r s (keeping t None failed) failed turns (Err refusal)
   pop_worn_out Closed f = let k = f.fronted in draws_shut pop_worn r s t failed turns f.lines f.seat k.over f.empty f.stored f.slots k.finds k.cause
   pop_worn_out _ f = let k = f.fronted in draws_worn pop_worn r s t _ OfHead failed turns f.lines f.seat k.over f.empty f.stored f.slots k.walks k.is k.cause tt
 
   pub pop_took : (x : Seat T) (l : Line) (a : Running) (h : Held) (out : Result (Unit {0}) Refusal) → keeps_of t ≡ false → failed < turns
-      → Fronts r s t (Goes l a) → GiveAnswers r (keeping t (Some h) failed) x (turns - failed) out
+      → PopsUnderLock r s t (Goes l a) → GiveAnswers r (keeping t (Some h) failed) x (turns - failed) out
       → PopsWithoutNode pop_worn r s x failed turns (Ok (Some (value_of a.val)))
   pop_took x l a h out keeps less f g = draws_taken pop_worn r s t x a.val h failed turns out f.lines (sym f.stored.keeps ∙ keeps) less f.seat f.stored f.slots f.fronted.acts f.never g
 
   pub pop_kept : (l : Line) (a : Running) (h : Held) → h ≡ record { node = a.node; mark = a.mark } → keeps_of t ≡ true → failed < turns
-      → Fronts r s t (Goes l a) → PopsWithoutNode pop_worn r s (keeping t (Some h) failed) failed turns (Ok (Some (value_of a.val)))
+      → PopsUnderLock r s t (Goes l a) → PopsWithoutNode pop_worn r s (keeping t (Some h) failed) failed turns (Ok (Some (value_of a.val)))
   pop_kept l a h is keeps less f =
       let k = f.fronted in
       draws_kept pop_worn r s t a.val h failed turns f.lines (sym f.stored.keeps ∙ keeps) less f.seat f.stored f.slots
       (record { over = k.over; due = k.due; node = k.node ∙ sym (ap (λ x. x.node) is); mark = k.mark ∙ sym (ap (λ x. x.mark) is) }) k.acts f.never
 
-  pop_empty : failed < turns → Fronts r s t (Ends IsEmpty) → PopsWithoutNode pop_worn r s (keeping t None failed) failed turns (Ok None)
+  pop_empty : failed < turns → PopsUnderLock r s t (Ends IsEmpty) → PopsWithoutNode pop_worn r s (keeping t None failed) failed turns (Ok None)
   pop_empty less f = let k = f.fronted in draws_empty pop_worn r s t failed turns f.lines less f.seat k.over f.empty f.stored f.slots k.path f.never k.found
 
   -- a pop that ends without a refusal found the queue empty
-  pub pop_ended : (answer : Reply) → ((refusal : Refusal) → answer ≡ IsRefused refusal → ⊥) → failed < turns → Fronts r s t (Ends answer)
+  pub pop_ended : (answer : Reply) → ((refusal : Refusal) → answer ≡ IsRefused refusal → ⊥) → failed < turns → PopsUnderLock r s t (Ends answer)
       → PopsWithoutNode pop_worn r s (keeping t None failed) failed turns (Ok None)
   pop_ended IsEmpty other less f = pop_empty less f
   pop_ended (IsRefused refusal) other less f = absurd (other refusal refl)

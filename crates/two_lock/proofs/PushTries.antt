@@ -28,7 +28,7 @@ use Rattle.node_arena.specs.Machine.{value_of}
 use Rattle.arena_lines.specs.declared.outcomes.RowOutcome.{RowOutcome}
 use Rattle.arena_lines.specs.declared.outcomes.RowOutcome.TheVariants.{Goes}
 use Rattle.arena_lines.specs.declared.outcomes.Reply.TheVariants.{Done, Refused as IsRefused}
-use Rattle.two_lock.specs.Pushes.{Running, registers_of, in_hand, told_by, has_lock, CallIsAt, Follows, Links, Trying}
+use Rattle.two_lock.specs.Pushes.{Running, registers_of, in_hand, told_by, has_lock, CallIsAt, Follows, PushesUnderLock, Trying}
 use Rattle.two_lock.specs.Worn.{push_worn}
 use Rattle.arena_queue.specs.Answers.{PushWithNodeCaused, PushesWithNode}
 use Rattle.node_arena.proofs.Values.{value_of-word}
@@ -207,7 +207,7 @@ module _ {T : Type 0} (r : Arena) (s u t : Seat T) (a b c : Running) (j k : Line
   first = walk_on r s u continues A4 f.found f.did refl tt
 
   -- the node is linked: A4 to A7
-  pub links : (x y : Seat T) (d : Running) (l : Line) (last : RowOutcome Running) → (k ≡ A7 → ⊥) → Follows r t x continues A6 c (Goes l d) → Follows r x y continues A7 d last → Links r s y a (Ok tt)
+  pub links : (x y : Seat T) (d : Running) (l : Line) (last : RowOutcome Running) → (k ≡ A7 → ⊥) → Follows r t x continues A6 c (Goes l d) → Follows r x y continues A7 d last → PushesUnderLock r s y a (Ok tt)
   links x y d l last other m o =
       let won = to_a6 r u t b c k at_a5 g other in
       let at_a7 : CallIsAt r x continues A7 d = to_a7 r t x c d l won.0 m in
@@ -243,7 +243,7 @@ module _ {T : Type 0} (r : Arena) (s u t : Seat T) (a b c : Running) (j k : Line
       }
 
   -- the queue was found shut: A4, A5 and A7
-  pub finds_shut : (y : Seat T) (last : RowOutcome Running) → k ≡ A7 → Follows r t y continues A7 c last → Links r s y a (Err Closed)
+  pub finds_shut : (y : Seat T) (last : RowOutcome Running) → k ≡ A7 → Follows r t y continues A7 c last → PushesUnderLock r s y a (Err Closed)
   finds_shut y last is o =
       let lost = to_shut r u t b c k at_a5 g is in
       let over = shut_a7 r t y continues o.found c lost.0 o.did lost.1 in
@@ -269,11 +269,11 @@ module _ {T : Type 0} (r : Arena) (s u t : Seat T) (a b c : Running) (j k : Line
 -- the body was pushed
 pub puts_it : {T : Type 0} (r : Arena) (s t u x : Seat T) (h : Held) (val : ℕ) (a b : Running) (out : RowOutcome Running) (from body spent n turns : ℕ)
     → a ≡ registers_of h val → b ≡ registers_of h val → Trying r s t h val spent n → Follows r t u continues A3 a out → has_lock out ≡ true
-    → Links r u x b (Ok tt) → body < 2 ^ 48 → val ≡ from * 2 ^ 48 + body → n < turns
+    → PushesUnderLock r u x b (Ok tt) → body < 2 ^ 48 → val ≡ from * 2 ^ 48 + body → n < turns
     → PushesWithNode push_worn r s (keeping x None n) h.node body spent turns (Ok tt)
 puts_it r s t u x h val a b out from body spent n turns is same g follows won linked small word less =
     let f : Follows r t u continues A3 (registers_of h val) out = subst (λ x. Follows r t u continues A3 x out) is follows in
-    let k : Links r u x (registers_of h val) (Ok tt) = subst (λ y. Links r u x y (Ok tt)) same linked in
+    let k : PushesUnderLock r u x (registers_of h val) (Ok tt) = subst (λ y. PushesUnderLock r u x y (Ok tt)) same linked in
     let bodies : (value_of val).body ≡ body = ap (λ (v : Taken). v.body) (value_of-word val from body small word) in
     let try : Event = event r t u continues A3 f.found f.did in
     let one = got r t u (registers_of h val) out g.stands f won in
@@ -301,10 +301,10 @@ puts_it r s t u x h val a b out from body spent n turns is same g follows won li
 -- the queue was found shut
 pub finds_it_shut : {T : Type 0} (r : Arena) (s t u x : Seat T) (h : Held) (val : ℕ) (a b : Running) (out : RowOutcome Running) (refusal : Refusal)
     (body spent n turns : ℕ) → a ≡ registers_of h val → b ≡ registers_of h val → Trying r s t h val spent n → Follows r t u continues A3 a out
-    → has_lock out ≡ true → Links r u x b (Err refusal) → PushesWithNode push_worn r s (keeping x (Some h) n) h.node body spent turns (Err refusal)
+    → has_lock out ≡ true → PushesUnderLock r u x b (Err refusal) → PushesWithNode push_worn r s (keeping x (Some h) n) h.node body spent turns (Err refusal)
 finds_it_shut r s t u x h val a b out refusal body spent n turns is same g follows won linked =
     let f : Follows r t u continues A3 (registers_of h val) out = subst (λ x. Follows r t u continues A3 x out) is follows in
-    let k : Links r u x (registers_of h val) (Err refusal) = subst (λ y. Links r u x y (Err refusal)) same linked in
+    let k : PushesUnderLock r u x (registers_of h val) (Err refusal) = subst (λ y. PushesUnderLock r u x y (Err refusal)) same linked in
     let try : Event = event r t u continues A3 f.found f.did in
     let before : List Event = g.lines ++ try ∷ [] in
     let w : ExtendsPath (view s) (view u) before = walk_then (view s) (view t) (view u) g.lines (try ∷ []) g.walks (try_walk r t u (registers_of h val) out g.stands f) in

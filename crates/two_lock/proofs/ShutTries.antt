@@ -28,7 +28,7 @@ use Rattle.arena_lines.proofs.Registers.{same_registers}
 use Rattle.arena_queue.specs.Answers.{Shuts, ShutCaused, FailsFewer, AnswersShut}
 use Rattle.two_lock.specs.Values.{IsTwoLock}
 use Rattle.two_lock.specs.Pushes.{told_by}
-use Rattle.two_lock.specs.Shuts.{Running, shutting, answer_of, has_lock, KeepsPocket, CallIsAt, Follows, LetsGo, ShutOr, PutsEnd, Trying}
+use Rattle.two_lock.specs.Shuts.{Running, shutting, answer_of, has_lock, KeepsPocket, CallIsAt, Follows, LetsGo, ShutUnderLock, ShutsUnderLock, Trying}
 use Rattle.two_lock.specs.Worn.{shut_worn}
 use Rattle.two_lock.proofs.ShutStands.{won_s6, lost_s6, after_s7, won_s8, lost_s8, done_s9, shut_s9}
 
@@ -88,7 +88,7 @@ module _ {T : Type 0} (r : Arena) (s u t : Seat T) (a b c : Running) (l k : Line
     nine = event r t x continues S9 m.found m.did
 
     -- its end, where the line and the pocket are as they should be
-    ended : (o : Result (Unit {0}) Refusal) → out ≡ o → (view x).actor.line ≡ None → KeepsPocket x (view x).actor → ShutOr r s x (seven ∷ eight ∷ nine ∷ []) o → PutsEnd r s x out
+    ended : (o : Result (Unit {0}) Refusal) → out ≡ o → (view x).actor.line ≡ None → KeepsPocket x (view x).actor → ShutUnderLock r s x (seven ∷ eight ∷ nine ∷ []) o → ShutsUnderLock r s x out
     ended o is over pocket shuts =
         record {
           seat = m.did.seat;
@@ -99,10 +99,10 @@ module _ {T : Type 0} (r : Arena) (s u t : Seat T) (a b c : Running) (l k : Line
               (shut_slots r u t continues S8 g.found g.did (view u).number _ refl)) (quiet_slots r t x continues S9 m.found m.did refl);
           lines = seven ∷ eight ∷ nine ∷ [];
           never = refl;
-          shuts = subst (ShutOr r s x (seven ∷ eight ∷ nine ∷ [])) (sym is) shuts;
+          shuts = subst (ShutUnderLock r s x (seven ∷ eight ∷ nine ∷ [])) (sym is) shuts;
         }
 
-    put : Put r u t k b c at_s8 g → PutsEnd r s x out
+    put : Put r u t k b c at_s8 g → ShutsUnderLock r s x out
     put p =
         let over = done_s9 r t x continues m.found c at_s9 m.did p.due in
         let acts : Acts (view u) (view t) (Shut (view u).number) (eight ∷ []) = act_on r u t continues S8 g.found g.did (Shut (view u).number) p.adds tt in
@@ -112,7 +112,7 @@ module _ {T : Type 0} (r : Arena) (s u t : Seat T) (a b c : Running) (l k : Line
         ended (Ok tt) (m.answers ∙ ap answer_of p.due) over.0 over.1
         (act_then (view s) (view t) (view x) (Shut (view s).number) (seven ∷ eight ∷ []) (nine ∷ []) before (pass_on r t x continues S9 m.found m.did refl quiet refl))
 
-    lost : Lost r u t k b c at_s8 g → PutsEnd r s x out
+    lost : Lost r u t k b c at_s8 g → ShutsUnderLock r s x out
     lost p =
         let over = shut_s9 r t x continues m.found c at_s9 m.did p.due in
         let walks : ExtendsPath (view s) (view t) (seven ∷ eight ∷ []) = walk_then (view s) (view u) (view t) (seven ∷ []) (eight ∷ []) first (walk_on r u t continues S8 g.found g.did p.adds tt) in
@@ -123,7 +123,7 @@ module _ {T : Type 0} (r : Arena) (s u t : Seat T) (a b c : Running) (l k : Line
           cause = stopped_at r t x continues S9 m.found m.did s (seven ∷ eight ∷ []) Closed walks over.2;
         })
 
-    pub puts_end : PutsEnd r s x out
+    pub puts_end : ShutsUnderLock r s x out
     puts_end = ⊎_elim put lost (after_s8 r u t k b c at_s8 g).1
 
 -- a shut sets out
@@ -179,7 +179,7 @@ module _ {T : Type 0} (r : Arena) (s t u : Seat T) (n : ℕ) (g : Trying r s t n
       }
 
   -- the lock was got
-  pub shut_ends : (x : Seat T) (turns : ℕ) (o : Result (Unit {0}) Refusal) → has_lock out ≡ true → n < turns → PutsEnd r u x o → AnswersShut shut_worn r s x turns o
+  pub shut_ends : (x : Seat T) (turns : ℕ) (o : Result (Unit {0}) Refusal) → has_lock out ≡ true → n < turns → ShutsUnderLock r u x o → AnswersShut shut_worn r s x turns o
   shut_ends x turns o e less k =
       record {
         ready = record { seat = k.seat; free = ap (λ b. b.line) rest ∙ k.over; pocket = sym (ap (λ b. b.pocket) rest ∙ k.pocket) };
@@ -215,15 +215,15 @@ module _ {T : Type 0} (r : Arena) (s t u : Seat T) (n : ℕ) (g : Trying r s t n
       found : FindsShut (view u) (view x) k.lines → FindsShut (view s) (view x) es
       found = then_shut (view s) (view u) (view x) before k.lines tried
 
-      shut_of : (o : Result (Unit {0}) Refusal) → ShutOr r u x k.lines o → OnOk o (Shuts s x)
+      shut_of : (o : Result (Unit {0}) Refusal) → ShutUnderLock r u x k.lines o → OnOk o (Shuts s x)
       shut_of (Ok y) h = let acts = acted h in subst (Acts (view s) (view x) (Shut (view s).number)) (sym (added_path s x es acts.path)) acts
       shut_of (Err refusal) h = tt
 
-      few_of : (o : Result (Unit {0}) Refusal) → ShutOr r u x k.lines o → OnOk o (FailsFewer s x turns)
+      few_of : (o : Result (Unit {0}) Refusal) → ShutUnderLock r u x k.lines o → OnOk o (FailsFewer s x turns)
       few_of (Ok y) h = let c : failed_turns (added s x) ≡ failed_turns es = ap failed_turns (added_path s x es (acted h).path) in omega (arith, c, all, less)
       few_of (Err refusal) h = tt
 
-      refused_by : (o : Result (Unit {0}) Refusal) → ShutOr r u x k.lines o → IfErr o (λ refusal. StopsAPush s x refusal × ShutCaused shut_worn r s x turns refusal)
+      refused_by : (o : Result (Unit {0}) Refusal) → ShutUnderLock r u x k.lines o → IfErr o (λ refusal. StopsAPush s x refusal × ShutCaused shut_worn r s x turns refusal)
       refused_by (Ok y) h = tt
       refused_by (Err refusal) h =
           let finds = found h.finds in

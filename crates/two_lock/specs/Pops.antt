@@ -134,26 +134,26 @@ Stops r s t es Closed = SawShut r s t es
 Stops r s t es refusal = SawWorn r s t es refusal
 
 -- what the lines under the lock come to
-abbrev pub Fronted : {T : Type 0} → Arena → Seat T → Seat T → List Event → RowOutcome Running → Type 0
-Fronted r s t es (Goes l a) = Took r s t es a
-Fronted r s t es (Ends IsEmpty) = SawEmpty s t es
-Fronted r s t es (Ends (IsRefused refusal)) = Stops r s t es refusal
-Fronted r s t es (Ends reply) = ⊥
+abbrev pub PoppedUnderLock : {T : Type 0} → Arena → Seat T → Seat T → List Event → RowOutcome Running → Type 0
+PoppedUnderLock r s t es (Goes l a) = Took r s t es a
+PoppedUnderLock r s t es (Ends IsEmpty) = SawEmpty s t es
+PoppedUnderLock r s t es (Ends (IsRefused refusal)) = Stops r s t es refusal
+PoppedUnderLock r s t es (Ends reply) = ⊥
 
 -- the slot of the value that was taken came out with the seat, and else the slots that are out with it are those that were
-abbrev pub FrontMoves : {T : Type 0} → Arena → Seat T → Seat T → RowOutcome Running → Type 0
-FrontMoves r s t (Goes l a) = TakesSlot r (value_of a.val) s t
-FrontMoves r s t (Ends reply) = KeepsSlots s t
+abbrev pub SlotsUnderLock : {T : Type 0} → Arena → Seat T → Seat T → RowOutcome Running → Type 0
+SlotsUnderLock r s t (Goes l a) = TakesSlot r (value_of a.val) s t
+SlotsUnderLock r s t (Ends reply) = KeepsSlots s t
 
 -- the lines under the lock, from B2 to B6
-pub record Fronts {T : Type 0} (r : Arena) (s t : Seat T) (out : RowOutcome Running) : Type 0 where
+pub record PopsUnderLock {T : Type 0} (r : Arena) (s t : Seat T) (out : RowOutcome Running) : Type 0 where
   pub seat : IsSeat r t
   pub empty : (view t).actor.pocket ≡ None
   pub stored : KeepsStored s t
-  pub slots : FrontMoves r s t out
+  pub slots : SlotsUnderLock r s t out
   pub lines : List Event
   pub never : failed_turns lines ≡ 0
-  pub fronted : Fronted r s t lines out
+  pub fronted : PoppedUnderLock r s t lines out
 
 -- a pop after so many failed turns since it began
 pub record Trying {T : Type 0} (r : Arena) (s t : Seat T) (n : ℕ) : Type 0 where

@@ -95,7 +95,7 @@ abbrev pub in_hand : Running → Held
 in_hand a = record { node = a.node; mark = a.mark }
 
 -- the node was linked
-pub record Linked {T : Type 0} (s t : Seat T) (a : Running) (es : List Event) : Type 0 where
+pub record NodeLinked {T : Type 0} (s t : Seat T) (a : Running) (es : List Event) : Type 0 where
   pub empty : (view t).actor.pocket ≡ None
   pub acts : Acts (view s) (view t) (Push (view s).number (value_of a.val).body) es
 
@@ -107,19 +107,19 @@ pub record SawShut {T : Type 0} (r : Arena) (s t : Seat T) (a : Running) (es : L
   pub cause : EndedAt r s es (IsRefusedAt r.plan.setup (view s).number Closed)
 
 -- what the lines under the lock come to
-abbrev pub LinkedOr : {T : Type 0} → Arena → Seat T → Seat T → Running → List Event → Result (Unit {0}) Refusal → Type 0
-LinkedOr r s t a es (Ok x) = Linked s t a es
-LinkedOr r s t a es (Err refusal) = SawShut r s t a es refusal
+abbrev pub PushedUnderLock : {T : Type 0} → Arena → Seat T → Seat T → Running → List Event → Result (Unit {0}) Refusal → Type 0
+PushedUnderLock r s t a es (Ok x) = NodeLinked s t a es
+PushedUnderLock r s t a es (Err refusal) = SawShut r s t a es refusal
 
 -- the call is over: the node was linked, or the queue was found shut
-pub record Links {T : Type 0} (r : Arena) (s t : Seat T) (a : Running) (out : Result (Unit {0}) Refusal) : Type 0 where
+pub record PushesUnderLock {T : Type 0} (r : Arena) (s t : Seat T) (a : Running) (out : Result (Unit {0}) Refusal) : Type 0 where
   pub seat : IsSeat r t
   pub over : (view t).actor.line ≡ None
   pub stored : KeepsStored s t
   pub slots : PushMoves r (value_of a.val).body s t out
   pub lines : List Event
   pub never : failed_turns lines ≡ 0
-  pub links : LinkedOr r s t a lines out
+  pub links : PushedUnderLock r s t a lines out
 
 -- a push that has its node, after so many failed turns of its call, `spent` of them before it had the node
 pub record Trying {T : Type 0} (r : Arena) (s t : Seat T) (h : Held) (val spent n : ℕ) : Type 0 where

@@ -84,12 +84,12 @@ pub record SawShut {T : Type 0} (r : Arena) (s t : Seat T) (es : List Event) (re
   pub cause : EndedAt r s es (IsRefusedAt r.plan.setup (view s).number Closed)
 
 -- what the lines under the lock come to
-abbrev pub ShutOr : {T : Type 0} → Arena → Seat T → Seat T → List Event → Result (Unit {0}) Refusal → Type 0
-ShutOr r s t es (Ok x) = Acts (view s) (view t) (Shut (view s).number) es
-ShutOr r s t es (Err refusal) = SawShut r s t es refusal
+abbrev pub ShutUnderLock : {T : Type 0} → Arena → Seat T → Seat T → List Event → Result (Unit {0}) Refusal → Type 0
+ShutUnderLock r s t es (Ok x) = Acts (view s) (view t) (Shut (view s).number) es
+ShutUnderLock r s t es (Err refusal) = SawShut r s t es refusal
 
 -- the call is over: a closed end was put behind the last node, or the queue was found shut; what was in the pocket is there
-pub record PutsEnd {T : Type 0} (r : Arena) (s t : Seat T) (out : Result (Unit {0}) Refusal) : Type 0 where
+pub record ShutsUnderLock {T : Type 0} (r : Arena) (s t : Seat T) (out : Result (Unit {0}) Refusal) : Type 0 where
   pub seat : IsSeat r t
   pub over : (view t).actor.line ≡ None
   pub pocket : KeepsPocket t (view t).actor
@@ -97,7 +97,7 @@ pub record PutsEnd {T : Type 0} (r : Arena) (s t : Seat T) (out : Result (Unit {
   pub slots : KeepsSlots s t
   pub lines : List Event
   pub never : failed_turns lines ≡ 0
-  pub shuts : ShutOr r s t lines out
+  pub shuts : ShutUnderLock r s t lines out
 
 -- a shut after so many failed turns since it began
 pub record Trying {T : Type 0} (r : Arena) (s t : Seat T) (n : ℕ) : Type 0 where

@@ -5,7 +5,7 @@ ghost use Rattle.node_arena.specs.Prologues.{continues};
 ghost use Rattle.node_arena.specs.Plans.{may_pop};
 ghost use Rattle.node_arena.specs.Seats.{IsReady, IsBefore, role_of, pocket_of};
 ghost use Rattle.two_lock.specs.Values.{IsTwoLock};
-ghost use Rattle.two_lock.specs.Pops.{CallIsAt, Fronts};
+ghost use Rattle.two_lock.specs.Pops.{CallIsAt, PopsUnderLock};
 ghost use Rattle.two_lock.specs.Worn.{pop_worn};
 ghost use Rattle.arena_queue.specs.Answers.{PopsWithoutNode};
 
@@ -26,7 +26,7 @@ fn read_front<const B: u32, T>(
     requires stands { CallIsAt arena.now seat.old continues lines.B2 a }
     requires two_lock { IsTwoLock arena.now }
     requires role { IsTrue (may_pop (role_of seat.old)) }
-    ensures { Fronts arena.now seat.old seat.new result }
+    ensures { PopsUnderLock arena.now seat.old seat.new result }
 {
     let a = b2(arena, seat, a);
     let (next, a) = b3(arena, seat, a);

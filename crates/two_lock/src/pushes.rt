@@ -7,7 +7,7 @@ ghost use Rattle.node_arena.specs.Plans.{may_push};
 ghost use Rattle.node_arena.specs.Loads.{IsLoaded};
 ghost use Rattle.node_arena.specs.Seats.{IsReady, role_of, pocket_of};
 ghost use Rattle.two_lock.specs.Values.{IsTwoLock};
-ghost use Rattle.two_lock.specs.Pushes.{CallIsAt, Links};
+ghost use Rattle.two_lock.specs.Pushes.{CallIsAt, PushesUnderLock};
 ghost use Rattle.two_lock.specs.Worn.{push_worn};
 ghost use Rattle.arena_queue.specs.Answers.{PushesWithNode};
 
@@ -27,7 +27,7 @@ fn push_locked<const B: u32, T>(
     requires stands { CallIsAt arena.now seat.old continues lines.A4 a }
     requires loaded { IsLoaded arena.now (value_of a.val).body seat.old }
     requires role { IsTrue (may_push (role_of seat.old)) }
-    ensures { Links arena.now seat.old seat.new a.entry result }
+    ensures { PushesUnderLock arena.now seat.old seat.new a.entry result }
 {
     let a = a4(arena, seat, a);
     let (next, a) = a5(arena, seat, a);

@@ -5,7 +5,7 @@ ghost use Rattle.node_arena.specs.Prologues.{continues};
 ghost use Rattle.node_arena.specs.Plans.{may_push};
 ghost use Rattle.node_arena.specs.Seats.{IsReady, role_of};
 ghost use Rattle.two_lock.specs.Values.{IsTwoLock};
-ghost use Rattle.two_lock.specs.Shuts.{CallIsAt, PutsEnd};
+ghost use Rattle.two_lock.specs.Shuts.{CallIsAt, ShutsUnderLock};
 ghost use Rattle.two_lock.specs.Worn.{shut_worn};
 ghost use Rattle.arena_queue.specs.Answers.{AnswersShut};
 
@@ -22,7 +22,7 @@ fn shut_locked<const B: u32, T>(
 ) -> Result<(), Refusal>
     requires stands { CallIsAt arena.now seat.old continues lines.S7 a }
     requires role { IsTrue (may_push (role_of seat.old)) }
-    ensures { PutsEnd arena.now seat.old seat.new result }
+    ensures { ShutsUnderLock arena.now seat.old seat.new result }
 {
     let a = s7(arena, seat, a);
     let a = s8(arena, seat, a);

@@ -3,7 +3,7 @@ use Rattle.line_table.specs.declared.lines.Line.TheVariants.{N5}
 use Rattle.node_arena.specs.Prologues.{continues}
 use Rattle.arena_lines.specs.declared.outcomes.RowOutcome.TheVariants.{Goes, Ends}
 use Rattle.free_list.specs.Runs.{turn_of, GoesTo}
-use Rattle.free_list.specs.Takes.{Turns, Looks}
+use Rattle.free_list.specs.Takes.{Turns, StandsAfterN2}
 use Rattle.free_list.proofs.Ways.{on_turn}
 use Rattle.free_list.proofs.Standing.{at_n3, after_n4, after_n5}
 use Rattle.free_list.proofs.takes.take_turn.Goals as goal
@@ -11,7 +11,7 @@ use Rattle.free_list.proofs.takes.take_turn.Goals as goal
 pub returns-in-N5 : goal.returns-in-N5
 returns-in-N5 g c =
     let two : GoesTo c.args.arena.now c.n1-a.new.seat c.n2.new.seat N5 c.in-Goes.a =
-    subst (λ l. Looks c.args.arena.now c.n1-a.new.seat c.n2.new.seat (Goes l c.in-Goes.a)) c.in-N5.is c.in-Goes.ensures in
+    subst (λ l. StandsAfterN2 c.args.arena.now c.n1-a.new.seat c.n2.new.seat (Goes l c.in-Goes.a)) c.in-N5.is c.in-Goes.ensures in
     rw c.turned.ensures (on_turn c.n1-a.ensures (on_turn two (after_n5 c.args.arena.now c.n2.new.seat c.n5.new.seat continues c.in-Goes.a c.n5.result two.stands c.n5.ensures)))
 
 pub returns-in_default : goal.returns-in_default

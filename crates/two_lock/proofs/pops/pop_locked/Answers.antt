@@ -4,7 +4,7 @@ use Rattle.arena_queue.specs.Answers.{PopsWithoutNode}
 use Rattle.node_arena.specs.Machine.{value_of}
 use Rattle.node_arena.specs.Seats.{keeps_of}
 use Rattle.two_lock.specs.Worn.{pop_worn}
-use Rattle.two_lock.specs.Pops.{Running, Fronts}
+use Rattle.two_lock.specs.Pops.{Running, PopsUnderLock}
 use Rattle.free_list.specs.Gives.{GiveAnswers}
 use Rattle.two_lock.proofs.PopCalls.{pop_took, pop_kept, pop_ended, pop_worn_out}
 use Rattle.two_lock.proofs.pops.pop_locked.Goals.{then-not-keeps_nodes, else-not-keeps_nodes}
@@ -45,7 +45,7 @@ returns-after-not-keeps_nodes g c =
 
 pub returns-in-Refused : goal.returns-in-Refused
 returns-in-Refused g c = rw c.keep-in-Ends.ensures (pop_worn_out c.args.arena.now c.args.seat.now c.read_front.new.seat c.args.failed c.args.turns
-    c.in-Refused.refusal (subst (λ o. Fronts c.args.arena.now c.args.seat.now c.read_front.new.seat (Ends o)) c.in-Refused.is c.in-Ends.ensures))
+    c.in-Refused.refusal (subst (λ o. PopsUnderLock c.args.arena.now c.args.seat.now c.read_front.new.seat (Ends o)) c.in-Refused.is c.in-Ends.ensures))
 
 pub returns-in_default : goal.returns-in_default
 returns-in_default g c = rw c.keep-in-Ends.ensures (pop_ended c.args.arena.now c.args.seat.now c.read_front.new.seat c.args.failed c.args.turns

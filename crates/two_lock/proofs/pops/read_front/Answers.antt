@@ -1,7 +1,7 @@
 use Rattle.line_table.specs.declared.lines.Line.TheVariants.{B3, B6}
 use Rattle.std.proofs.Common.{IsTrue, sym, subst, ◌∙◌, lit≤}
 use Rattle.node_arena.specs.Plans.{may_pop}
-use Rattle.two_lock.proofs.Fronts.{to_b3, to_b4, to_b5, to_b6_empty, to_b6_worn, to_b6_value, saw_empty, saw_worn, took}
+use Rattle.two_lock.proofs.UnderLock.{to_b3, to_b4, to_b5, to_b6_empty, to_b6_worn, to_b6_value, saw_empty, saw_worn, took}
 use Rattle.two_lock.proofs.pops.read_front.Goals as goal
 
 pub b3-next-requires : goal.b3-next-requires

@@ -28,7 +28,7 @@ use Rattle.arena_lines.specs.declared.outcomes.RowOutcome.{RowOutcome}
 use Rattle.arena_lines.specs.declared.outcomes.RowOutcome.TheVariants.{Goes, Ends}
 use Rattle.arena_lines.specs.declared.outcomes.Reply.{Reply}
 use Rattle.arena_lines.specs.declared.outcomes.Reply.TheVariants.{Value as IsValue, Empty as IsEmpty, Refused as IsRefused}
-use Rattle.two_lock.specs.Pops.{Running, told_by, unlocked_as, CallIsAt, Follows, Fronts}
+use Rattle.two_lock.specs.Pops.{Running, told_by, unlocked_as, CallIsAt, Follows, PopsUnderLock}
 use Rattle.arena_lines.proofs.Registers.{same_registers}
 use Rattle.two_lock.proofs.PopStands.{stands_next}
 
@@ -124,7 +124,7 @@ module _ {T : Type 0} (r : Arena) (s t : Seat T) (a : Running) (out : RowOutcome
 
 -- the queue was found empty, or shut and empty
 pub saw_empty : {T : Type 0} (r : Arena) (s u t x : Seat T) (a b c : Running) (l k : Line) (out : RowOutcome Running) → CallIsAt r s continues B2 a
-    → Follows r s u continues B2 a (Goes l b) → Follows r u t continues B3 b (Goes k c) → k ≡ B6 → Follows r t x continues B6 c out → Fronts r s x out
+    → Follows r s u continues B2 a (Goes l b) → Follows r u t continues B3 b (Goes k c) → k ≡ B6 → Follows r t x continues B6 c out → PopsUnderLock r s x out
 saw_empty r s u t x a b c l k out h f2 f3 is f6 = ⊎_elim none shut (found_end r u t k b c f3 is)
   where
     at : CallIsAt r t continues B6 c
@@ -138,12 +138,12 @@ saw_empty r s u t x a b c l k out h f2 f3 is f6 = ⊎_elim none shut (found_end 
     slots = then_slots s t x (then_slots s u t (quiet_slots r s u continues B2 f2.found f2.did refl)
         (quiet_slots r u t continues B3 f3.found f3.did refl)) (quiet_slots r t x continues B6 f6.found f6.did refl)
 
-    none : c.due ≡ Some IsEmpty → Fronts r s x out
+    none : c.due ≡ Some IsEmpty → PopsUnderLock r s x out
     none due =
         let o : (view x).actor ≡ left r t x c out at f6 (Some IsEmpty) due (Some reply.Empty) = left_is r t x c out at f6 (Some IsEmpty) due in
         let replies = reply_is r t x c out at f6 (Some IsEmpty) due in
         let notes : (view x).notes ≡ (view t).notes ++ length (view x).seen ∷ [] = f6.did.told.notes ∙ ap (λ q. (view t).notes ++ notes_of q (view x).seen) replies in
-        subst (Fronts r s x) (sym (out_is r t x c out at f6 (Some IsEmpty) due))
+        subst (PopsUnderLock r s x) (sym (out_is r t x c out at f6 (Some IsEmpty) due))
         record {
           seat = f6.did.seat;
           empty = ap (λ y. y.pocket) o ∙ empty_before r t continues B6 at.before;
@@ -167,11 +167,11 @@ saw_empty r s u t x a b c l k out h f2 f3 is f6 = ⊎_elim none shut (found_end 
           };
         }
 
-    shut : c.due ≡ Some (IsRefused Closed) → Fronts r s x out
+    shut : c.due ≡ Some (IsRefused Closed) → PopsUnderLock r s x out
     shut due =
         let o : (view x).actor ≡ left r t x c out at f6 (Some (IsRefused Closed)) due (Some (reply.Refused Closed)) = left_is r t x c out at f6 (Some (IsRefused Closed)) due in
         let replies = reply_is r t x c out at f6 (Some (IsRefused Closed)) due in
-        subst (Fronts r s x) (sym (out_is r t x c out at f6 (Some (IsRefused Closed)) due))
+        subst (PopsUnderLock r s x) (sym (out_is r t x c out at f6 (Some (IsRefused Closed)) due))
         record {
           seat = f6.did.seat;
           empty = ap (λ y. y.pocket) o ∙ empty_before r t continues B6 at.before;
@@ -212,12 +212,12 @@ module _ {T : Type 0} (r : Arena) (s u t v : Seat T) (a b c d : Running) (l k j 
   look_stored = then_stored s t v (then_stored s u t f2.did.stored f3.did.stored) f4.did.stored
 
   -- Head was found worn out
-  pub saw_worn : (x : Seat T) (out : RowOutcome Running) → j ≡ B6 → Follows r v x continues B6 d out → Fronts r s x out
+  pub saw_worn : (x : Seat T) (out : RowOutcome Running) → j ≡ B6 → Follows r v x continues B6 d out → PopsUnderLock r s x out
   saw_worn x out is f6 =
       let due : d.due ≡ Some (IsRefused (WornOut OfHead)) = found_worn r t v j c d f4 is in
       let at : CallIsAt r v continues B6 d = to_b6_worn r t v j c d at_b4 f4 is in
       let o = left_is r v x d out at f6 (Some (IsRefused (WornOut OfHead))) due in
-      subst (Fronts r s x) (sym (out_is r v x d out at f6 (Some (IsRefused (WornOut OfHead))) due))
+      subst (PopsUnderLock r s x) (sym (out_is r v x d out at f6 (Some (IsRefused (WornOut OfHead))) due))
       record {
         seat = f6.did.seat;
         empty = ap (λ y. y.pocket) o ∙ empty_before r v continues B6 at.before;
@@ -235,7 +235,7 @@ module _ {T : Type 0} (r : Arena) (s u t v : Seat T) (a b c d : Running) (l k j 
       }
 
   -- a value was taken
-  pub took : (y x : Seat T) (e : Running) (i : Line) (out : RowOutcome Running) → (j ≡ B6 → ⊥) → Follows r v y continues B5 d (Goes i e) → Follows r y x continues B6 e out → Fronts r s x out
+  pub took : (y x : Seat T) (e : Running) (i : Line) (out : RowOutcome Running) → (j ≡ B6 → ⊥) → Follows r v y continues B5 d (Goes i e) → Follows r y x continues B6 e out → PopsUnderLock r s x out
   took y x e i out free f5 f6 =
       let before : CallIsAt r v continues B5 d = to_b5 r t v j c d at_b4 f4 free in
       let e_is : e ≡ record d { node = d.head.node; mark = d.next.count; due = Some (IsValue d.val) } = same_registers i B6 e _ f5.leads_to in
@@ -250,7 +250,7 @@ module _ {T : Type 0} (r : Arena) (s u t v : Seat T) (a b c d : Running) (l k j 
       let all : Acts (view s) (view y) (Pop (view s).number (value_of e.val)) (looks ++ five ∷ []) =
       then_act (view s) (view v) (view y) (Pop (view v).number (view v).actor.val) (Pop (view s).number (value_of e.val)) looks (five ∷ []) (λ z. Pop (look_walk.number z) (val z)) look_walk acts in
       let behind : Passes (view y) (view x) (six ∷ []) = pass_on r y x continues B6 f6.found f6.did refl (silent_due r y x e out at f6 (Some (IsValue d.val)) due tt) refl in
-      subst (Fronts r s x) (sym (out_is r y x e out at f6 (Some (IsValue d.val)) due))
+      subst (PopsUnderLock r s x) (sym (out_is r y x e out at f6 (Some (IsValue d.val)) due))
       record {
         seat = f6.did.seat;
         empty = ap (λ z. z.pocket) o ∙ empty_before r y continues B6 at.before;
