@@ -10,7 +10,7 @@ mod steps;
 mod words;
 
 pub use outcomes::{
-    RowOutcome, Reply, closed, ends, frees, frees as frees_aside, goes, with_node, worn,
+    Reply, RowOutcome, closed, ends, frees, frees as frees_aside, goes, with_node, worn,
 };
 // Where the table tells a world of more, a running call has nothing to do.
 pub use outcomes::{

@@ -1,13 +1,13 @@
 //! Threads that take and give back nodes of one arena, until each node is found exactly once.
 #![tactic(auto)]
 
-mod threads;
 mod new_arenas;
 #[cfg(test)]
 mod tests;
+mod threads;
 
-use crate::threads::{alone, found, four};
 use crate::new_arenas::eight_seats;
+use crate::threads::{alone, found, four};
 use counted_ref::MOST_COUNT;
 use std::time::Instant;
 use std::{env, io};

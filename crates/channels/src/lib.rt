@@ -2,12 +2,12 @@
 #![tactic(auto)]
 
 mod closers;
-mod new_sides;
 mod meets;
+mod new_sides;
 mod receiver;
 mod recv_calls;
-mod sender;
 mod send_calls;
+mod sender;
 mod sides;
 
 pub use new_sides::{receivers, senders};

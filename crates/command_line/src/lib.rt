@@ -8,5 +8,5 @@ mod options;
 mod places;
 mod show_options;
 
-pub use commands::{Colours, Command, Crew, Task, ShowOptions, read_words};
+pub use commands::{Colours, Command, Crew, ShowOptions, Task, read_words};
 pub use options::Placing;

@@ -7,8 +7,8 @@ ghost use Rattle.dispatcher.specs.Turns.{IsBack};
 ghost use Rattle.dispatcher.specs.Crews.{IsStartedFor, Returned, HasRun, IsAsGiven};
 
 use crate::gate::Gate;
-use crate::workers::{Back, Signals, work};
 use crate::submitter::{Given, submit};
+use crate::workers::{Back, Signals, work};
 use blocking_queue::BlockingQueue;
 use history::{Fifo, Refusal};
 use job_results::Job;

@@ -4,16 +4,16 @@
 mod crews;
 mod dispatches;
 mod gate;
-mod results;
 pub mod laws;
-mod workers;
+mod results;
 mod submitter;
 mod worker_turns;
+mod workers;
 
 pub use crews::{JobsRun, Unrun};
 pub use dispatches::{MOST_JOBS, dispatch, dispatch_keeping_seats, run_jobs};
 pub use gate::Gate;
 pub use results::Dispatched;
-pub use workers::{Back, End};
 pub use submitter::Given;
 pub use worker_turns::{Worked, work_one};
+pub use workers::{Back, End};

@@ -1,9 +1,9 @@
 //! A queue of one of two kinds, which is chosen as it is made.
 #![tactic(auto)]
 
-mod ends;
 mod either;
+mod ends;
 mod one_of_two;
 
-pub use ends::{EitherEnd, EitherRoom};
 pub use either::{EitherQueue, EitherSeat};
+pub use ends::{EitherEnd, EitherRoom};

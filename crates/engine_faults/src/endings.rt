@@ -2,8 +2,8 @@
 ghost use Rattle.std.specs.Prelude.{◌≡◌, OnOk, OnErr};
 ghost use Rattle.engine_faults.specs.Endings.{status_of, TakesLine};
 
-use crate::faults::Fault;
 use crate::fault_lines::line_of;
+use crate::faults::Fault;
 use history::Verdict;
 use text_io::{Sink, send};
 

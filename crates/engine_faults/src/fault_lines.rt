@@ -32,7 +32,9 @@ impl fmt::Write for Spelled {
 pub(crate) fn line_of<T: fmt::Display>(value: &T) -> LineBuffer
     ensures { (text : List ℕ) × HasNo 10 text × (result ≡ line_saying text) }
 {
-    let mut spelled = Spelled { line: LineBuffer::new() };
+    let mut spelled = Spelled {
+        line: LineBuffer::new(),
+    };
     let _ = write!(spelled, "{value}");
     let Spelled { mut line } = spelled;
     line.push(b"\n");

@@ -2,8 +2,8 @@
 #![tactic(auto)]
 
 mod endings;
-mod faults;
 mod fault_lines;
+mod faults;
 
 pub use endings::{Ending, end_of};
 pub use faults::Fault;

@@ -2,7 +2,7 @@
 ghost use Rattle.std.specs.Prelude.{◌≡◌};
 ghost use Rattle.free_list.specs.Runs.{in_hand, turn_of, gave_of};
 
-use arena_lines::{RowOutcome, Reply};
+use arena_lines::{Reply, RowOutcome};
 use counted_ref::CountedRefOf;
 use history::Refusal;
 use line_table::Line;

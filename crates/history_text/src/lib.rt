@@ -2,11 +2,11 @@
 #![tactic(auto)]
 
 pub mod laws;
-mod readers;
-mod printers;
 mod lines;
+mod printers;
+mod readers;
 mod replies;
 
-pub use readers::parse_history;
-pub use printers::{print_history, push_call, push_reply};
 pub use lines::step_of;
+pub use printers::{print_history, push_call, push_reply};
+pub use readers::parse_history;

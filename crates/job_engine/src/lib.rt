@@ -2,8 +2,8 @@
 #![tactic(auto)]
 
 mod crews;
-mod texts;
 mod engine;
+mod texts;
 
 pub use crews::{CrewSeats, JobQueue};
 pub use engine::work_text;

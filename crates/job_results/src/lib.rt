@@ -3,8 +3,8 @@
 
 mod gathers;
 mod jobs;
-mod readers;
 mod lines;
+mod readers;
 mod results;
 pub mod text_laws;
 

@@ -1,7 +1,9 @@
 //! An actor that stops for good right before a line, in the runs of the table, while another one goes on.
-use crate::world_calls::{goes, told};
-use crate::stopped_actors::{DEQUEUE_STEPS, ENQUEUE_STEPS, PAIRS, SHUT_STEPS, lags, line_of, world_of};
+use crate::stopped_actors::{
+    DEQUEUE_STEPS, ENQUEUE_STEPS, PAIRS, SHUT_STEPS, lags, line_of, world_of,
+};
 use crate::stops::{ALL_END, Before, Call, NON_BLOCKING, NONE, TWO_LOCK, Told};
+use crate::world_calls::{goes, told};
 use history::{Reply, Verdict, check};
 use line_table::{Kind, Line};
 use std::alloc::Global;

@@ -4,15 +4,15 @@
 
 ghost use Rattle.counted_ref.specs.Ref.{IsSplit};
 
-mod answers;
 mod agreement;
+mod answers;
 mod chance;
 mod halts;
 mod pairs;
 mod queues;
-mod world_calls;
 mod stopped_actors;
 mod stops;
+mod world_calls;
 
 use crate::answers::Answers;
 use crate::halts::halted;

@@ -3,8 +3,8 @@ ghost use Rattle.std.specs.Prelude.{◌≤◌, IfSome};
 ghost use Rattle.std.specs.List.{All};
 ghost use Rattle.counted_ref.specs.Ref.{IsSplit};
 
-use crate::answers::Answers;
 use crate::agreement::{has_pocket, has_words};
+use crate::answers::Answers;
 use crate::chance::Draws;
 use crate::queues::Watched;
 use crate::world_calls::{CHOICES_WITH_SHUTS, MOST_STEPS, call_of, told, told_keeping};

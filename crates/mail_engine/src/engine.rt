@@ -9,9 +9,9 @@ ghost use Rattle.mail_engine.specs.Rows.{IsOpened};
 ghost use Rattle.mail_engine.specs.Posts.{IsTextOf, ArePosted, AreTaken, WritesLetters, BeginsLetters, TellsOfText, IsReadingRefusal, IsSendingRefusal, IsPostRefusal};
 ghost use Rattle.mail_engine.specs.Carriers.{taker_in, Carried, CarriedBy, CarriedIn, CarriedText, RingCarried};
 
+use crate::letter_texts::tell;
 use crate::new_queues::{mail_queue, mail_ring};
 use crate::tasks::tasks_of;
-use crate::letter_texts::tell;
 use crate::texts::MailTexts;
 use arena_queue::{Algorithm, ArenaQueue};
 use history::{Fifo, Refusal};

@@ -2,8 +2,8 @@
 #![tactic(auto)]
 
 mod letters;
-mod readers;
 mod lines;
+mod readers;
 pub mod text_laws;
 
 pub use letters::{Mail, Outgoing};

@@ -10,10 +10,10 @@ ghost use Rattle.mailbox.specs.Causes.{HasEnded, FirstIsTold, PostRefused};
 ghost use Rattle.mailbox.specs.Endings.{IsLeftShut, PostLeaves};
 ghost use Rattle.mailbox.specs.Threads.{IsBack, IsStartedFor, IsOfOffice, ComesBack, TellFirst};
 
+use crate::due_texts::count_letters;
 use crate::ends::{EndCounter, Ended, GivenUp};
 use crate::office::Office;
 use crate::parcels::Due;
-use crate::due_texts::count_letters;
 use crate::receiver::{Letter, Receiver};
 use crate::sender::Sender;
 use crate::taken_letters::take_all;

@@ -4,8 +4,8 @@ ghost use Rattle.msq_c.specs.Boxed.{box_if};
 ghost use Rattle.msq_c.specs.declared.seat_blocks.SeatBlock.{SeatBlock};
 ghost use Rattle.msq_c.specs.contracts.seat_blocks.SeatBlock.{the_row};
 
-use crate::seat_blocks::SeatBlock;
 use crate::parts::Parts;
+use crate::seat_blocks::SeatBlock;
 use std::alloc::Global;
 use std::marker::Model;
 use std::{mem, ptr};

@@ -5,8 +5,8 @@ ghost use Rattle.msq_c.specs.Queues.{IsRing};
 ghost use Rattle.msq_c.specs.Values.{value_of};
 ghost use Rattle.msq_c.specs.Many.{PushesFirst, PushesAll, PopsFrom, PopsUpTo, laid};
 
-use crate::seat_blocks::SeatBlock;
 use crate::ring_acts::{AT_ONCE, PopsBatch, PushesBatch};
+use crate::seat_blocks::SeatBlock;
 use crate::troubles::Trouble;
 use crate::values::MsqValue;
 use history::{Body, Taken};

@@ -14,8 +14,8 @@ ghost use Rattle.msq_c.specs.Made.{AreUnused, AreAsked, ArePut, RefusesCreate};
 ghost use Rattle.msq_c.specs.Blocks.{owned_in};
 
 use crate::handles::MsqSeat;
-use crate::seat_blocks::{SeatBlock, Queue, QueueSeat};
 use crate::ring_acts::AT_ONCE;
+use crate::seat_blocks::{Queue, QueueSeat, SeatBlock};
 use crate::troubles::Trouble;
 use any_queue::{PickedQueue, bits_for};
 use either_queue::EitherQueue;
@@ -285,7 +285,10 @@ fn room_for(alloc: Global, seat: &OwnedSeat<Queue>) -> Result<Vec<Taken>, Troubl
 }
 
 // Each seat in a block of its own.
-fn boxed(alloc: Global, owned: Vec<OwnedSeat<Queue>>) -> Result<Vec<Box<SeatBlock, Global>>, Trouble>
+fn boxed(
+    alloc: Global,
+    owned: Vec<OwnedSeat<Queue>>,
+) -> Result<Vec<Box<SeatBlock, Global>>, Trouble>
     ensures boxes { IfOk result (λ boxes. map (λ b. owned_in b.value) boxes.items ≡ owned.items) }
     ensures only_memory { IfErr result IsMemory }
 {

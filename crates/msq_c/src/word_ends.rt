@@ -30,7 +30,10 @@ fn all_are_full<T: Send + Drop, H: Slot<WordsBlock<AnyValues<T>>>>(slots: &[H]) 
 }
 
 // How many shares there are of the queue of a full handle.
-fn shares_at<T: Send + Drop, H: Slot<WordsBlock<AnyValues<T>>>>(alloc: Global, slot: &mut H) -> usize
+fn shares_at<T: Send + Drop, H: Slot<WordsBlock<AnyValues<T>>>>(
+    alloc: Global,
+    slot: &mut H,
+) -> usize
     requires { H.holds slot.old ≡ true }
     ensures full { H.holds slot.new ≡ true }
     ensures seat { H.own slot.new ≡ H.own slot.old }

@@ -2,22 +2,22 @@
 #![tactic(auto)]
 
 mod arena;
-mod ends;
-mod new_seats;
 mod emptiness;
 mod ended;
+mod ends;
 pub mod laws;
 mod leftovers;
 mod lengths;
 mod looks;
 mod new_arenas;
-mod seat_meets;
-mod references;
+mod new_seats;
 mod peeks;
 mod places;
 mod plans;
+mod references;
 mod remains;
 mod roles;
+mod seat_meets;
 mod seats;
 mod slots;
 mod steps;

@@ -6,8 +6,8 @@ ghost use Rattle.node_arena.specs.NewArenas.{IsMade, NewRefused};
 ghost use Rattle.node_arena.specs.NewArenas as making;
 
 use crate::arena::ArenaOf;
-use crate::new_seats::deal_all;
 use crate::new_arenas::{planned, words_at_start};
+use crate::new_seats::deal_all;
 use crate::plans::Plan;
 use crate::roles::Role;
 use crate::seats::Seat;

@@ -8,7 +8,7 @@ ghost use Rattle.nonblocking.specs.Pops.{popping, CallIsAt, Follows};
 
 use crate::pop_outcomes::ActorOf;
 use arena_lines::{
-    RowOutcome, Reply, access, closed, effect, ends, first_row, goes, notes, onward, row, worn,
+    Reply, RowOutcome, access, closed, effect, ends, first_row, goes, notes, onward, row, worn,
 };
 use history::WornWord;
 use line_table::{Line, line_table};

@@ -10,7 +10,7 @@ ghost use Rattle.nonblocking.specs.Pushes.{pushing, CallIsAt, Follows};
 
 use crate::push_outcomes::ActorOf;
 use arena_lines::{
-    RowOutcome, Reply, access, closed_with_node, effect, ends, goes, onward, row, worn_aside,
+    Reply, RowOutcome, access, closed_with_node, effect, ends, goes, onward, row, worn_aside,
     worn_with_node,
 };
 use history::WornWord;

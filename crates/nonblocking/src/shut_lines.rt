@@ -8,7 +8,7 @@ ghost use Rattle.nonblocking.specs.Shuts.{shutting, CallIsAt, Follows};
 
 use crate::shut_outcomes::ActorOf;
 use arena_lines::{
-    RowOutcome, Reply, access, closed, effect, ends, first_row, goes, onward, row, worn,
+    Reply, RowOutcome, access, closed, effect, ends, first_row, goes, onward, row, worn,
 };
 use history::WornWord;
 use line_table::{Line, line_table};

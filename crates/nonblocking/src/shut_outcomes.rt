@@ -2,7 +2,7 @@
 ghost use Rattle.std.specs.Prelude.{◌≡◌};
 ghost use Rattle.nonblocking.specs.Shuts.{turn_of};
 
-use arena_lines::{RowOutcome, Reply};
+use arena_lines::{Reply, RowOutcome};
 use counted_ref::CountedRefOf;
 use history::Refusal;
 use node_arena::ArenaOf;

@@ -3,12 +3,12 @@
 
 mod acts;
 mod ends;
-mod shares;
 mod looks;
 mod seats;
+mod shares;
 
 pub use acts::Act;
 pub use ends::{EndRoom, Unended};
-pub use shares::deal;
 pub use looks::Look;
 pub use seats::OwnedSeat;
+pub use shares::deal;

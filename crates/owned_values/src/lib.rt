@@ -2,11 +2,11 @@
 #![tactic(auto)]
 
 mod ends;
-mod shares;
 mod looks;
 mod seats;
+mod shares;
 
 pub use ends::{EndRoom, Unended};
-pub use shares::deal;
 pub use looks::Look;
 pub use seats::ValueSeat;
+pub use shares::deal;

@@ -7,8 +7,8 @@ ghost use Rattle.recorded_source.specs.Given.{TellsFaultOfRecord};
 ghost use Rattle.place_engine.specs.Places.{TellsPlaces, BeginsPlaces};
 ghost use Rattle.place_engine.specs.Overlaps.{SaysOverlap, TellsOverlap};
 
-use crate::overlaps::overlap_in;
 use crate::found_texts::tell;
+use crate::overlaps::overlap_in;
 use history::Refusal;
 use placing::{Placed, place};
 use recorded_source::record_in;

@@ -4,5 +4,5 @@ mod chance;
 mod comparisons;
 mod fates;
 mod long_runs;
-mod rows;
 mod orders;
+mod rows;

@@ -2,8 +2,8 @@
 #![tactic(auto)]
 
 mod ends;
-mod offices;
 mod new_offices;
+mod offices;
 mod rings;
 
 pub use ends::Unended;

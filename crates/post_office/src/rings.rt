@@ -11,8 +11,8 @@ ghost use Rattle.ring_values.specs.Queues.{plan_of, permits_of, IsQueueSeat};
 ghost use Rattle.post_office.specs.Offices.{office_queue, AreOf};
 ghost use Rattle.post_office.specs.Roles.{office_roles, ring_roles_for, newcomers};
 
-use crate::offices::PostOffice;
 use crate::new_offices::{desks_for, roles_for};
+use crate::offices::PostOffice;
 use channels::{Receiver, Sender};
 use history::Refusal;
 use ring_queue::{Role, Seat};

@@ -3,14 +3,14 @@
 
 mod clones;
 mod closers;
-mod new_sides;
 mod handles;
+mod new_sides;
 mod recv_calls;
 mod send_calls;
 mod sides;
 
-pub use new_sides::deal_side;
 pub use handles::Handle;
+pub use new_sides::deal_side;
 pub use sides::Side;
 
 /// How many turns a call takes that doesn't wait.

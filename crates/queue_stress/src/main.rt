@@ -1,16 +1,16 @@
 //! Four threads that push and pop on one queue: each value is taken once and in order, and each node is found again.
 #![tactic(auto)]
 
-mod verdicts;
-mod timed_work;
-mod queues;
-mod threads;
 mod four_seats;
+mod queues;
 mod shut_runs;
 mod tallies;
+mod threads;
+mod timed_work;
+mod verdicts;
 
-use crate::timed_work::{Work, Works};
 use crate::queues::{Sizes, Which, shut_rounds, stressed, worked};
+use crate::timed_work::{Work, Works};
 use node_arena::MOST_COUNT;
 use std::alloc::Global;
 use std::sync::Wait;

@@ -2,9 +2,9 @@
 ghost use Rattle.history.specs.Ends.{AsksAny};
 ghost use Rattle.std.specs.List.{All};
 
-use crate::verdicts::{Verdict, judged, judged_emptied, judged_shut, judged_shut_emptied};
-use crate::timed_work::{Works, all};
 use crate::four_seats::{Keeping, last, last_four, last_four_keeping};
+use crate::timed_work::{Works, all};
+use crate::verdicts::{Verdict, judged, judged_emptied, judged_shut, judged_shut_emptied};
 use history::{Close, Fifo};
 use node_arena::{MOST_COUNT, Role};
 use nonblocking::MsQueue;

@@ -3,10 +3,10 @@ ghost use Rattle.history.specs.Ends.{AsksAny};
 ghost use Rattle.std.specs.Thread.{IsSync};
 ghost use Rattle.queue_stress.specs.Seated.{MayCall, AreFour};
 
-use crate::threads::{Duty, drains, four, pushes};
 use crate::four_seats::{Four, list_of};
 use crate::shut_runs::{Signs, shuts};
 use crate::tallies::Tally;
+use crate::threads::{Duty, drains, four, pushes};
 use history::{Close, Fifo, Refusal, Rest};
 use std::alloc::Global;
 use std::sync::Wait;

@@ -5,8 +5,8 @@ mod acts;
 mod comments;
 mod dues;
 pub mod laws;
-mod readers;
 mod lines;
+mod readers;
 mod recipes;
 mod unrolled_acts;
 

@@ -5,9 +5,9 @@ ghost use Rattle.recording_text.specs.RecordingReading.{bytes_of, known_by, said
 ghost use Rattle.recording_text.specs.HeldTexts as texts;
 ghost use Rattle.recording_text.specs.HeldTexts.{StandsHolding, IsFaultHolding, IsBeyondIn, HasRoom, pushes_from, push_at, stamped_later};
 
+use crate::lines::{ReadCall, ReadOperation};
 use crate::numbers::numbered;
 use crate::readers::{parse_behind, push_to};
-use crate::lines::{ReadCall, ReadOperation};
 use crate::replies::ReadReply;
 use history::{Op, Refusal, Reply, Stamped};
 use indexmap::IndexSet;

@@ -3,14 +3,14 @@
 
 mod held;
 pub mod laws;
+mod lines;
 mod lists;
 mod numbers;
 mod readers;
-mod lines;
 mod replies;
 
 pub use held::parse_holding;
+pub use lines::{ReadCall, ReadOperation, operation_of};
 pub use lists::texts_in;
 pub use readers::parse_recording;
-pub use lines::{ReadCall, ReadOperation, operation_of};
 pub use replies::ReadReply;

@@ -4,8 +4,8 @@ ghost use Rattle.recording_text.specs.RecordingLines.{IsFirstFaultOfRecording};
 ghost use Rattle.recording_text.specs.RecordingReading.{StandsFor, StandsBehind, IsAfterCount, AddsOperation};
 ghost use Rattle.recording_text.specs.RecordingReading.{IsWrongOperation, known_by};
 
-use crate::numbers::numbered;
 use crate::lines::{count_of, expect_version, operation_of};
+use crate::numbers::numbered;
 use history::{Op, Refusal, Reply, Stamped};
 use indexmap::IndexSet;
 use listings::due_line;

@@ -7,9 +7,9 @@ mod history_rows;
 mod history_tables;
 mod job_kinds;
 mod kinds;
+mod place_order;
 mod result_rows;
 mod result_tables;
-mod place_order;
 #[cfg(test)]
 mod tests;
 

@@ -147,7 +147,11 @@ impl<T> RingQueue<T> {
     }
 
     /// A push that has a place in reserve for each of these bodies, one at least, claims as many at one step, and fills them.
-    pub(crate) fn push_all_reserved(&self, seat: &mut Seat<T>, bodies: &[Body]) -> Result<(), Refusal>
+    pub(crate) fn push_all_reserved(
+        &self,
+        seat: &mut Seat<T>,
+        bodies: &[Body],
+    ) -> Result<(), Refusal>
         requires ready { IsReady self.now.plan self.now.table.shared.table_id seat.old }
         requires role { MayPush (permits_of self.now.plan) (known_of seat.old).number }
         requires reserve { length bodies.now ≤ seat.old.credits }

@@ -2,7 +2,7 @@
 ghost use Rattle.ring_values.specs.Looks.{FoundSoOf, WasSoLongOf, LeavesPushesOf};
 
 use crate::queue::RingValues;
-use ring_queue::{RingEmptiness, Len, Seat};
+use ring_queue::{Len, RingEmptiness, Seat};
 
 impl<T> RingValues<T> {
     ghost use Rattle.ring_queue.specs.Seats.{KeepsStored};

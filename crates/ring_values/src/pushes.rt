@@ -40,7 +40,12 @@ impl<T> RingValues<T> {
     }
 
     // Pushes the number of the seat's slot; where that is refused, the value comes back, and the slot is given back.
-    pub(crate) fn push_slot(&self, seat: &mut Seat<T>, slot: usize, turns: u32) -> Result<(), Unpushed<T>>
+    pub(crate) fn push_slot(
+        &self,
+        seat: &mut Seat<T>,
+        slot: usize,
+        turns: u32,
+    ) -> Result<(), Unpushed<T>>
         requires seat { IsRingSeat (ring_of self.now) seat.old }
         requires role { MayPush (permits_in (ring_of self.now)) (known_of seat.old).number }
         requires has { HasValue (plan_of self.now) seat.old slot }

@@ -104,10 +104,7 @@ fn run_events<R: Source>(
 }
 
 /// The history of the schedule whose text a source gives.
-pub(crate) fn run_source<R: Source>(
-    alloc: Global,
-    reader: &mut R,
-) -> Result<Vec<Stamped>, Fault>
+pub(crate) fn run_source<R: Source>(alloc: Global, reader: &mut R) -> Result<Vec<Stamped>, Fault>
     ensures ok { IfOk result (λ history. IsRunOf (R.state reader.old).left history.items) }
     ensures end { OnOk result (ReachesEnd (R.state reader.old) (R.state reader.new)) }
     ensures err { IfErr result (λ fault. StopsRun (R.state reader.old) (R.state reader.new)

@@ -172,7 +172,12 @@ pub(crate) fn state_line<const B: u32>(world: &WorldOf<B>) -> LineBuffer
 }
 
 /// What stands beside the row of a numbered move: all that is told, at the first number that is shown, and where it changed.
-pub(crate) fn side_line(frame: Frame, number: u64, before: &LineBuffer, after: LineBuffer) -> LineBuffer
+pub(crate) fn side_line(
+    frame: Frame,
+    number: u64,
+    before: &LineBuffer,
+    after: LineBuffer,
+) -> LineBuffer
     ensures { result ≡ side_text frame number before.now after }
 {
     if number == frame.from || before.as_slice() != after.as_slice() {

@@ -7,8 +7,8 @@ ghost use Rattle.show_engine.specs.PicturesWritten.{WritesPicture};
 ghost use Rattle.show_engine.specs.RefusedPictures.{BeginsPicture, Draws, WritesStop};
 
 use crate::counts::count;
-use crate::pictures::draw;
 use crate::frames::{Frame, View};
+use crate::pictures::draw;
 use engine_faults::Fault;
 use history::Refusal;
 use run_engine::by_bits;

@@ -82,7 +82,12 @@ fn numbered_row<const B: u32>(
 }
 
 /// Takes a step that can be taken, and answers its row.
-fn step_row<const B: u32>(world: &mut WorldOf<B>, frame: Frame, effects: &[u64], actor: u16) -> LineBuffer
+fn step_row<const B: u32>(
+    world: &mut WorldOf<B>,
+    frame: Frame,
+    effects: &[u64],
+    actor: u16,
+) -> LineBuffer
     requires can { IsSome (next world.old (Step actor)) }
     requires left { world.old.steps + 1 < 2 ^ 64 }
     requires fits { IsFitting frame }
@@ -104,7 +109,12 @@ fn step_row<const B: u32>(world: &mut WorldOf<B>, frame: Frame, effects: &[u64],
 }
 
 /// Gives up a call that can be given up, and answers the row of that.
-fn give_row<const B: u32>(world: &mut WorldOf<B>, frame: Frame, effects: &[u64], actor: u16) -> LineBuffer
+fn give_row<const B: u32>(
+    world: &mut WorldOf<B>,
+    frame: Frame,
+    effects: &[u64],
+    actor: u16,
+) -> LineBuffer
     requires can { IsSome (next world.old (Give actor)) }
     requires left { world.old.steps + 1 < 2 ^ 64 }
     requires fits { IsFitting frame }

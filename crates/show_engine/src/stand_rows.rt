@@ -13,7 +13,12 @@ use text_io::LineBuffer;
 use trace_engine::line_of;
 
 /// The row of an actor that is there, whose next step touches this word.
-fn touching_row<const B: u32>(world: &WorldOf<B>, frame: Frame, actor: u16, word: WordName) -> LineBuffer
+fn touching_row<const B: u32>(
+    world: &WorldOf<B>,
+    frame: Frame,
+    actor: u16,
+    word: WordName,
+) -> LineBuffer
     requires there { IsSome (actor_of world.now actor) }
     requires fits { IsFitting frame }
     ensures { result ≡ stand_row frame B world.now actor (Some (word_named word)) }

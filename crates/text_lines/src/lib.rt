@@ -2,13 +2,13 @@
 #![tactic(auto)]
 
 pub mod laws;
+mod line_splits;
 mod numbers;
 mod printable;
-mod line_splits;
 mod words;
 
 pub use history::TextCause;
+pub use line_splits::line_at;
 pub use numbers::number_in;
 pub use printable::printable_in;
-pub use line_splits::line_at;
 pub use words::Words;

@@ -5,8 +5,8 @@ ghost use Rattle.text_lines.specs.Numerals.{IsWithin};
 ghost use Rattle.text_lines.specs.Readings.{ReadsWords};
 ghost use Rattle.text_lines.specs.WordsLeft.{number_words};
 
-use crate::numbers::number_in;
 use crate::line_splits::split_once;
+use crate::numbers::number_in;
 use history::TextCause;
 use std::marker::Model;
 

@@ -38,7 +38,10 @@ pub fn opening_world<const B: u32>(
 }
 
 /// Makes events, as far as they can be made. Where one is refused, the world is whatever the moves of that left.
-pub fn make_all<const B: u32>(world: &mut WorldOf<B>, events: &[Event]) -> Result<RunExtent, Refusal>
+pub fn make_all<const B: u32>(
+    world: &mut WorldOf<B>,
+    events: &[Event],
+) -> Result<RunExtent, Refusal>
     requires range { All IsEventInRange events.now }
     requires few { length events.now ≤ 1000000 }
     requires left { world.old.steps ≡ 0 }

@@ -3,8 +3,8 @@
 
 mod counts;
 mod engine;
-mod printers;
 mod lines;
+mod printers;
 mod runs;
 mod stands;
 mod traces;

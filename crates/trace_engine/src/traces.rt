@@ -8,8 +8,8 @@ ghost use Rattle.trace_engine.specs.Extents.{IsExtentOf};
 ghost use Rattle.trace_engine.specs.TracesWritten.{due_text};
 
 use crate::counts::RunExtent;
-use crate::printers::RunPrinter;
 use crate::lines::{header_lines, push_move};
+use crate::printers::RunPrinter;
 use crate::runs::print_run;
 use crate::stands::{actor_in, alone_line, stand_line};
 use history::Refusal;

@@ -2,7 +2,7 @@
 ghost use Rattle.std.specs.Prelude.{◌≡◌};
 ghost use Rattle.two_lock.specs.Pops.{has_lock, unlocked_as};
 
-use arena_lines::{RowOutcome, Reply};
+use arena_lines::{Reply, RowOutcome};
 use counted_ref::CountedRefOf;
 use line_table::Line;
 use node_arena::ArenaOf;

@@ -9,7 +9,7 @@ ghost use Rattle.node_arena.specs.Seats.{role_of};
 ghost use Rattle.two_lock.specs.Pushes.{pushing, CallIsAt, Follows};
 
 use crate::push_outcomes::{ActorOf, left_with_node};
-use arena_lines::{RowOutcome, Reply, access, branch, effect, goes, onward, row};
+use arena_lines::{Reply, RowOutcome, access, branch, effect, goes, onward, row};
 use counted_ref::CountedRefOf;
 use history::Refusal;
 use line_table::{Line, line_table};

@@ -7,7 +7,7 @@ ghost use Rattle.node_arena.specs.Seats.{role_of};
 ghost use Rattle.two_lock.specs.Shuts.{shutting, CallIsAt, Follows, LetsGo};
 
 use crate::shut_outcomes::{ActorOf, left};
-use arena_lines::{RowOutcome, Reply, access, effect, first_row, goes, onward, row};
+use arena_lines::{Reply, RowOutcome, access, effect, first_row, goes, onward, row};
 use counted_ref::CountedRefOf;
 use history::Refusal;
 use line_table::{Line, line_table};

@@ -1,16 +1,16 @@
 //! Values of several types through the queues of values, in four threads: each is taken once, in order and as it was made.
 #![tactic(auto)]
 
+mod four_seats;
 mod loads;
-mod timed_work;
 mod queues;
 mod rings;
-mod threads;
-mod four_seats;
 mod tallies;
+mod threads;
+mod timed_work;
 
-use crate::timed_work::Works;
 use crate::queues::{Asked, Carried, Which, stressed, worked};
+use crate::timed_work::Works;
 use std::alloc::Global;
 use std::sync::Wait;
 use std::thread::Threads;

@@ -1,9 +1,9 @@
 //! The queues that run.
+use crate::four_seats::last_four_keeping;
 use crate::loads::{Load, Words};
-use crate::timed_work::{Works, all};
 use crate::rings;
 use crate::threads::{Verdict, judged};
-use crate::four_seats::last_four_keeping;
+use crate::timed_work::{Works, all};
 use arena_queue::{Algorithm, ArenaQueueOf};
 use carriers::Numbers;
 use history::Body;

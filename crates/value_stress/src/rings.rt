@@ -1,9 +1,9 @@
 //! The ring that runs.
+use crate::four_seats::last_four;
 use crate::loads::{Load, Words};
-use crate::timed_work::all;
 use crate::queues::{Asked, Carried};
 use crate::threads::{Verdict, judged};
-use crate::four_seats::last_four;
+use crate::timed_work::all;
 use carriers::Numbers;
 use ring_queue::{RingQueue, Role};
 use ring_values::RingValues;

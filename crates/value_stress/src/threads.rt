@@ -3,10 +3,10 @@ ghost use Rattle.std.specs.Thread.{IsSync};
 ghost use Rattle.carriers.specs.Ends.{AsksSoMany};
 ghost use Rattle.value_stress.specs.Seated.{MayCall, AreTwo, AreFour};
 
-use crate::loads::Load;
-use crate::timed_work::{TURNS, Work, Works, push};
 use crate::four_seats::{Four, list_of};
+use crate::loads::Load;
 use crate::tallies::Tally;
+use crate::timed_work::{TURNS, Work, Works, push};
 use carriers::{Carrier, CloseCarrier};
 use crossbeam_utils::Backoff;
 use history::Refusal;

@@ -2,8 +2,8 @@
 ghost use Rattle.std.specs.Thread.{IsSync};
 ghost use Rattle.value_stress.specs.Seated.{MayCall, AreTwo, AreFour};
 
-use crate::loads::Load;
 use crate::four_seats::Four;
+use crate::loads::Load;
 use carriers::{Carrier, Unpushed};
 use crossbeam_utils::Backoff;
 use history::Refusal;

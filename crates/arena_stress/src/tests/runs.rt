@@ -3,8 +3,8 @@ ghost use Rattle.std.specs.Prelude.{◌≡◌, false, None, OnOk, IfSome};
 ghost use Rattle.node_arena.specs.Seats.{carries_of};
 ghost use Rattle.arena_stress.specs.Seated.{IsFresh};
 
-use crate::threads::both;
 use crate::new_arenas::{pop, seats_of};
+use crate::threads::both;
 use free_list::{give_back, take};
 use history::{Refusal, WornWord};
 use node_arena::{Arena, Held, Role, Seat};

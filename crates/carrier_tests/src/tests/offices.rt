@@ -1,6 +1,6 @@
 //! Offices of letters, in one thread and in four.
-mod rests;
 mod common;
 mod ends;
+mod rests;
 mod rings;
 mod threads;

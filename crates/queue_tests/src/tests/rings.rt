@@ -2,6 +2,6 @@
 mod calls;
 mod ends;
 mod looks;
-mod sizes;
 mod runs;
+mod sizes;
 mod threads;

@@ -1,5 +1,5 @@
 //! Values of several types in the slots of an arena, and what becomes of them at the end.
 mod calls;
-mod leftovers;
 mod drops;
+mod leftovers;
 mod queues;

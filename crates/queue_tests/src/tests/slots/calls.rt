@@ -55,7 +55,9 @@ pub fn push<T>(arena: &Values<T>, seat: &mut Seat<T>, value: T) -> Result<(), (R
         Err(refusal) => return Err((refusal, value)),
     };
     let body = slot(arena, seat, held.node, value)?;
-    match <NonBlockingAlgorithm as Algorithm<24>>::push_with_node(arena, seat, held, body, 0, TURNS) {
+    match <NonBlockingAlgorithm as Algorithm<24>>::push_with_node(
+        arena, seat, held, body, 0, TURNS,
+    ) {
         Ok(()) => Ok(()),
         Err(refusal) => {
             let index = body.number() as usize;
