@@ -45,7 +45,8 @@ abbrev pub PushMoves : {T : Type 0} → Arena → (body : ℕ) → Seat T → Se
 PushMoves r body s t out = MatchResult out (λ _. GivesSlot r body s t) (λ _. KeepsSlots s t)
 
 -- what a push answers that has its node, where so many turns failed before, and beside that what became of slots
-pub record PushesWithNodeAnd {T : Type 0} (Slots : Type 0) (worn : WornWord → Option Held → Type 0) (r : Arena) (s t : Seat T) (node body spent turns : ℕ) (out : Result (Unit {0}) Refusal) : Type 0 where
+pub record PushesWithNodeAnd {T : Type 0} (Slots : Type 0) (worn : WornWord → Option Held → Type 0) (r : Arena) (s t : Seat T)
+    (node body spent turns : ℕ) (out : Result (Unit {0}) Refusal) : Type 0 where
   pub ready : IsReady r t
   pub same : KeepsName s t
   pub slots : Slots

@@ -13,11 +13,11 @@ impl<T> RingValues<T> {
     ///
     /// ```rust
     /// match queue.emptiness(&mut seat) {
-    ///     Emptiness::Empty | Emptiness::Holds => {}
+    ///     RingEmptiness::Empty | RingEmptiness::Holds => {}
     ///     // Nothing comes any more.
-    ///     Emptiness::ShutEmpty => return,
+    ///     RingEmptiness::ShutEmpty => return,
     ///     // Others are popping, or a push is under way: look again.
-    ///     Emptiness::Moved | Emptiness::Unfilled => backoff.snooze(),
+    ///     RingEmptiness::Moved | RingEmptiness::Unfilled => backoff.snooze(),
     /// }
     /// ```
     pub fn emptiness(&self, seat: &mut Seat<T>) -> RingEmptiness
