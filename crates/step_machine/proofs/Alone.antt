@@ -44,7 +44,8 @@ ends_in zero me w a r e is few = go a.line refl few
     go (Some l) at h = absurd (omega (arith, h, (step_lowers call_steps call_enough w r e me a l is at).mine))
 ends_in (suc k) me w a r e is few = go (ends_in k me) a.line refl few
   where
-    go : ((v : World) (b : Actor) → IsReached v → v.setup.kind ≡ NonBlocking → actor_of v me ≡ Some b → amount_at call_steps v.setup v.shared b b.line ≤ k → EndsWithin k v me) → (l : Option Line) → a.line ≡ l → amount_at call_steps w.setup w.shared a l ≤ suc k → EndsWithin (suc k) w me
+    go : ((v : World) (b : Actor) → IsReached v → v.setup.kind ≡ NonBlocking → actor_of v me ≡ Some b → amount_at call_steps v.setup v.shared b b.line ≤ k → EndsWithin k v me)
+        → (l : Option Line) → a.line ≡ l → amount_at call_steps w.setup w.shared a l ≤ suc k → EndsWithin (suc k) w me
     go after None at h = over (suc k) me w a is at
     go after (Some l) at h =
         let moves_on : next w (Step me) ≡ Some (stepped w me a l) = ap (moved w (Step me)) is ∙ ap (steps w me a) at in
@@ -71,7 +72,8 @@ module _ (i k : ℕ) (few : i ≤ 4) where
 
 -- from a begin on: the bounds of an actor alone, by the same table
 module _ (s : Setup) (m : Shared) where
-  pocket_most : (k : ℕ) (l : Line) (q : Option Held) (b : Actor) → amount_at call_steps s m b b.line ≤ k → ((x : Actor) → x.due ≡ b.due → own call_steps s m x l ≤ k) → amount_at call_steps s m (from_pocket l q b) (from_pocket l q b).line ≤ k
+  pocket_most : (k : ℕ) (l : Line) (q : Option Held) (b : Actor) → amount_at call_steps s m b b.line ≤ k
+      → ((x : Actor) → x.due ≡ b.due → own call_steps s m x l ≤ k) → amount_at call_steps s m (from_pocket l q b) (from_pocket l q b).line ≤ k
   pocket_most k l None b h g = h
   pocket_most k l (Some held) b h g = omega (arith, g (from_pocket l (Some held) b) refl)
 
@@ -92,7 +94,8 @@ after_begin : (w : World) (m : AnyMove) → IfSome (next_any w m) (AfterBegin m)
 after_begin w =
     after_move w AfterBegin
     (record {
-      began = λ me op a is at call r e. ends_in (most_steps op) me (with_actor w me (begun w.setup.kind me op a)) (begun w.setup.kind me op a) r e (actor_same w me a (begun w.setup.kind me op a) is) (begun_most w.setup w.shared w.setup.kind me op a e);
+      began = λ me op a is at call r e. ends_in (most_steps op) me (with_actor w me (begun w.setup.kind me op a)) (begun w.setup.kind me op a) r e
+          (actor_same w me a (begun w.setup.kind me op a) is) (begun_most w.setup w.shared w.setup.kind me op a e);
       step = λ me a l is at. tt;
       gave_up = λ me a l o is at given. tt;
       at_rest = λ me a l is at may. tt;

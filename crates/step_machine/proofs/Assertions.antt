@@ -1,7 +1,10 @@
 -- What both queues assert of the words, of the actors and of a step, over what each of them asserts alone: a `Queue`.
 -- The lines of the free list assert the same in both.
-use Rattle.std.proofs.Common.{◌≡◌, ◌≢◌, ℕ, zero, suc, get_or, replicate, ◌≤◌, ◌<◌, Bool, true, false, nat_eq, if◌then◌else◌, List, [], ◌∷◌, length, Option, Some, None, IfSome, refl, sym, ap, ◌∙◌, subst, arith}
-use Rattle.step_machine.specs.Below.{reserved_node, Ref, ref, Kind, Line, N1, N2, N3, N4, N5, F1, F2, F3, E2, D2, A1, A4, A5, A6, A7, B1, B2, B3, B4, B5, B6, S1, S6, S7, S8, S9, Section, section_of, Setup, empty, Node, Held, Actor, Outcome, blank, Shared, node_at, found, performed, action, outcome}
+use Rattle.std.proofs.Common.{◌≡◌, ◌≢◌, ℕ, zero, suc, get_or, replicate, ◌≤◌, ◌<◌, Bool, true, false, nat_eq, if◌then◌else◌, List, [], ◌∷◌, length}
+use Rattle.std.proofs.Common.{Option, Some, None, IfSome, refl, sym, ap, ◌∙◌, subst, arith}
+use Rattle.step_machine.specs.Below.{reserved_node, Ref, ref, Kind, Line, N1, N2, N3, N4, N5, F1, F2, F3, E2, D2, A1, A4, A5, A6, A7, B1, B2, B3, B4}
+use Rattle.step_machine.specs.Below.{B5, B6, S1, S6, S7, S8, S9, Section, section_of, Setup, empty, Node, Held, Actor, Outcome, blank, Shared}
+use Rattle.step_machine.specs.Below.{node_at, found, performed, action, outcome}
 use Rattle.line_table.specs.declared.lines.Section.TheVariants.{NewNode, Free}
 use Rattle.step_machine.specs.Machine.{opening, IsSized}
 use Rattle.step_machine.specs.Places.{in_hand, in_pocket, one_if, times}
@@ -120,10 +123,12 @@ pub record Queue : Type 1 where
   pub Rely : (m m' : Shared) → (last last' you : ℕ) → Type 0
   pub own_entry : (Z : ℕ → Type 0) (s : Setup) (m : Shared) (last : ℕ) (a : Actor) (entry : Option ℕ) (l : Option Line) → OwnAt Z s m last a l → OwnAt Z s m last (record a { entry = entry }) l
   pub own_more : (Y Z : ℕ → Type 0) (s : Setup) (m : Shared) (last : ℕ) (a : Actor) (l : Option Line) → ((k : ℕ) → Y k → Z k) → OwnAt Y s m last a l → OwnAt Z s m last a l
-  pub own_kept : (Z : ℕ → Type 0) (s : Setup) (m m' : Shared) (last last' you : ℕ) (c : Actor) (l : Line) → Rely m m' last last' you → NodesRely m m' c → FixedAt s.limit you c (Some l) → NonNullAt s.bits l c → OwnsAt m you (Some l) → OwnAt Z s m last c (Some l) → OwnAt Z s m' last' c (Some l)
+  pub own_kept : (Z : ℕ → Type 0) (s : Setup) (m m' : Shared) (last last' you : ℕ) (c : Actor) (l : Line) → Rely m m' last last' you → NodesRely m m' c
+      → FixedAt s.limit you c (Some l) → NonNullAt s.bits l c → OwnsAt m you (Some l) → OwnAt Z s m last c (Some l) → OwnAt Z s m' last' c (Some l)
   pub locks_kept : (m m' : Shared) (last last' you : ℕ) (l : Option Line) → Rely m m' last last' you → OwnsAt m you l → OwnsAt m' you l
   pub words_stay : (s : Setup) (m m' : Shared) (front : ℕ) (rest : List ℕ) → QueueStays m m' (front ∷ rest) → Words s m (front ∷ rest) → Words s m' (front ∷ rest)
-  pub relies : (s : Setup) (m m' : Shared) (front : ℕ) (rest : List ℕ) → QueueStays m m' (front ∷ rest) → Words s m (front ∷ rest) → (you : ℕ) → Rely m m' (last_node (front ∷ rest)) (last_node (front ∷ rest)) you
+  pub relies : (s : Setup) (m m' : Shared) (front : ℕ) (rest : List ℕ) → QueueStays m m' (front ∷ rest) → Words s m (front ∷ rest) → (you : ℕ)
+      → Rely m m' (last_node (front ∷ rest)) (last_node (front ∷ rest)) you
 
 -- what an actor knows before its line, by whether the line is one of the queue's own
 abbrev pub KnowsBy : Queue → Bool → (Z : ℕ → Type 0) → Setup → Shared → (last : ℕ) → Actor → Option Line → Type 0
@@ -193,8 +198,10 @@ IsOwnOf section kind = IsRunBy section kind
 -- what the steps of a queue's own lines do, and that it holds its assertions at the start
 pub record Steps (q : Queue) : Type 1 where
   pub starts : (s : Setup) (actors : ℕ) → IsSized s actors → q.Words s (opening s actors).shared (1 ∷ [])
-  pub found_a_node : (Z : ℕ → Type 0) (s : Setup) (me : ℕ) (m : Shared) (last : ℕ) (a : Actor) (l : Line) → IsRunBy (section_of l) q.kind → Knows q Z s m last a (Some l) → FoundANode s me a l (found (action s me a l) m)
-  pub does : (b : Before q) (l : Line) → IsOwnOf (section_of l) q.kind → AtLine q b l → After q b (performed (action b.s b.me b.a l) b.m) (outcome b.s b.now b.me b.a l (found (action b.s b.me b.a l) b.m))
+  pub found_a_node : (Z : ℕ → Type 0) (s : Setup) (me : ℕ) (m : Shared) (last : ℕ) (a : Actor) (l : Line) → IsRunBy (section_of l) q.kind
+      → Knows q Z s m last a (Some l) → FoundANode s me a l (found (action s me a l) m)
+  pub does : (b : Before q) (l : Line) → IsOwnOf (section_of l) q.kind → AtLine q b l
+      → After q b (performed (action b.s b.me b.a l) b.m) (outcome b.s b.now b.me b.a l (found (action b.s b.me b.a l) b.m))
 
 -- where its operation stands says nothing of what an actor knows of the free nodes
 free_entry : (m : Shared) (a : Actor) (entry : Option ℕ) (l : Option Line) → FreeAt m a l → FreeAt m (record a { entry = entry }) l
@@ -235,7 +242,8 @@ module _ (q : Queue) where
       go false h = h
 
   -- an actor still knows what it knew
-  pub knows_kept : (Z : ℕ → Type 0) (s : Setup) (m m' : Shared) (last last' you : ℕ) (c : Actor) (l : Line) → q.Rely m m' last last' you → NodesRely m m' c → FixedAt s.limit you c (Some l) → NonNullAt s.bits l c → OwnsAt m you (Some l) → Knows q Z s m last c (Some l) → Knows q Z s m' last' c (Some l)
+  pub knows_kept : (Z : ℕ → Type 0) (s : Setup) (m m' : Shared) (last last' you : ℕ) (c : Actor) (l : Line) → q.Rely m m' last last' you → NodesRely m m' c
+      → FixedAt s.limit you c (Some l) → NonNullAt s.bits l c → OwnsAt m you (Some l) → Knows q Z s m last c (Some l) → Knows q Z s m' last' c (Some l)
   knows_kept Z s m m' last last' you c l k n f p o = go (is_own (Some l))
     where
       go : (b : Bool) → KnowsBy q b Z s m last c (Some l) → KnowsBy q b Z s m' last' c (Some l)

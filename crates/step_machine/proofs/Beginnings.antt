@@ -16,7 +16,9 @@ pub record Begins (q : Queue) (Z : ℕ → Type 0) (s : Setup) (m : Shared) (las
   pub owns : OwnsAt m me b.line
   pub holds : (n : ℕ) → holds n b ≡ holds n a
 
-from_pocket_begins : (q : Queue) (Z : ℕ → Type 0) (s : Setup) (m : Shared) (last me : ℕ) (a : Actor) (l : Line) (pocket : Option Held) (b : Actor) → b.holds ≡ false → b.pocket ≡ pocket → ((c : Actor) → Knows q Z s m last c (Some l)) → OwnsAt m me (Some l) → Begins q Z s m last me a b → Begins q Z s m last me a (from_pocket l pocket b)
+from_pocket_begins : (q : Queue) (Z : ℕ → Type 0) (s : Setup) (m : Shared) (last me : ℕ) (a : Actor) (l : Line) (pocket : Option Held) (b : Actor)
+    → b.holds ≡ false → b.pocket ≡ pocket → ((c : Actor) → Knows q Z s m last c (Some l)) → OwnsAt m me (Some l) → Begins q Z s m last me a b
+    → Begins q Z s m last me a (from_pocket l pocket b)
 from_pocket_begins q Z s m last me a l None b empty e knows owns h = h
 from_pocket_begins q Z s m last me a l (Some held) b empty e knows owns h =
     let mark : IsMark m held.node held.mark = subst (λ p. IfSome p (λ x. IsMark m x.node x.mark)) e h.marked.pocket in
@@ -27,7 +29,8 @@ from_pocket_begins q Z s m last me a l (Some held) b empty e knows owns h =
       holds = λ n. omega (arith, h.holds n, ap (λ (x : Bool). if x then one_if (nat_eq n b.node) else 0) empty, ap (in_pocket n) e);
     }
 
-pub begun_begins : (q : Queue) (Z : ℕ → Type 0) (s : Setup) (m : Shared) (last me : ℕ) (kind : Kind) (op : Op) (a : Actor) → a.holds ≡ false → Marked m a → OwnsAt m me None → Begins q Z s m last me a (begun kind me op a)
+pub begun_begins : (q : Queue) (Z : ℕ → Type 0) (s : Setup) (m : Shared) (last me : ℕ) (kind : Kind) (op : Op) (a : Actor) → a.holds ≡ false → Marked m a
+    → OwnsAt m me None → Begins q Z s m last me a (begun kind me op a)
 begun_begins q Z s m last me TwoLock (Enq body) a e h g = from_pocket_begins q Z s m last me a A1 a.pocket _ e refl (λ c. tt) g (record { marked = h; knows = tt; owns = g; holds = λ n. refl })
 begun_begins q Z s m last me NonBlocking (Enq body) a e h g = from_pocket_begins q Z s m last me a E2 a.pocket _ e refl (λ c. tt) g (record { marked = h; knows = tt; owns = g; holds = λ n. refl })
 begun_begins q Z s m last me TwoLock Deq a e h g = from_pocket_begins q Z s m last me a F1 a.pocket _ e refl (λ c. tt) g (record { marked = h; knows = tt; owns = g; holds = λ n. refl })
@@ -36,7 +39,8 @@ begun_begins q Z s m last me TwoLock Shut a e h g = record { marked = record { h
 begun_begins q Z s m last me NonBlocking Shut a e h g = record { marked = record { hand = h.hand; pocket = h.pocket }; knows = tt; owns = g; holds = λ n. refl }
 
 -- an actor that rests keeps its node, in its pocket, and has no lock
-pub rested_begins : (q : Queue) (Z : ℕ → Type 0) (s : Setup) (m : Shared) (last me : ℕ) (a : Actor) (l : Line) → may_rest l ≡ true → FixedAt s.limit me a (Some l) → Marked m a → OwnsAt m me (Some l) → Begins q Z s m last me a (rested a)
+pub rested_begins : (q : Queue) (Z : ℕ → Type 0) (s : Setup) (m : Shared) (last me : ℕ) (a : Actor) (l : Line) → may_rest l ≡ true
+    → FixedAt s.limit me a (Some l) → Marked m a → OwnsAt m me (Some l) → Begins q Z s m last me a (rested a)
 rested_begins q Z s m last me a E2 may f h g =
     record { marked = record { hand = λ e. absurd (true≢false (sym e)); pocket = h.hand f.hand }; knows = tt; owns = g; holds = λ n. omega (arith, holds_hand n a f.hand f.pocket) }
 rested_begins q Z s m last me a A1 may f h g =

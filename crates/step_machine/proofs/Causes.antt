@@ -5,7 +5,10 @@ use Rattle.std.specs.Prelude.{slice_index_or}
 use Rattle.std.specs.List.{All}
 use Rattle.std.proofs.lemmas.Bool.{eqb-true, ltb-false}
 use Rattle.std.proofs.lemmas.List.Elements.{All-set, All-append, All-cons, All-nil}
-use Rattle.step_machine.specs.Below.{is_null, same_ref, Kind, Line, N1, N2, N3, N4, N5, F1, F2, F3, E5, E9, E13, E17, D2, D10, D13, A3, B1, B5, S1, S4, S5, S6, section_of, WornWord, OfFree, Refusal, NoNode, WornOut, Busy, Closed, Reply, Value, Refused, Stamped, Taken, Setup, Actor, Outcome, found, action, outcome, goes, empties_hand, fills_hand, to_pocket, with_node, freed, busy_or, gives_up}
+use Rattle.step_machine.specs.Below.{is_null, same_ref, Kind, Line, N1, N2, N3, N4, N5, F1, F2, F3, E5, E9, E13, E17, D2, D10, D13, A3, B1, B5, S1}
+use Rattle.step_machine.specs.Below.{S4, S5, S6, section_of, WornWord, OfFree, Refusal, NoNode, WornOut, Busy, Closed, Reply, Value, Refused, Stamped}
+use Rattle.step_machine.specs.Below.{Taken, Setup, Actor, Outcome, found, action, outcome, goes, empties_hand, fills_hand, to_pocket, with_node}
+use Rattle.step_machine.specs.Below.{freed, busy_or, gives_up}
 use Rattle.step_machine.specs.Machine.{World, actor_of, with_operation, with_outcome, new_operation, IsReached}
 use Rattle.step_machine.specs.Range.{RegistersInRange, WorldInRange}
 use Rattle.step_machine.specs.ProgramCounters.{IsRunBy}
@@ -47,7 +50,10 @@ no_node Own w a g low null none =
     (omega arith, eqb-true w.shared.free.node 0 null)
 
 -- the step of each line has its cause, if those of the queue's own lines have
-pub caused : (Own : WornWord → Type 0) (w : World) (kind : Kind) (now me : ℕ) (a : Actor) (l : Line) → WorldInRange w → RegistersInRange w.setup w.shared.fresh (length w.actors) a → IsRunBy (section_of l) kind → FixedAt w.setup.limit me a (Some l) → (IsOwnOf (section_of l) kind → Caused Own w (outcome w.setup now me a l (found (action w.setup me a l) w.shared))) → Caused Own w (outcome w.setup now me a l (found (action w.setup me a l) w.shared))
+pub caused : (Own : WornWord → Type 0) (w : World) (kind : Kind) (now me : ℕ) (a : Actor) (l : Line) → WorldInRange w
+    → RegistersInRange w.setup w.shared.fresh (length w.actors) a → IsRunBy (section_of l) kind → FixedAt w.setup.limit me a (Some l)
+    → (IsOwnOf (section_of l) kind → Caused Own w (outcome w.setup now me a l (found (action w.setup me a l) w.shared)))
+    → Caused Own w (outcome w.setup now me a l (found (action w.setup me a l) w.shared))
 caused Own w kind now me a N1 g c r f own = record { cause = tt }
 caused Own w kind now me a N2 g c r f own =
     either (Caused Own w) (is_null w.shared.free)
@@ -58,13 +64,15 @@ caused Own w kind now me a N4 g c r f own =
     either (Caused Own w) (same_ref w.shared.free a.top) (λ e. with_node_caused Own w w.setup.kind (fills_hand a.top.node a.next.count a)) (λ e. record { cause = tt })
 caused Own w kind now me a N5 g c r f own = either (Caused Own w) (nat_eq w.shared.fresh a.f) (λ e. with_node_caused Own w w.setup.kind (fills_hand (a.f + 1) 0 a)) (λ e. record { cause = tt })
 caused Own w kind now me a F1 g c r f own =
-    either (Caused Own w) (nat_eq w.shared.free.count w.setup.limit) (λ e. record { cause = (freed_caused Own w w.setup.kind now a.due (record a { top = w.shared.free }) f.earned).cause }) (λ e. record { cause = tt })
+    either (Caused Own w) (nat_eq w.shared.free.count w.setup.limit) (λ e. record
+    { cause = (freed_caused Own w w.setup.kind now a.due (record a { top = w.shared.free }) f.earned).cause }) (λ e. record { cause = tt })
 caused Own w kind now me a F2 g c r f own = record { cause = tt }
 caused Own w kind now me a F3 g c r f own = either (Caused Own w) (same_ref w.shared.free a.top) (λ e. freed_caused Own w w.setup.kind now a.due (empties_hand a) f.earned) (λ e. record { cause = tt })
 caused Own w kind now me a l g c r f own = own r
 
 -- what an actor raises is below the limit, if the `next` that E9 and S4 compare with is
-pub raises_below : (s : Setup) (fresh k : ℕ) (a : Actor) (l : Line) → RegistersInRange s fresh k a → RoomAt l s.limit a → ((l ≡ E9) ⊎ (l ≡ S4) → a.next.count < s.limit) → IfSome (raised_at l a) (λ r. r.count < s.limit)
+pub raises_below : (s : Setup) (fresh k : ℕ) (a : Actor) (l : Line) → RegistersInRange s fresh k a → RoomAt l s.limit a
+    → ((l ≡ E9) ⊎ (l ≡ S4) → a.next.count < s.limit) → IfSome (raised_at l a) (λ r. r.count < s.limit)
 raises_below s fresh k a N4 g room next = let low : a.top.count ≤ s.limit = g.top.count in omega arith
 raises_below s fresh k a F3 g room next = let low : a.top.count ≤ s.limit = g.top.count in omega arith
 raises_below s fresh k a E9 g room next = next (inl refl)
@@ -95,19 +103,24 @@ module _ (kind : Kind) (P : Option Reply → Type 0) (busy : P (Some (Refused Bu
   given now limit me a S6 f = busy
   given now limit me a _ f = tt
 
-  recorded : (entry : Option ℕ) (new : Stamped) (change : Stamped → Stamped) (ops : List Stamped) → All (λ o. P o.reply) ops → ((o : Stamped) → P (change o).reply) → All (λ o. P o.reply) (with_operation entry new change ops)
+  recorded : (entry : Option ℕ) (new : Stamped) (change : Stamped → Stamped) (ops : List Stamped) → All (λ o. P o.reply) ops
+      → ((o : Stamped) → P (change o).reply) → All (λ o. P o.reply) (with_operation entry new change ops)
   recorded None new change ops h each = All-append (λ o. P o.reply) ops (change new ∷ []) h (All-cons (λ o. P o.reply) (change new) [] (each new) (All-nil (λ o. P o.reply)))
   recorded (Some e) new change ops h each = All-set (λ o. P o.reply) ops e (change (slice_index_or ops e new)) (each (slice_index_or ops e new)) h
 
-  settled : (w : World) (me : ℕ) (a : Actor) (o : Outcome) → All (λ o. P o.reply) w.operations → P o.reply → All (λ o. P o.reply) (with_operation a.entry (new_operation me a.op (w.steps + 1)) (with_outcome (w.steps + 1) o) w.operations)
+  settled : (w : World) (me : ℕ) (a : Actor) (o : Outcome) → All (λ o. P o.reply) w.operations → P o.reply
+      → All (λ o. P o.reply) (with_operation a.entry (new_operation me a.op (w.steps + 1)) (with_outcome (w.steps + 1) o) w.operations)
   settled w me a o h g = recorded a.entry (new_operation me a.op (w.steps + 1)) (with_outcome (w.steps + 1) o) w.operations h (λ x. g)
 
-  pub each_reply : ((w : World) → IsReached w → w.setup.kind ≡ kind → (me : ℕ) (a : Actor) (l : Line) → actor_of w me ≡ Some a → a.line ≡ Some l → P (outcome w.setup (w.steps + 1) me a l (found (action w.setup me a l) w.shared)).reply) → (w : World) → IsReached w → w.setup.kind ≡ kind → All (λ o. P o.reply) w.operations
+  pub each_reply : ((w : World) → IsReached w → w.setup.kind ≡ kind → (me : ℕ) (a : Actor) (l : Line) → actor_of w me ≡ Some a → a.line ≡ Some l
+      → P (outcome w.setup (w.steps + 1) me a l (found (action w.setup me a l) w.shared)).reply) → (w : World) → IsReached w → w.setup.kind ≡ kind
+      → All (λ o. P o.reply) w.operations
   each_reply tells =
       each_reached kind (λ w. All (λ o. P o.reply) w.operations)
       (record {
         step = λ w me a l r e is at h. settled w me a (outcome w.setup (w.steps + 1) me a l (found (action w.setup me a l) w.shared)) h (tells w r e me a l is at);
-        gave_up = λ w me a l o r e is at gave h. settled w me a o h (some_of (λ x. P x.reply) (gives_up (w.steps + 1) a l) o gave (given (w.steps + 1) w.setup.limit me a l (fixed_at w r me a l is at)));
+        gave_up = λ w me a l o r e is at gave h. settled w me a o h (some_of (λ x. P x.reply) (gives_up (w.steps + 1) a l) o gave
+            (given (w.steps + 1) w.setup.limit me a l (fixed_at w r me a l is at)));
         began = λ w me op a r e is at call h. h;
         at_rest = λ w me a l r e is at may h. h;
       })

@@ -82,7 +82,8 @@ first_not_last n m ms once e =
 -- chains by an end
 module _ (End : ℕ → Type 0) where
   -- a chain stays where the `next` of each of its nodes stays
-  pub chain_kept : (nodes nodz : List Node) (ns : List ℕ) (n : ℕ) → length nodz ≡ length nodes → ((k : ℕ) → 1 ≤ k → 1 ≤ times k ns → next_in nodz k ≡ next_in nodes k) → IsChainBy End nodes n ns → IsChainBy End nodz n ns
+  pub chain_kept : (nodes nodz : List Node) (ns : List ℕ) (n : ℕ) → length nodz ≡ length nodes
+      → ((k : ℕ) → 1 ≤ k → 1 ≤ times k ns → next_in nodz k ≡ next_in nodes k) → IsChainBy End nodes n ns → IsChainBy End nodz n ns
   chain_kept nodes nodz [] n same each h = h
   chain_kept nodes nodz (x ∷ xs) n same each h = (
     h.0,
@@ -122,7 +123,9 @@ module _ (End : ℕ → Type 0) where
       ap (λ z. z ∷ xs) (sym e) ∙ ap (λ z. y ∷ z) (chain_same nodes xs ys (next_in nodes x) apart h.3 (subst (λ z. IsChainBy End nodes (next_in nodes z) ys) e g.3))
 
   -- a chain stays where another end comes behind its last node
-  pub chain_ended : (nodes nodz : List Node) (n : ℕ) (ns : List ℕ) (k : ℕ) → length nodz ≡ length nodes → ((j : ℕ) → 1 ≤ j → j ≢ last_node (n ∷ ns) → next_in nodz j ≡ next_in nodes j) → ((j : ℕ) → times j (n ∷ ns) ≤ 1) → End (next_in nodz (last_node (n ∷ ns))) → IsChainBy End nodes k (n ∷ ns) → IsChainBy End nodz k (n ∷ ns)
+  pub chain_ended : (nodes nodz : List Node) (n : ℕ) (ns : List ℕ) (k : ℕ) → length nodz ≡ length nodes
+      → ((j : ℕ) → 1 ≤ j → j ≢ last_node (n ∷ ns) → next_in nodz j ≡ next_in nodes j) → ((j : ℕ) → times j (n ∷ ns) ≤ 1)
+      → End (next_in nodz (last_node (n ∷ ns))) → IsChainBy End nodes k (n ∷ ns) → IsChainBy End nodz k (n ∷ ns)
   chain_ended nodes nodz n [] k same each once end h = (h.0, h.1, let l : n ≤ length nodes = h.2 in omega arith, end)
   chain_ended nodes nodz n (m ∷ ms) k same each once end h = (
     h.0,
@@ -133,7 +136,9 @@ module _ (End : ℕ → Type 0) where
   )
 
   -- one more node is behind the last one, where that one's `next` leads to it and an end is behind it
-  pub chain_linked : (nodes nodz : List Node) (n : ℕ) (ns : List ℕ) (k x : ℕ) → length nodz ≡ length nodes → ((j : ℕ) → 1 ≤ j → j ≢ last_node (n ∷ ns) → next_in nodz j ≡ next_in nodes j) → next_in nodz (last_node (n ∷ ns)) ≡ x → ((j : ℕ) → times j (n ∷ ns) ≤ 1) → 1 ≤ x → x ≤ length nodes → End (next_in nodz x) → IsChainBy End nodes k (n ∷ ns) → IsChainBy End nodz k (n ∷ ns ++ x ∷ [])
+  pub chain_linked : (nodes nodz : List Node) (n : ℕ) (ns : List ℕ) (k x : ℕ) → length nodz ≡ length nodes
+      → ((j : ℕ) → 1 ≤ j → j ≢ last_node (n ∷ ns) → next_in nodz j ≡ next_in nodes j) → next_in nodz (last_node (n ∷ ns)) ≡ x → ((j : ℕ) → times j (n ∷ ns) ≤ 1)
+      → 1 ≤ x → x ≤ length nodes → End (next_in nodz x) → IsChainBy End nodes k (n ∷ ns) → IsChainBy End nodz k (n ∷ ns ++ x ∷ [])
   chain_linked nodes nodz n [] k x same each leads once some low end h = (
     h.0,
     h.1,
@@ -169,10 +174,12 @@ pub closed_shut : (bits : ℕ) → nat_eq (reserved_node bits) (reserved_node bi
 closed_shut bits = eq-eqb (reserved_node bits) (reserved_node bits) refl
 
 -- a chain whose first node leads to the closed end has no other node, and holds a queue that is shut
-pub alone_at_end : (bits : ℕ) (nodes : List Node) (k front : ℕ) (rest : List ℕ) → length nodes < reserved_node bits → IsQueueChain bits nodes k (front ∷ rest) → next_in nodes front ≡ reserved_node bits → rest ≡ []
+pub alone_at_end : (bits : ℕ) (nodes : List Node) (k front : ℕ) (rest : List ℕ) → length nodes < reserved_node bits → IsQueueChain bits nodes k (front ∷ rest)
+    → next_in nodes front ≡ reserved_node bits → rest ≡ []
 alone_at_end bits nodes k front rest few chain closed = chain_same (IsEnd bits) nodes rest [] (next_in nodes front) (ends_apart bits nodes few) chain.3 (inr closed)
 
-pub shut_alone : (bits : ℕ) (m : Shared) (k front : ℕ) (rest : List ℕ) → length m.nodes < reserved_node bits → IsQueueChain bits m.nodes k (front ∷ rest) → next_in m.nodes front ≡ reserved_node bits → is_shut_chain bits m (front ∷ rest) ≡ true
+pub shut_alone : (bits : ℕ) (m : Shared) (k front : ℕ) (rest : List ℕ) → length m.nodes < reserved_node bits → IsQueueChain bits m.nodes k (front ∷ rest)
+    → next_in m.nodes front ≡ reserved_node bits → is_shut_chain bits m (front ∷ rest) ≡ true
 shut_alone bits m k front rest few chain closed =
     ap (λ ns. is_shut_chain bits m (front ∷ ns)) (alone_at_end bits m.nodes k front rest few chain closed) ∙ ap (λ n. nat_eq n (reserved_node bits)) closed ∙ closed_shut bits
 
@@ -192,6 +199,7 @@ null_ended bits n low = ap ends (null_open bits n low)
     ends flag = record { values = []; shut = flag }
 
 -- a chain whose first node leads to null holds the empty queue
-pub empty_behind : (bits : ℕ) (m : Shared) (front : ℕ) (rest : List ℕ) → length m.nodes < reserved_node bits → IsQueueChain bits m.nodes m.head.node (front ∷ rest) → next_in m.nodes front ≡ 0 → queue_in bits m (front ∷ rest) ≡ empty
+pub empty_behind : (bits : ℕ) (m : Shared) (front : ℕ) (rest : List ℕ) → length m.nodes < reserved_node bits
+    → IsQueueChain bits m.nodes m.head.node (front ∷ rest) → next_in m.nodes front ≡ 0 → queue_in bits m (front ∷ rest) ≡ empty
 empty_behind bits m front [] few chain null = ap (ended_at bits) null ∙ null_ended bits (length m.nodes) few
 empty_behind bits m front (x ∷ xs) few chain null = absurd (omega (arith, null, chain.3.0, chain.3.1))

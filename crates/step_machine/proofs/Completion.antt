@@ -18,7 +18,9 @@ module _ (w : World) where
   inserted_entry o [] = refl
   inserted_entry o (p ∷ ps) = go (nat_le (place o) (place p)) (inserted_entry o ps)
     where
-      go : (b : Bool) → inserted (entry_in w o) (map (entry_in w) ps) ≡ map (entry_in w) (inserted o ps) → (if b then entry_in w o ∷ entry_in w p ∷ map (entry_in w) ps else entry_in w p ∷ inserted (entry_in w o) (map (entry_in w) ps)) ≡ map (entry_in w) (if b then o ∷ p ∷ ps else p ∷ inserted o ps)
+      go : (b : Bool) → inserted (entry_in w o) (map (entry_in w) ps) ≡ map (entry_in w) (inserted o ps)
+          → (if b then entry_in w o ∷ entry_in w p ∷ map (entry_in w) ps else entry_in w p ∷ inserted (entry_in w o) (map (entry_in w) ps)) ≡ map
+          (entry_in w) (if b then o ∷ p ∷ ps else p ∷ inserted o ps)
       go true ih = refl
       go false ih = ap (λ x. entry_in w p ∷ x) ih
 
@@ -26,7 +28,8 @@ module _ (w : World) where
   rising_entry [] = refl
   rising_entry (o ∷ os) = go (is_some o.at) (rising_entry os)
     where
-      go : (b : Bool) → by_point (map (entry_in w) os) ≡ map (entry_in w) (by_point os) → (if b then inserted (entry_in w o) (by_point (map (entry_in w) os)) else by_point (map (entry_in w) os)) ≡ map (entry_in w) (if b then inserted o (by_point os) else by_point os)
+      go : (b : Bool) → by_point (map (entry_in w) os) ≡ map (entry_in w) (by_point os)
+          → (if b then inserted (entry_in w o) (by_point (map (entry_in w) os)) else by_point (map (entry_in w) os)) ≡ map (entry_in w) (if b then inserted o (by_point os) else by_point os)
       go true ih = ap (inserted (entry_in w o)) ih ∙ inserted_entry o (by_point os)
       go false ih = ih
 
@@ -34,7 +37,9 @@ module _ (w : World) where
   inserted_promised o [] = refl
   inserted_promised o (p ∷ ps) = go (nat_le (place o) (place p)) (inserted_promised o ps)
     where
-      go : (b : Bool) → inserted (completed w o) (map (completed w) ps) ≡ map (completed w) (inserted o ps) → (if b then completed w o ∷ completed w p ∷ map (completed w) ps else completed w p ∷ inserted (completed w o) (map (completed w) ps)) ≡ map (completed w) (if b then o ∷ p ∷ ps else p ∷ inserted o ps)
+      go : (b : Bool) → inserted (completed w o) (map (completed w) ps) ≡ map (completed w) (inserted o ps)
+          → (if b then completed w o ∷ completed w p ∷ map (completed w) ps else completed w p ∷ inserted (completed w o) (map (completed w) ps)) ≡
+          map (completed w) (if b then o ∷ p ∷ ps else p ∷ inserted o ps)
       go true ih = refl
       go false ih = ap (λ x. completed w p ∷ x) ih
 
@@ -42,7 +47,8 @@ module _ (w : World) where
   rising_promised [] = refl
   rising_promised (o ∷ os) = go (is_some o.at) (rising_promised os)
     where
-      go : (b : Bool) → by_point (map (completed w) os) ≡ map (completed w) (by_point os) → (if b then inserted (completed w o) (by_point (map (completed w) os)) else by_point (map (completed w) os)) ≡ map (completed w) (if b then inserted o (by_point os) else by_point os)
+      go : (b : Bool) → by_point (map (completed w) os) ≡ map (completed w) (by_point os)
+          → (if b then inserted (completed w o) (by_point (map (completed w) os)) else by_point (map (completed w) os)) ≡ map (completed w) (if b then inserted o (by_point os) else by_point os)
       go true ih = ap (inserted (completed w o)) ih ∙ inserted_promised o (by_point os)
       go false ih = ih
 
@@ -59,7 +65,8 @@ module _ (w : World) where
   replays_same queue [] h = tt
   replays_same queue (o ∷ os) h = (
     gets_same queue o (completed w o).reply h.0,
-    replays_same (answer queue (completed w o) (completed w o).reply).after os (subst (λ x. IsSequentialRun x (map (entry_in w) os)) (ap (λ x. x.after) (answer_same queue o (completed w o).reply)) h.1),
+    replays_same (answer queue (completed w o) (completed w o).reply).after os
+        (subst (λ x. IsSequentialRun x (map (entry_in w) os)) (ap (λ x. x.after) (answer_same queue o (completed w o).reply)) h.1),
   )
 
   replayed_same : (queue : Queue) (ops : List Stamped) → queue_after queue (map (entry_in w) ops) ≡ queue_after queue (map (completed w) ops)
@@ -79,7 +86,8 @@ module _ (w : World) where
   answer_told queue o (Some Done) at due = refl
   answer_told queue o _ at due = refl
 
-  gets_told : (queue : Queue) (o : Stamped) (reply : Option Reply) (at : Option ℕ) (due : Option Reply) → AgreesWithQueue queue (entry_in w o) (completed_reply reply at due) → AgreesWithQueue queue o reply
+  gets_told : (queue : Queue) (o : Stamped) (reply : Option Reply) (at : Option ℕ) (due : Option Reply)
+      → AgreesWithQueue queue (entry_in w o) (completed_reply reply at due) → AgreesWithQueue queue o reply
   gets_told queue o None at due h = tt
   gets_told queue o (Some Done) at due h = h
   gets_told queue o _ at due h = h

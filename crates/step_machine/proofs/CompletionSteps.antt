@@ -2,7 +2,8 @@
 --
 -- `bare_completion w` lists them without their first and last numbers. `simulates` says what a step does with it, and `unchanged` and
 -- `entered_at` what that does with the operations by rising place: nothing, or one more is inserted.
-use Rattle.std.proofs.Common.{◌≡◌, ◌≢◌, ℕ, zero, suc, ◌+◌, ◌-◌, ◌≤◌, ◌<◌, ◌⊎◌, inl, inr, Bool, true, false, nat_eq, nat_lt, if◌then◌else◌, Option, Some, None, IfSome, List, [], ◌∷◌, ◌++◌, map, set, length, refl, sym, ap, ◌∙◌, subst, arith}
+use Rattle.std.proofs.Common.{◌≡◌, ◌≢◌, ℕ, zero, suc, ◌+◌, ◌-◌, ◌≤◌, ◌<◌, ◌⊎◌, inl, inr, Bool, true, false, nat_eq, nat_lt, if◌then◌else◌, Option}
+use Rattle.std.proofs.Common.{Some, None, IfSome, List, [], ◌∷◌, ◌++◌, map, set, length, refl, sym, ap, ◌∙◌, subst, arith}
 use Rattle.std.specs.Prelude.{slice_get, IsSome}
 use Rattle.std.proofs.lemmas.Bool.{eqb-false, ltb-true, ltb-false}
 use Rattle.std.proofs.lemmas.List.{map-append}
@@ -160,7 +161,8 @@ told_none (Some l) None due at g e = refl
 told_none (Some l) (Some reply) due at g e = absurd g
 
 -- two operations of a list have different places
-distinct : (K : List ℕ) (ops : List Stamped) → Operations (Unit {0}) K ops → (i j : ℕ) (o p : Stamped) (n : ℕ) → i ≢ j → slice_get ops i ≡ Some o → slice_get ops j ≡ Some p → o.at ≡ Some n → p.at ≢ Some n
+distinct : (K : List ℕ) (ops : List Stamped) → Operations (Unit {0}) K ops → (i j : ℕ) (o p : Stamped) (n : ℕ) → i ≢ j → slice_get ops i ≡ Some o
+    → slice_get ops j ≡ Some p → o.at ≡ Some n → p.at ≢ Some n
 distinct K ops h i j o p n ne goto gotp at = go (nat_lt i j) refl
   where
     go : (b : Bool) → nat_lt i j ≡ b → p.at ≢ Some n
@@ -186,7 +188,8 @@ if_any : (o : Option ℕ) → IfSome o (λ n. Unit {0})
 if_any None = tt
 if_any (Some n) = tt
 
-module _ (K : List ℕ) (w : World) (me : ℕ) (a : Actor) (m' : Shared) (l : Line) (o : Outcome) (h : StampsInvariant (Unit {0}) K w) (is : actor_of w me ≡ Some a) (does : Does (w.steps + 1) l a.due a.empty_at o) (earns : DecidedAt l a.due) where
+module _ (K : List ℕ) (w : World) (me : ℕ) (a : Actor) (m' : Shared) (l : Line) (o : Outcome) (h : StampsInvariant (Unit {0}) K w) (is : actor_of w me ≡ Some a)
+    (does : Does (w.steps + 1) l a.due a.empty_at o) (earns : DecidedAt l a.due) where
   abbrev now : Actor
   now = record o.actor { entry = Some (entry_or a.entry (length w.operations)) }
 
@@ -197,7 +200,8 @@ module _ (K : List ℕ) (w : World) (me : ℕ) (a : Actor) (m' : Shared) (l : Li
   turns at0 st = does (λ n. Unit {0}) at0 tt (if_any at0) st
 
   -- the first step of a call
-  simulates_first : a.entry ≡ None → Idle (Unit {0}) w.operations me → PointAt l a.due None ⊥ → StampsInvariant (Unit {0}) (K ++ me ∷ []) (after_outcome w me a m' o) → Simulates w (after_outcome w me a m' o) me a o
+  simulates_first : a.entry ≡ None → Idle (Unit {0}) w.operations me → PointAt l a.due None ⊥
+      → StampsInvariant (Unit {0}) (K ++ me ∷ []) (after_outcome w me a m' o) → Simulates w (after_outcome w me a m' o) me a o
   simulates_first e idle stands after =
       record {
         at0 = None;
@@ -231,11 +235,13 @@ module _ (K : List ℕ) (w : World) (me : ℕ) (a : Actor) (m' : Shared) (l : Li
       made =
           ap (map (entry_in (with_actor w me now))) ops
           ∙ map-append (entry_in (with_actor w me now)) w.operations (x ∷ [])
-          ∙ ap (λ ys. ys ++ entry_in (with_actor w me now) x ∷ []) (map_agree (entry_in (with_actor w me now)) (entry_in w) w.operations (λ i p got. entry_kept K w me now p some_me (h.operations.each i p got) (λ own. idle i p got own)))
+          ∙ ap (λ ys. ys ++ entry_in (with_actor w me now) x ∷ []) (map_agree (entry_in (with_actor w me now)) (entry_in w) w.operations
+          (λ i p got. entry_kept K w me now p some_me (h.operations.each i p got) (λ own. idle i p got own)))
           ∙ ap (λ y. bare_completion w ++ y ∷ []) mine
 
   -- a later step
-  simulates_later : (e : ℕ) → a.entry ≡ Some e → (s : Stamped) → Busy (Unit {0}) w.operations me e s → s.op ≡ a.op → PointAt l a.due s.at (Unit {0}) → StampsInvariant (Unit {0}) (K ++ me ∷ []) (after_outcome w me a m' o) → Simulates w (after_outcome w me a m' o) me a o
+  simulates_later : (e : ℕ) → a.entry ≡ Some e → (s : Stamped) → Busy (Unit {0}) w.operations me e s → s.op ≡ a.op → PointAt l a.due s.at (Unit {0})
+      → StampsInvariant (Unit {0}) (K ++ me ∷ []) (after_outcome w me a m' o) → Simulates w (after_outcome w me a m' o) me a o
   simulates_later e at s b op st after =
       record {
         at0 = s.at;
@@ -286,7 +292,8 @@ module _ (K : List ℕ) (w : World) (me : ℕ) (a : Actor) (m' : Shared) (l : Li
           (put_set w.operations e s x b.here).here ((put_set w.operations e s x b.here).others j ne ∙ p.1) (settled_at o.at s.at n nat) (ap (λ (y : Stamped). y.at) p.2 ∙ at')
 
   -- either of them
-  pub simulates : OperationAt (Unit {0}) K w.operations me (Some l) a.entry a.due a.empty_at → ((e : ℕ) (s : Stamped) → a.entry ≡ Some e → slice_get w.operations e ≡ Some s → s.op ≡ a.op) → Simulates w (after_outcome w me a m' o) me a o
+  pub simulates : OperationAt (Unit {0}) K w.operations me (Some l) a.entry a.due a.empty_at
+      → ((e : ℕ) (s : Stamped) → a.entry ≡ Some e → slice_get w.operations e ≡ Some s → s.op ≡ a.op) → Simulates w (after_outcome w me a m' o) me a o
   simulates k ops = go a.entry refl k
     where
       after : StampsInvariant (Unit {0}) (K ++ me ∷ []) (after_outcome w me a m' o)
@@ -306,7 +313,9 @@ pub record Entered (T T' : List Stamped) (y : Stamped) : Type 0 where
   pub rises : by_point T' ≡ inserted y (by_point T)
   pub counts : taken T' ≡ taken T + one_if (is_value y.reply)
 
-unchanged_booked : (T T' : List Stamped) (me : ℕ) (op : Op) (at0 : Option ℕ) (due0 : Option Reply) (with_outcome : Option Reply) (due1 : Option Reply) → (at0 ≡ None → with_outcome ≡ None) → ((n : ℕ) → at0 ≡ Some n → completed_reply with_outcome (Some n) due1 ≡ decided_reply due0) → Booked T T' me op at0 due0 at0 (completed_reply with_outcome at0 due1) → Unchanged T T'
+unchanged_booked : (T T' : List Stamped) (me : ℕ) (op : Op) (at0 : Option ℕ) (due0 : Option Reply) (with_outcome : Option Reply) (due1 : Option Reply)
+    → (at0 ≡ None → with_outcome ≡ None) → ((n : ℕ) → at0 ≡ Some n → completed_reply with_outcome (Some n) due1 ≡ decided_reply due0)
+    → Booked T T' me op at0 due0 at0 (completed_reply with_outcome at0 due1) → Unchanged T T'
 unchanged_booked T T' me op at0 due0 with_outcome due1 quiet keeps (inl q) =
     record {
       rises = ap by_point q.0 ∙ unplaced_added T _ q.1;
@@ -318,7 +327,11 @@ unchanged_booked T T' me op at0 due0 with_outcome due1 quiet keeps (inl q) =
 unchanged_booked T T' me op None due0 with_outcome due1 quiet keeps (inr q) =
     record {
       rises = ap by_point q.2 ∙ unplaced_set T q.0 _ _ refl q.1 refl;
-      counts = ap taken q.2 ∙ omega (arith, taken-set T q.0 _ (entered me op None (completed_reply with_outcome None due1)) q.1, ap (λ r. one_if (is_value (completed_reply r None due1))) (quiet refl));
+      counts = ap taken q.2 ∙ omega (
+        arith,
+        taken-set T q.0 _ (entered me op None (completed_reply with_outcome None due1)) q.1,
+        ap (λ r. one_if (is_value (completed_reply r None due1))) (quiet refl),
+      );
     }
 unchanged_booked T T' me op (Some n) due0 with_outcome due1 quiet keeps (inr q) =
     let same : T' ≡ T = q.2 ∙ ap (λ r. set T q.0 (entered me op (Some n) r)) (keeps n refl) ∙ set_same T q.0 _ q.1 in
@@ -337,7 +350,9 @@ unchanged w v me a o b none keeps =
     kept n e (inr f) = f n
 
 -- a step that gives a place enters it
-pub entered_at : (w v : World) (me : ℕ) (a : Actor) (o : Outcome) (n : ℕ) (reply : Option Reply) → Simulates w v me a o → o.at ≡ Some n → decided_reply a.due ≡ None → completed_reply o.reply (Some n) o.actor.due ≡ reply → Entered (bare_completion w) (bare_completion v) (entered me a.op (Some n) reply)
+pub entered_at : (w v : World) (me : ℕ) (a : Actor) (o : Outcome) (n : ℕ) (reply : Option Reply) → Simulates w v me a o → o.at ≡ Some n
+    → decided_reply a.due ≡ None → completed_reply o.reply (Some n) o.actor.due ≡ reply
+    → Entered (bare_completion w) (bare_completion v) (entered me a.op (Some n) reply)
 entered_at w v me a o n reply b at none is = go at0 (subst (λ x. Booked (bare_completion w) (bare_completion v) me a.op x a.due (Some n) reply) at0 changed)
   where
     at0 : b.at0 ≡ None

@@ -1,7 +1,8 @@
 -- How often actors hold a node, and how often it was set aside, after one actor's state or one flag changed.
 -- `elsewhere w n` counts a node outside the two chains. A step of an actor changes it by what that actor held and
 -- holds and by what is set aside: `elsewhere_settled`. Two actors hold different nodes: `held_both`.
-use Rattle.std.proofs.Common.{◌≡◌, ◌≢◌, ℕ, zero, suc, ◌+◌, ◌-◌, ◌≤◌, ◌<◌, Bool, true, false, nat_eq, nat_le, if◌then◌else◌, List, [], ◌∷◌, length, set, Option, Some, None, refl, ap, ◌∙◌, arith, get_or-set_other, get_or-set_same, ◌⊎◌, inl, inr}
+use Rattle.std.proofs.Common.{◌≡◌, ◌≢◌, ℕ, zero, suc, ◌+◌, ◌-◌, ◌≤◌, ◌<◌, Bool, true, false, nat_eq, nat_le, if◌then◌else◌, List, [], ◌∷◌, length}
+use Rattle.std.proofs.Common.{set, Option, Some, None, refl, ap, ◌∙◌, arith, get_or-set_other, get_or-set_same, ◌⊎◌, inl, inr}
 use Rattle.std.specs.Prelude.{slice_get}
 use Rattle.std.proofs.lemmas.Option.{none-some, same_Some}
 use Rattle.std.proofs.lemmas.Bool.{leb-true, leb-false, le-leb, lt-leb}
@@ -71,7 +72,8 @@ abbrev pub elsewhere : World → ℕ → ℕ
 elsewhere w n = held n w.actors + set_aside n w.aside
 
 -- after an actor was told an outcome
-pub elsewhere_settled : (w : World) (me : ℕ) (a : Actor) (m : Shared) (o : Outcome) (n : ℕ) → actor_of w me ≡ Some a → 1 ≤ n → IsNew w.aside o.aside → elsewhere (after_outcome w me a m o) n + holds n a ≡ elsewhere w n + holds n o.actor + asides n o.aside
+pub elsewhere_settled : (w : World) (me : ℕ) (a : Actor) (m : Shared) (o : Outcome) (n : ℕ) → actor_of w me ≡ Some a → 1 ≤ n → IsNew w.aside o.aside
+    → elsewhere (after_outcome w me a m o) n + holds n a ≡ elsewhere w n + holds n o.actor + asides n o.aside
 elsewhere_settled w me a m o n is some new =
     omega (arith, held_set n w.actors (me - 1) a (record o.actor { entry = Some (entry_or a.entry (length w.operations)) }) (actor_stands w me a is).1, aside_set n w.aside o.aside some new)
 

@@ -13,15 +13,19 @@ use Rattle.step_machine.proofs.Invariant.{step_moving, give_moving}
 use Rattle.step_machine.proofs.EitherQueue.{queue_of_kind, steps_of_kind, is_of_kind, reached_either, same_queue, fixed_at}
 use Rattle.step_machine.proofs.EachLegal.{IsSimulated, carried, reached_simulation, moving_gains}
 
-pub each_step_gains : (w : World) (me : ℕ) (a : Actor) (l : Line) → IsReached w → actor_of w me ≡ Some a → a.line ≡ Some l → Gains w (stepped w me a l) me a (outcome w.setup (w.steps + 1) me a l (found (action w.setup me a l) w.shared))
+pub each_step_gains : (w : World) (me : ℕ) (a : Actor) (l : Line) → IsReached w → actor_of w me ≡ Some a → a.line ≡ Some l
+    → Gains w (stepped w me a l) me a (outcome w.setup (w.steps + 1) me a l (found (action w.setup me a l) w.shared))
 each_step_gains w me a l r is at =
     moving_gains w me a (performed (action w.setup me a l) w.shared) _
-    (step_moving (queue_of_kind w.setup.kind) (steps_of_kind w.setup.kind) SimulationRelation WasEmpty carried w me a l r (is_of_kind w.setup.kind) is at (reached_either SimulationRelation WasEmpty carried w r))
+    (step_moving (queue_of_kind w.setup.kind) (steps_of_kind w.setup.kind) SimulationRelation WasEmpty carried w me a l r (is_of_kind w.setup.kind) is
+    at (reached_either SimulationRelation WasEmpty carried w r))
 
-pub each_give_gains : (w : World) (me : ℕ) (a : Actor) (l : Line) (o : Outcome) → IsReached w → actor_of w me ≡ Some a → a.line ≡ Some l → gives_up (w.steps + 1) a l ≡ Some o → Gains w (after_outcome w me a w.shared o) me a o
+pub each_give_gains : (w : World) (me : ℕ) (a : Actor) (l : Line) (o : Outcome) → IsReached w → actor_of w me ≡ Some a → a.line ≡ Some l
+    → gives_up (w.steps + 1) a l ≡ Some o → Gains w (after_outcome w me a w.shared o) me a o
 each_give_gains w me a l o r is at given =
     moving_gains w me a w.shared o
-    (give_moving (queue_of_kind w.setup.kind) (steps_of_kind w.setup.kind) SimulationRelation WasEmpty carried w me a l o r (is_of_kind w.setup.kind) is at given (reached_either SimulationRelation WasEmpty carried w r))
+    (give_moving (queue_of_kind w.setup.kind) (steps_of_kind w.setup.kind) SimulationRelation WasEmpty carried w me a l o r (is_of_kind w.setup.kind)
+    is at given (reached_either SimulationRelation WasEmpty carried w r))
 
 -- an actor before a line is in the call that the line is of
 pub each_call : (w : World) (me : ℕ) (a : Actor) (l : Line) → IsReached w → actor_of w me ≡ Some a → a.line ≡ Some l → Runs (section_of l) me a.op a.val

@@ -21,7 +21,8 @@ use Rattle.step_machine.proofs.Carrying.{NumberedMove, Carried, Carries, Moving}
 use Rattle.step_machine.proofs.Invariant.{ReachedInvariant}
 use Rattle.step_machine.proofs.EitherQueue.{queue_of_kind, reached_either, same_queue}
 
-module _ (w : World) (me : ℕ) (a : Actor) (m' : Shared) (o : Outcome) (front : ℕ) (rest queue' : List ℕ) (n : NumberedMove (WasEmpty w) w me a m' o front rest queue') (ac : SimulationRelation w (front ∷ rest)) where
+module _ (w : World) (me : ℕ) (a : Actor) (m' : Shared) (o : Outcome) (front : ℕ) (rest queue' : List ℕ)
+    (n : NumberedMove (WasEmpty w) w me a m' o front rest queue') (ac : SimulationRelation w (front ∷ rest)) where
   kept : StampsInvariant (Unit {0}) (makers n.reached.moves) w
   kept = kept_reached w n.reached
 
@@ -72,7 +73,13 @@ carried =
           (λ l e line entry. none-some e (sym (begun_entry w.setup.kind me op a) ∙ entry)) ac;
       at_rest = λ w me a l queue r is at may ac.
           simulation_with w me a (rested a) queue is (book_rested w me a (rested a) is refl) (λ k e line entry. none-some k line) ac;
-      starts = λ s actors sized. record { replays = tt; list = opening_queue s.bits s.size sized.numbered; plays = opening_queue s.bits s.size sized.numbered; counted = refl; calls = λ me e a l s is line entry got. absurd (none-some s got) };
+      starts = λ s actors sized. record {
+        replays = tt;
+        list = opening_queue s.bits s.size sized.numbered;
+        plays = opening_queue s.bits s.size sized.numbered;
+        counted = refl;
+        calls = λ me e a l s is line entry got. absurd (none-some s got);
+      };
     }
 
 -- a world has the chain from Head, and its accounts

@@ -19,14 +19,17 @@ use Rattle.step_machine.proofs.StampsInvariants.{Over, OperationAt, StampsInvari
 use Rattle.step_machine.proofs.StampsMoves.{moves_kept, may_rest_all}
 use Rattle.step_machine.proofs.EffectsKept.{run_last}
 
-module _ (s : Setup) (n : ℕ) (P : List AnyMove → World → Type 0) (each : (done : List AnyMove) (w : World) → run done (opening s n) ≡ Some w → P done w → AfterEach w (λ m v. P (done ++ m ∷ []) v)) where
+module _ (s : Setup) (n : ℕ) (P : List AnyMove → World → Type 0)
+    (each : (done : List AnyMove) (w : World) → run done (opening s n) ≡ Some w → P done w → AfterEach w (λ m v. P (done ++ m ∷ []) v)) where
   walk : (ms done : List AnyMove) (w : World) → run done (opening s n) ≡ Some w → P done w → IfSome (run ms w) (P (done ++ ms))
   walk [] done w led h = subst (λ d. P d w) (sym (append-nil done)) h
   walk (m ∷ ms) done w led h =
       subst (λ d. IfSome (run_on (run ms) (next_any w m)) (P d)) (append_assoc done (m ∷ []) ms)
       (on (next_any w m) refl (after_move w (λ k v. P (done ++ k ∷ []) v) (each done w led h) m) (λ v l g. walk ms (done ++ m ∷ []) v l g))
     where
-      on : (o : Option World) → next_any w m ≡ o → IfSome o (P (done ++ m ∷ [])) → ((v : World) → run (done ++ m ∷ []) (opening s n) ≡ Some v → P (done ++ m ∷ []) v → IfSome (run ms v) (P ((done ++ m ∷ []) ++ ms))) → IfSome (run_on (run ms) o) (P ((done ++ m ∷ []) ++ ms))
+      on : (o : Option World) → next_any w m ≡ o → IfSome o (P (done ++ m ∷ []))
+          → ((v : World) → run (done ++ m ∷ []) (opening s n) ≡ Some v → P (done ++ m ∷ []) v → IfSome (run ms v) (P ((done ++ m ∷ []) ++ ms)))
+          → IfSome (run_on (run ms) o) (P ((done ++ m ∷ []) ++ ms))
       on None e g more = tt
       on (Some v) e g more = more v (run_last done m (opening s n) w v led e) g
 
@@ -54,10 +57,12 @@ pub record Telling (K : List ℕ) (w : World) (me : ℕ) (a : Actor) (l : Line) 
   pub from : ((a.entry ≡ None) × (place ≡ length w.operations) × (was ≡ new_operation me a.op (w.steps + 1))) ⊎ ((a.entry ≡ Some place) × (slice_get w.operations place ≡ Some was))
 
 -- such an operation
-pub telling : (K : List ℕ) (w : World) (me : ℕ) (a : Actor) (l : Line) (o : Outcome) → StampsInvariant (Unit {0}) K w → actor_of w me ≡ Some a → a.line ≡ Some l → Telling K w me a l o (with_operation a.entry (new_operation me a.op (w.steps + 1)) (with_outcome (w.steps + 1) o) w.operations)
+pub telling : (K : List ℕ) (w : World) (me : ℕ) (a : Actor) (l : Line) (o : Outcome) → StampsInvariant (Unit {0}) K w → actor_of w me ≡ Some a → a.line ≡ Some l
+    → Telling K w me a l o (with_operation a.entry (new_operation me a.op (w.steps + 1)) (with_outcome (w.steps + 1) o) w.operations)
 telling K w me a l o kept is at = go a.entry refl (subst (λ x. OperationAt (Unit {0}) K w.operations me x a.entry a.due a.empty_at) at (kept.actors me a is))
   where
-    go : (entry : Option ℕ) → a.entry ≡ entry → OperationAt (Unit {0}) K w.operations me (Some l) entry a.due a.empty_at → Telling K w me a l o (with_operation entry (new_operation me a.op (w.steps + 1)) (with_outcome (w.steps + 1) o) w.operations)
+    go : (entry : Option ℕ) → a.entry ≡ entry → OperationAt (Unit {0}) K w.operations me (Some l) entry a.due a.empty_at
+        → Telling K w me a l o (with_operation entry (new_operation me a.op (w.steps + 1)) (with_outcome (w.steps + 1) o) w.operations)
     go None e knows =
         record {
           place = length w.operations;
@@ -90,18 +95,21 @@ telling K w me a l o kept is at = go a.entry refl (subst (λ x. OperationAt (Uni
         })
 
 -- an operation that stands where one is told is the one that was there
-pub stood : {K : List ℕ} {w : World} {me : ℕ} {a : Actor} {l : Line} {o : Outcome} {opz : List Stamped} (it : Telling K w me a l o opz) (i : ℕ) (p : Stamped) → slice_get w.operations i ≡ Some p → i ≡ it.place → it.was ≡ p
+pub stood : {K : List ℕ} {w : World} {me : ℕ} {a : Actor} {l : Line} {o : Outcome} {opz : List Stamped} (it : Telling K w me a l o opz) (i : ℕ) (p : Stamped)
+    → slice_get w.operations i ≡ Some p → i ≡ it.place → it.was ≡ p
 stood {w = w} {me = me} {a = a} it i p got q = go it.from
   where
     here : slice_get w.operations it.place ≡ Some p
     here = ap (λ j. slice_get w.operations j) (sym q) ∙ got
 
-    go : ((a.entry ≡ None) × (it.place ≡ length w.operations) × (it.was ≡ new_operation me a.op (w.steps + 1))) ⊎ ((a.entry ≡ Some it.place) × (slice_get w.operations it.place ≡ Some it.was)) → it.was ≡ p
+    go : ((a.entry ≡ None) × (it.place ≡ length w.operations) × (it.was ≡ new_operation me a.op (w.steps + 1))) ⊎ ((a.entry ≡ Some it.place) × (slice_get w.operations it.place ≡ Some it.was))
+        → it.was ≡ p
     go (inl new) = absurd (let within : it.place < length w.operations = slice_get_within w.operations it.place p here in omega (arith, new.1))
     go (inr old) = same_Some it.was p (sym old.1 ∙ here)
 
 -- what holds of the element put, and of each other one, holds of each element
-pub each_put : {X : Type 0} {xs ys : List X} {e : ℕ} {x : X} → PutAt xs ys e x → (P : ℕ → X → Type 0) → P e x → ((i : ℕ) (y : X) → i ≢ e → slice_get xs i ≡ Some y → P i y) → (i : ℕ) (y : X) → slice_get ys i ≡ Some y → P i y
+pub each_put : {X : Type 0} {xs ys : List X} {e : ℕ} {x : X} → PutAt xs ys e x → (P : ℕ → X → Type 0) → P e x
+    → ((i : ℕ) (y : X) → i ≢ e → slice_get xs i ≡ Some y → P i y) → (i : ℕ) (y : X) → slice_get ys i ≡ Some y → P i y
 each_put {xs = xs} {e = e} {x = x} put P here others i y got = go (put_cases put i y got)
   where
     go : ((i ≡ e) × (x ≡ y)) ⊎ ((i ≢ e) × (slice_get xs i ≡ Some y)) → P i y
@@ -109,7 +117,8 @@ each_put {xs = xs} {e = e} {x = x} put P here others i y got = go (put_cases put
     go (inr q) = others i y q.0 q.1
 
 -- what holds of an actor's new state, and of each other actor, holds of each actor
-pub each_actor : (w : World) (me : ℕ) (a b : Actor) (P : ℕ → Actor → Type 0) → actor_of w me ≡ Some a → P me b → ((you : ℕ) (c : Actor) → you ≢ me → actor_of w you ≡ Some c → P you c) → (you : ℕ) (c : Actor) → actor_of (with_actor w me b) you ≡ Some c → P you c
+pub each_actor : (w : World) (me : ℕ) (a b : Actor) (P : ℕ → Actor → Type 0) → actor_of w me ≡ Some a → P me b
+    → ((you : ℕ) (c : Actor) → you ≢ me → actor_of w you ≡ Some c → P you c) → (you : ℕ) (c : Actor) → actor_of (with_actor w me b) you ≡ Some c → P you c
 each_actor w me a b P is mine others you c got = go (actor_cases w me a b is you c got)
   where
     go : ((you ≡ me) × (b ≡ c)) ⊎ ((you ≢ me) × (actor_of w you ≡ Some c)) → P you c

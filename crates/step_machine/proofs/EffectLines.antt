@@ -1,7 +1,10 @@
 -- Which lines give an operation a place by an effect, and that no other one does.
 use Rattle.std.proofs.Common.{◌≡◌, ℕ, Bool, true, false, nat_eq, nat_lt, if◌then◌else◌, Option, Some, None, IfSome, refl, sym, ◌∙◌, ◌⊎◌, inl, inr}
 use Rattle.std.proofs.lemmas.Option.{none-some, same_Some}
-use Rattle.step_machine.specs.Below.{is_null, same_ref, Kind, TwoLock, NonBlocking, Line, N1, N2, N4, N5, F1, F3, E3, E5, E7, E9, D2, D5, D12, D13, A3, A5, B1, B3, B4, B5, B6, A7, S1, S3, S4, S6, S8, S9, is_shut, null, left, left_with_node, Reply, Done, Value, Empty, Refused, Setup, Actor, Outcome, Shared, node_at, found, action, outcome, ends, sets_aside, freed, unlocked, busy_or, gives_up}
+use Rattle.step_machine.specs.Below.{is_null, same_ref, Kind, TwoLock, NonBlocking, Line, N1, N2, N4, N5, F1, F3, E3, E5, E7, E9, D2, D5, D12, D13}
+use Rattle.step_machine.specs.Below.{A3, A5, B1, B3, B4, B5, B6, A7, S1, S3, S4, S6, S8, S9, is_shut, null, left, left_with_node, Reply, Done, Value}
+use Rattle.step_machine.specs.Below.{Empty, Refused, Setup, Actor, Outcome, Shared, node_at, found, action, outcome, ends, sets_aside, freed}
+use Rattle.step_machine.specs.Below.{unlocked, busy_or, gives_up}
 use Rattle.counted_ref.proofs.Words.{same_ref-true, same_ref-equal}
 use Rattle.step_machine.specs.TakingEffect.{HasEffect, IsByEffect}
 use Rattle.step_machine.proofs.Choices.{both}

@@ -1,5 +1,6 @@
 -- Each step that had an effect gave its number as the place to an operation of its actor, at a line of that call.
-use Rattle.std.proofs.Common.{◌≡◌, ◌≢◌, ℕ, suc, ◌+◌, ◌-◌, ◌<◌, ◌≤◌, ◌⊎◌, inl, inr, Bool, true, false, List, [], ◌∷◌, ◌++◌, length, Option, Some, None, IfSome, refl, sym, subst, ap, ◌∙◌, length-append, arith}
+use Rattle.std.proofs.Common.{◌≡◌, ◌≢◌, ℕ, suc, ◌+◌, ◌-◌, ◌<◌, ◌≤◌, ◌⊎◌, inl, inr, Bool, true, false, List, [], ◌∷◌, ◌++◌, length, Option, Some, None}
+use Rattle.std.proofs.Common.{IfSome, refl, sym, subst, ap, ◌∙◌, length-append, arith}
 use Rattle.std.specs.Prelude.{slice_get}
 use Rattle.std.specs.List.{AllByRecursion}
 use Rattle.std.proofs.lemmas.Option.{none-some, same_Some}
@@ -78,10 +79,12 @@ Now w me number line =
 
 module _ (s : Setup) (n : ℕ) where
   -- an effect was one before the last move, or is that move
-  took_last : (done : List AnyMove) (w : World) (m : AnyMove) (me k : ℕ) → run done (opening s n) ≡ Some w → (t : TookEffect s n (done ++ m ∷ []) me k) → ((u : TookEffect s n done me k) × (u.line ≡ t.line)) ⊎ ((m ≡ made (Step me)) × Now w me k t.line)
+  took_last : (done : List AnyMove) (w : World) (m : AnyMove) (me k : ℕ) → run done (opening s n) ≡ Some w → (t : TookEffect s n (done ++ m ∷ []) me k)
+      → ((u : TookEffect s n done me k) × (u.line ≡ t.line)) ⊎ ((m ≡ made (Step me)) × Now w me k t.line)
   took_last done w m me k led t = go (split_last done t.before t.after m (made (Step me)) t.moves_are)
     where
-      go : ((t.before ≡ done) × (m ≡ made (Step me))) ⊎ ((more : List AnyMove) × (done ≡ t.before ++ made (Step me) ∷ more)) → ((u : TookEffect s n done me k) × (u.line ≡ t.line)) ⊎ ((m ≡ made (Step me)) × Now w me k t.line)
+      go : ((t.before ≡ done) × (m ≡ made (Step me))) ⊎ ((more : List AnyMove) × (done ≡ t.before ++ made (Step me) ∷ more))
+          → ((u : TookEffect s n done me k) × (u.line ≡ t.line)) ⊎ ((m ≡ made (Step me)) × Now w me k t.line)
       go (inl p) =
           let same : t.world ≡ w = same_Some t.world w (sym t.led ∙ ap (λ ms. run ms (opening s n)) p.0 ∙ led) in
           inr (p.1, subst (λ u. Now u me k t.line) same (t.actor, t.numbered, t.here, t.at_line, t.effect))
@@ -110,7 +113,9 @@ module _ (s : Setup) (n : ℕ) where
     places : (me k : ℕ) (t : TookEffect s n done me k) → PlacedAt w.operations me k t.line
 
   -- a move that is no step leaves the effects as they are
-  still : (done : List AnyMove) (w : World) (m : AnyMove) (me : ℕ) (a b : Actor) → is_step m ≡ false → run done (opening s n) ≡ Some w → actor_of w me ≡ Some a → FixedAt w.setup.limit me b b.line → ((l : Line) (e : ℕ) → b.line ≡ Some l → b.entry ≡ Some e → ⊥) → Placing done w → Placing (done ++ m ∷ []) (with_actor w me b)
+  still : (done : List AnyMove) (w : World) (m : AnyMove) (me : ℕ) (a b : Actor) → is_step m ≡ false → run done (opening s n) ≡ Some w → actor_of w me ≡ Some a
+      → FixedAt w.setup.limit me b b.line → ((l : Line) (e : ℕ) → b.line ≡ Some l → b.entry ≡ Some e → ⊥) → Placing done w
+      → Placing (done ++ m ∷ []) (with_actor w me b)
   still done w m me a b none led is registers fresh h =
       record {
         registers = each_actor w me a b (λ j x. FixedAt w.setup.limit j x x.line) is registers (λ j x other there. h.registers j x there);
@@ -118,83 +123,95 @@ module _ (s : Setup) (n : ℕ) where
             each_actor w me a b (λ j x. x.line ≡ Some l → x.entry ≡ Some e → slice_get w.operations e ≡ Some o → o.op ≡ x.op) is
             (λ at entry got. absurd (fresh l e at entry)) (λ j x other here at entry got. h.calls j e x l o here at entry got) you c there;
         places = λ you k t.
-            elim (took_last done w m you k led t) [ inl old ↦ subst (PlacedAt w.operations you k) old.1 (h.places you k old.0) | inr new ↦ absurd (let f : false ≡ true = sym none ∙ ap is_step new.0 in cc) ];
+            elim (took_last done w m you k led t) [
+              | inl old ↦ subst (PlacedAt w.operations you k) old.1 (h.places you k old.0)
+              | inr new ↦ absurd
+                  (let f : false ≡ true = sym none ∙ ap is_step new.0 in cc)
+            ];
       }
 
-  module _ (done : List AnyMove) (w : World) (m : AnyMove) (me : ℕ) (a : Actor) (l : Line) (o : Outcome) (m' : Shared) (looked : Bool) (E : Type 0) (led : run done (opening s n) ≡ Some w) (is : actor_of w me ≡ Some a) (at_line : a.line ≡ Some l) (h : Placing done w) (t : Tells l looked (w.steps + 1) a o) (eff : Effects E (w.steps + 1) o) (first : (at : Option ℕ) → E → PointAt l a.due at (Unit {0}) → at ≡ None) (registers : Fixes w.setup.limit me o) (same : o.actor.op ≡ a.op) (by_it : (you k : ℕ) (line : Line) → m ≡ made (Step you) → Now w you k line → (you ≡ me) × (k ≡ w.steps + 1) × (line ≡ l) × E × IsEffectLineOf a.op l) where
-    kept : StampsInvariant (Unit {0}) (makers done) w
-    kept = kept_after s n done w led
+  module _ (done : List AnyMove) (w : World) (m : AnyMove) (me : ℕ) (a : Actor) (l : Line) (o : Outcome) (m' : Shared) (looked : Bool) (E : Type 0)
+      (led : run done (opening s n) ≡ Some w) (is : actor_of w me ≡ Some a) (at_line : a.line ≡ Some l) (h : Placing done w)
+      (t : Tells l looked (w.steps + 1) a o) (eff : Effects E (w.steps + 1) o) (first : (at : Option ℕ) → E → PointAt l a.due at (Unit {0}) → at ≡ None)
+      (registers : Fixes w.setup.limit me o) (same : o.actor.op ≡ a.op)
+      (by_it : (you k : ℕ) (line : Line) → m ≡ made (Step you) → Now w you k line → (you ≡ me) × (k ≡ w.steps + 1) × (line ≡ l) × E × IsEffectLineOf a.op l)
+    where
+      kept : StampsInvariant (Unit {0}) (makers done) w
+      kept = kept_after s n done w led
 
-    it : Telling (makers done) w me a l o (after_outcome w me a m' o).operations
-    it = telling (makers done) w me a l o kept is at_line
+      it : Telling (makers done) w me a l o (after_outcome w me a m' o).operations
+      it = telling (makers done) w me a l o kept is at_line
 
-    -- the operation told is of the actor's call
-    op_is : it.was.op ≡ a.op
-    op_is = go it.from
-      where
-        go : ((a.entry ≡ None) × (it.place ≡ length w.operations) × (it.was ≡ new_operation me a.op (w.steps + 1))) ⊎ ((a.entry ≡ Some it.place) × (slice_get w.operations it.place ≡ Some it.was)) → it.was.op ≡ a.op
-        go (inl new) = ap (λ (x : Stamped). x.op) new.2
-        go (inr old) = h.calls me it.place a l it.was is at_line old.0 old.1
+      -- the operation told is of the actor's call
+      op_is : it.was.op ≡ a.op
+      op_is = go it.from
+        where
+          go : ((a.entry ≡ None) × (it.place ≡ length w.operations) × (it.was ≡ new_operation me a.op (w.steps + 1))) ⊎ ((a.entry ≡ Some it.place) × (slice_get w.operations it.place ≡ Some it.was))
+              → it.was.op ≡ a.op
+          go (inl new) = ap (λ (x : Stamped). x.op) new.2
+          go (inr old) = h.calls me it.place a l it.was is at_line old.0 old.1
 
-    -- an operation that has a place keeps it
-    place_stays : (k : ℕ) → it.was.at ≡ Some k → latest_point o.at it.was.at ≡ Some k
-    place_stays k had = go o.at refl
-      where
-        unplaced : (j : ℕ) → o.at ≡ Some j → IsByEffect o.reply ⊎ (it.was.at ≡ None) → it.was.at ≡ None
-        unplaced j e (inl may) = first it.was.at (eff.by j e may).1 it.stands
-        unplaced j e (inr none) = none
+      -- an operation that has a place keeps it
+      place_stays : (k : ℕ) → it.was.at ≡ Some k → latest_point o.at it.was.at ≡ Some k
+      place_stays k had = go o.at refl
+        where
+          unplaced : (j : ℕ) → o.at ≡ Some j → IsByEffect o.reply ⊎ (it.was.at ≡ None) → it.was.at ≡ None
+          unplaced j e (inl may) = first it.was.at (eff.by j e may).1 it.stands
+          unplaced j e (inr none) = none
 
-        go : (at : Option ℕ) → o.at ≡ at → latest_point at it.was.at ≡ Some k
-        go None e = had
-        go (Some j) e = absurd (none-some k (sym (unplaced j e (t.unplaced it.was.at it.stands)) ∙ had))
+          go : (at : Option ℕ) → o.at ≡ at → latest_point at it.was.at ≡ Some k
+          go None e = had
+          go (Some j) e = absurd (none-some k (sym (unplaced j e (t.unplaced it.was.at it.stands)) ∙ had))
 
-    old_placed : (you k : ℕ) (line : Line) → PlacedAt w.operations you k line → PlacedAt (after_outcome w me a m' o).operations you k line
-    old_placed you k line x = go (same_or_not x.place it.place)
-      where
-        go : (x.place ≡ it.place) ⊎ (x.place ≢ it.place) → PlacedAt (after_outcome w me a m' o).operations you k line
-        go (inr other) =
-            record { place = x.place; operation = x.operation; there = it.put.others x.place other ∙ x.there; own = x.own; at = x.at; call = x.call }
-        go (inl q) =
-            let was : it.was ≡ x.operation = stood it x.place x.operation x.there q in
-            record {
-              place = it.place;
-              operation = with_outcome (w.steps + 1) o it.was;
-              there = it.put.here;
-              own = ap (λ (z : Stamped). z.actor) was ∙ x.own;
-              at = place_stays k (ap (λ (z : Stamped). z.at) was ∙ x.at);
-              call = subst (λ (z : Stamped). IsEffectLineOf z.op line) (sym was) x.call;
-            }
+      old_placed : (you k : ℕ) (line : Line) → PlacedAt w.operations you k line → PlacedAt (after_outcome w me a m' o).operations you k line
+      old_placed you k line x = go (same_or_not x.place it.place)
+        where
+          go : (x.place ≡ it.place) ⊎ (x.place ≢ it.place) → PlacedAt (after_outcome w me a m' o).operations you k line
+          go (inr other) =
+              record { place = x.place; operation = x.operation; there = it.put.others x.place other ∙ x.there; own = x.own; at = x.at; call = x.call }
+          go (inl q) =
+              let was : it.was ≡ x.operation = stood it x.place x.operation x.there q in
+              record {
+                place = it.place;
+                operation = with_outcome (w.steps + 1) o it.was;
+                there = it.put.here;
+                own = ap (λ (z : Stamped). z.actor) was ∙ x.own;
+                at = place_stays k (ap (λ (z : Stamped). z.at) was ∙ x.at);
+                call = subst (λ (z : Stamped). IsEffectLineOf z.op line) (sym was) x.call;
+              }
 
-    new_placed : E → IsEffectLineOf a.op l → PlacedAt (after_outcome w me a m' o).operations me (w.steps + 1) l
-    new_placed effect line =
-        record {
-          place = it.place;
-          operation = with_outcome (w.steps + 1) o it.was;
-          there = it.put.here;
-          own = it.own;
-          at = ap (λ x. latest_point x it.was.at) (eff.gives effect);
-          call = subst (λ op. IsEffectLineOf op l) (sym op_is) line;
-        }
+      new_placed : E → IsEffectLineOf a.op l → PlacedAt (after_outcome w me a m' o).operations me (w.steps + 1) l
+      new_placed effect line =
+          record {
+            place = it.place;
+            operation = with_outcome (w.steps + 1) o it.was;
+            there = it.put.here;
+            own = it.own;
+            at = ap (λ x. latest_point x it.was.at) (eff.gives effect);
+            call = subst (λ op. IsEffectLineOf op l) (sym op_is) line;
+          }
 
-    -- a numbered move
-    settled_placing : Placing (done ++ m ∷ []) (after_outcome w me a m' o)
-    settled_placing =
-        record {
-          registers =
-              each_actor w me a (record o.actor { entry = Some (entry_or a.entry (length w.operations)) }) (λ j x. FixedAt w.setup.limit j x x.line) is
-              (fixed_entry w.setup.limit me o.actor (Some (entry_or a.entry (length w.operations))) o.actor.line registers.fixed)
-              (λ j x other there. h.registers j x there);
-          calls = calls_settled (makers done) w me a l m' o kept is at_line same h.calls;
-          places = λ you k x. places you k x (took_last done w m you k led x);
-        }
-      where
-        places : (you k : ℕ) (x : TookEffect s n (done ++ m ∷ []) you k) → ((u : TookEffect s n done you k) × (u.line ≡ x.line)) ⊎ ((m ≡ made (Step you)) × Now w you k x.line) → PlacedAt (after_outcome w me a m' o).operations you k x.line
-        places you k x (inl old) = subst (PlacedAt (after_outcome w me a m' o).operations you k) old.1 (old_placed you k old.0.line (h.places you k old.0))
-        places you k x (inr new) =
-            let b : (you ≡ me) × (k ≡ w.steps + 1) × (x.line ≡ l) × E × IsEffectLineOf a.op l = by_it you k x.line new.0 new.1 in
-            subst (λ j. PlacedAt (after_outcome w me a m' o).operations j k x.line) (sym b.0)
-            (subst (λ j. PlacedAt (after_outcome w me a m' o).operations me j x.line) (sym b.1)
-            (subst (PlacedAt (after_outcome w me a m' o).operations me (w.steps + 1)) (sym b.2) (new_placed b.3 b.4)))
+      -- a numbered move
+      settled_placing : Placing (done ++ m ∷ []) (after_outcome w me a m' o)
+      settled_placing =
+          record {
+            registers =
+                each_actor w me a (record o.actor { entry = Some (entry_or a.entry (length w.operations)) }) (λ j x. FixedAt w.setup.limit j x x.line) is
+                (fixed_entry w.setup.limit me o.actor (Some (entry_or a.entry (length w.operations))) o.actor.line registers.fixed)
+                (λ j x other there. h.registers j x there);
+            calls = calls_settled (makers done) w me a l m' o kept is at_line same h.calls;
+            places = λ you k x. places you k x (took_last done w m you k led x);
+          }
+        where
+          places : (you k : ℕ) (x : TookEffect s n (done ++ m ∷ []) you k)
+              → ((u : TookEffect s n done you k) × (u.line ≡ x.line)) ⊎ ((m ≡ made (Step you)) × Now w you k x.line)
+              → PlacedAt (after_outcome w me a m' o).operations you k x.line
+          places you k x (inl old) = subst (PlacedAt (after_outcome w me a m' o).operations you k) old.1 (old_placed you k old.0.line (h.places you k old.0))
+          places you k x (inr new) =
+              let b : (you ≡ me) × (k ≡ w.steps + 1) × (x.line ≡ l) × E × IsEffectLineOf a.op l = by_it you k x.line new.0 new.1 in
+              subst (λ j. PlacedAt (after_outcome w me a m' o).operations j k x.line) (sym b.0)
+              (subst (λ j. PlacedAt (after_outcome w me a m' o).operations me j x.line) (sym b.1)
+              (subst (PlacedAt (after_outcome w me a m' o).operations me (w.steps + 1)) (sym b.2) (new_placed b.3 b.4)))
 
   -- each move keeps it
   each : (done : List AnyMove) (w : World) → run done (opening s n) ≡ Some w → Placing done w → AfterEach w (λ m v. Placing (done ++ m ∷ []) v)
@@ -205,7 +222,8 @@ module _ (s : Setup) (n : ℕ) where
             (fixed_begun w.setup.limit me w.setup.kind op a (subst (FixedAt w.setup.limit me a) e (h.registers me a is)))
             (λ l i at entry. none-some i (sym (begun_entry w.setup.kind me op a) ∙ entry)) h;
         step = λ me a l is at.
-            settled_placing done w (made (Step me)) me a l (outcome w.setup (w.steps + 1) me a l (found (action w.setup me a l) w.shared)) (performed (action w.setup me a l) w.shared) _ (HasEffect w.shared a l) led is at h
+            settled_placing done w (made (Step me)) me a l (outcome w.setup (w.steps + 1) me a l (found (action w.setup me a l) w.shared))
+            (performed (action w.setup me a l) w.shared) _ (HasEffect w.shared a l) led is at h
             (tells w.setup (w.steps + 1) me a l (found (action w.setup me a l) w.shared))
             (line_effects w.setup (w.steps + 1) me a l w.shared)
             (λ place effect stands. effect_first w.shared a l place effect stands)
@@ -226,7 +244,8 @@ module _ (s : Setup) (n : ℕ) where
       before : (me : ℕ) (a : Actor) (l : Line) → actor_of w me ≡ Some a → a.line ≡ Some l → FixedAt w.setup.limit me a (Some l)
       before me a l is at = subst (FixedAt w.setup.limit me a) at (h.registers me a is)
 
-      one : (me : ℕ) (a : Actor) (l : Line) → actor_of w me ≡ Some a → a.line ≡ Some l → (you k : ℕ) (line : Line) → made (Step me) ≡ made (Step you) → Now w you k line → (you ≡ me) × (k ≡ w.steps + 1) × (line ≡ l) × HasEffect w.shared a l × IsEffectLineOf a.op l
+      one : (me : ℕ) (a : Actor) (l : Line) → actor_of w me ≡ Some a → a.line ≡ Some l → (you k : ℕ) (line : Line) → made (Step me) ≡ made (Step you)
+          → Now w you k line → (you ≡ me) × (k ≡ w.steps + 1) × (line ≡ l) × HasEffect w.shared a l × IsEffectLineOf a.op l
       one me a l is at you k line e now =
           let mine : you ≡ me = sym (ap stepper e) in
           let actor : now.0 ≡ a = same_Some now.0 a (sym now.2 ∙ ap (actor_of w) mine ∙ is) in
@@ -240,7 +259,8 @@ module _ (s : Setup) (n : ℕ) where
       record {
         registers = λ me a got. subst (λ (z : Actor). FixedAt s.limit me z z.line) (idle_got n (me - 1) a (actor_stands (opening s n) me a got).1) refl;
         calls = λ me e a l o there at entry got. absurd (none-some o got);
-        places = λ me k t. absurd (let short : length {A = AnyMove} [] ≡ length (t.before ++ made (Step me) ∷ t.after) = ap length t.moves_are in omega (arith, length-append t.before (made (Step me) ∷ t.after)));
+        places = λ me k t. absurd (let short : length {A = AnyMove} [] ≡ length (t.before ++ made (Step me) ∷ t.after) =
+            ap length t.moves_are in omega (arith, length-append t.before (made (Step me) ∷ t.after)));
       }
 
   placing_after : (moves : List AnyMove) → IfSome (run moves (opening s n)) (Placing moves)
@@ -254,7 +274,8 @@ begins_before : (o : Stamped) (k : ℕ) → IfSome o.at (λ at. o.first ≤ at) 
 begins_before o k h e = subst (λ at. IfSome at (λ j. o.first ≤ j)) e h
 
 -- the operation of an effect is the one in which its number lies
-same_operation : (K : List ℕ) (ops : List Stamped) (me k i : ℕ) (o : Stamped) (line : Line) → Operations (Unit {0}) K ops → slice_get ops i ≡ Some o → o.actor ≡ me → NumberLiesIn k o → ComesBeforeNext ops k o → PlacedAt ops me k line → o.at ≡ Some k
+same_operation : (K : List ℕ) (ops : List Stamped) (me k i : ℕ) (o : Stamped) (line : Line) → Operations (Unit {0}) K ops → slice_get ops i ≡ Some o
+    → o.actor ≡ me → NumberLiesIn k o → ComesBeforeNext ops k o → PlacedAt ops me k line → o.at ≡ Some k
 same_operation K ops me k i o line h got own lies next x = go (order i x.place)
   where
     starts : x.operation.first ≤ k
@@ -272,7 +293,8 @@ same_operation K ops me k i o line h got own lies next x = go (order i x.place)
         over (inr left) = none-some k (sym left.1.no_place ∙ x.at)
 
 -- and has the effect's line as one of its call
-own_line : (K : List ℕ) (ops : List Stamped) (me k i : ℕ) (o : Stamped) (line : Line) → Operations (Unit {0}) K ops → slice_get ops i ≡ Some o → o.at ≡ Some k → PlacedAt ops me k line → IsEffectLineOf o.op line
+own_line : (K : List ℕ) (ops : List Stamped) (me k i : ℕ) (o : Stamped) (line : Line) → Operations (Unit {0}) K ops → slice_get ops i ≡ Some o → o.at ≡ Some k
+    → PlacedAt ops me k line → IsEffectLineOf o.op line
 own_line K ops me k i o line h got at x = go (order i x.place)
   where
     go : (i < x.place) ⊎ ((i ≡ x.place) ⊎ (x.place < i)) → IsEffectLineOf o.op line
@@ -300,8 +322,12 @@ if_some_with (Some k) P Q h each = each k refl h
 pub placed_at_their_lines : OfOperations ArePlacedAtTheirLines
 placed_at_their_lines s n moves = on (run moves (opening s n)) refl (placing_after s n moves) (placed_by_effect s n moves)
   where
-    on : (o : Option World) → run moves (opening s n) ≡ o → IfSome o (Placing s n moves) → IfSome o (λ w. ArePlacedByEffect s n moves w.operations) → IfSome o (λ w. ArePlacedAtTheirLines s n moves w.operations)
+    on : (o : Option World) → run moves (opening s n) ≡ o → IfSome o (Placing s n moves) → IfSome o (λ w. ArePlacedByEffect s n moves w.operations)
+        → IfSome o (λ w. ArePlacedAtTheirLines s n moves w.operations)
     on None e h g = tt
     on (Some w) e h g =
         all_with _ _ w.operations g
-        (λ i o got effects may. if_some_with o.at _ _ (effects may) (λ k at t. record { step = t; line = own_line (makers moves) w.operations o.actor k i o t.line (kept_after s n moves w e).operations got at (h.places o.actor k t) }))
+        (λ i o got effects may. if_some_with o.at _ _ (effects may) (λ k at t. record {
+          step = t;
+          line = own_line (makers moves) w.operations o.actor k i o t.line (kept_after s n moves w e).operations got at (h.places o.actor k t);
+        }))

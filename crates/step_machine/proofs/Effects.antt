@@ -14,7 +14,8 @@
 --   `turn_pop`       the dummy comes into the hand, and the second node of the queue is the dummy
 -- `shape_turned` is the shape after a step, `hand_kept` says that others' nodes stay as they are, and `free_kept`,
 -- `queue_kept` and `value_kept` that those of the chains do.
-use Rattle.std.proofs.Common.{◌≡◌, ◌≢◌, ℕ, zero, suc, ◌+◌, ◌-◌, ◌≤◌, nat_eq, List, [], ◌∷◌, ◌++◌, length, set, Option, Some, None, refl, sym, ap, ◌∙◌, subst, arith, get_or-set_other, get_or-set_same, ◌⊎◌, inl, inr}
+use Rattle.std.proofs.Common.{◌≡◌, ◌≢◌, ℕ, zero, suc, ◌+◌, ◌-◌, ◌≤◌, nat_eq, List, [], ◌∷◌, ◌++◌, length, set, Option, Some, None, refl, sym, ap, ◌∙◌}
+use Rattle.std.proofs.Common.{subst, arith, get_or-set_other, get_or-set_same, ◌⊎◌, inl, inr}
 use Rattle.std.proofs.Math.ListN.{length-set}
 use Rattle.step_machine.specs.Below.{Ref, Node, Actor, blank, Shared, node_at, put, Fresh, Free, Head, Next}
 use Rattle.step_machine.specs.Places.{IsNull, IsEnd, IsChainBy, IsChain, IsQueueChain, one_if, times}
@@ -91,7 +92,9 @@ pub writes_none : (m m' : Shared) (queue : List ℕ) (a : Actor) → m'.nodes �
 writes_none m m' queue a e = record { node = 0; others = λ n some d. ap (λ ns. node_in ns n) e; whose = inl refl }
 
 -- words other than nodes, Fresh and the starts of the chains
-pub turn_words : (bits : ℕ) (m m' : Shared) (E : ℕ → ℕ) (queue free : List ℕ) (a b : Actor) → Shape bits m E queue free → m'.nodes ≡ m.nodes → m'.head.node ≡ m.head.node → m'.free.node ≡ m.free.node → m'.fresh ≡ m.fresh → ((n : ℕ) → holds n b ≡ holds n a) → Turn bits m m' queue free queue free a b None
+pub turn_words : (bits : ℕ) (m m' : Shared) (E : ℕ → ℕ) (queue free : List ℕ) (a b : Actor) → Shape bits m E queue free → m'.nodes ≡ m.nodes
+    → m'.head.node ≡ m.head.node → m'.free.node ≡ m.free.node → m'.fresh ≡ m.fresh → ((n : ℕ) → holds n b ≡ holds n a)
+    → Turn bits m m' queue free queue free a b None
 turn_words bits m m' E queue free a b sh nodes head top fresh same =
     record {
       queue_chain = subst (λ ns. IsQueueChain bits ns m'.head.node queue) (sym nodes) (subst (λ k. IsQueueChain bits m.nodes k queue) (sym head) sh.queue_chain);
@@ -101,7 +104,8 @@ turn_words bits m m' E queue free a b sh nodes head top fresh same =
     }
 
 -- the node in hand is set aside
-pub turn_aside : (bits : ℕ) (m : Shared) (E : ℕ → ℕ) (queue free : List ℕ) (a b : Actor) (k : ℕ) → Shape bits m E queue free → ((n : ℕ) → holds n b + one_if (nat_eq n k) ≡ holds n a) → Turn bits m m queue free queue free a b (Some k)
+pub turn_aside : (bits : ℕ) (m : Shared) (E : ℕ → ℕ) (queue free : List ℕ) (a b : Actor) (k : ℕ) → Shape bits m E queue free
+    → ((n : ℕ) → holds n b + one_if (nat_eq n k) ≡ holds n a) → Turn bits m m queue free queue free a b (Some k)
 turn_aside bits m E queue free a b k sh away =
     record {
       queue_chain = sh.queue_chain;
@@ -111,7 +115,8 @@ turn_aside bits m E queue free a b k sh away =
     }
 
 -- a node that was never used comes into the hand
-pub turn_claim : (bits : ℕ) (m : Shared) (E : ℕ → ℕ) (queue free : List ℕ) (a b : Actor) (c : ℕ) → Shape bits m E queue free → c ≡ m.fresh + 1 → ((n : ℕ) → holds n b ≡ holds n a + one_if (nat_eq n (m.fresh + 1))) → Turn bits m (put Fresh c m) queue free queue free a b None
+pub turn_claim : (bits : ℕ) (m : Shared) (E : ℕ → ℕ) (queue free : List ℕ) (a b : Actor) (c : ℕ) → Shape bits m E queue free → c ≡ m.fresh + 1
+    → ((n : ℕ) → holds n b ≡ holds n a + one_if (nat_eq n (m.fresh + 1))) → Turn bits m (put Fresh c m) queue free queue free a b None
 turn_claim bits m E queue free a b c sh e more =
     record {
       queue_chain = sh.queue_chain;
@@ -126,7 +131,8 @@ pub record Took (bits : ℕ) (m : Shared) (r : Ref) (queue free : List ℕ) (a b
   pub was : free ≡ m.free.node ∷ rest
   pub turn : Turn bits m (put Free r m) queue free queue rest a b None
 
-pub turn_take : (bits : ℕ) (m : Shared) (E : ℕ → ℕ) (queue free : List ℕ) (a b : Actor) (r : Ref) → Shape bits m E queue free → 1 ≤ m.free.node → r.node ≡ next_in m.nodes m.free.node → ((n : ℕ) → holds n b ≡ holds n a + one_if (nat_eq n m.free.node)) → Took bits m r queue free a b
+pub turn_take : (bits : ℕ) (m : Shared) (E : ℕ → ℕ) (queue free : List ℕ) (a b : Actor) (r : Ref) → Shape bits m E queue free → 1 ≤ m.free.node
+    → r.node ≡ next_in m.nodes m.free.node → ((n : ℕ) → holds n b ≡ holds n a + one_if (nat_eq n m.free.node)) → Took bits m r queue free a b
 turn_take bits m E queue [] a b r sh some e more = absurd (let none : m.free.node ≡ 0 = sh.free_chain in omega arith)
 turn_take bits m E queue (x ∷ xs) a b r sh some e more =
     let at : m.free.node ≡ x = sh.free_chain.0 in
@@ -143,7 +149,9 @@ turn_take bits m E queue (x ∷ xs) a b r sh some e more =
     }
 
 -- the node in hand goes before the free ones
-pub turn_giveback : (bits : ℕ) (m : Shared) (E : ℕ → ℕ) (queue free : List ℕ) (a b : Actor) (r : Ref) (k : ℕ) → Shape bits m E queue free → 1 ≤ k → k ≤ length m.nodes → next_in m.nodes k ≡ m.free.node → r.node ≡ k → ((n : ℕ) → holds n b + one_if (nat_eq n k) ≡ holds n a) → Turn bits m (put Free r m) queue free queue (k ∷ free) a b None
+pub turn_giveback : (bits : ℕ) (m : Shared) (E : ℕ → ℕ) (queue free : List ℕ) (a b : Actor) (r : Ref) (k : ℕ) → Shape bits m E queue free → 1 ≤ k
+    → k ≤ length m.nodes → next_in m.nodes k ≡ m.free.node → r.node ≡ k → ((n : ℕ) → holds n b + one_if (nat_eq n k) ≡ holds n a)
+    → Turn bits m (put Free r m) queue free queue (k ∷ free) a b None
 turn_giveback bits m E queue free a b r k sh some low leads e away =
     record {
       queue_chain = sh.queue_chain;
@@ -160,7 +168,8 @@ chain_apart End nodes k x n ns some none h =
     h
 
 -- the node in hand is written
-pub turn_node : (bits : ℕ) (m : Shared) (E : ℕ → ℕ) (queue free : List ℕ) (a b : Actor) (k : ℕ) (x : Node) → Shape bits m E queue free → ((n : ℕ) → holds n a ≤ E n) → 1 ≤ k → 1 ≤ holds k a → ((n : ℕ) → holds n b ≡ holds n a) → Turn bits m (with_node m k x) queue free queue free a b None
+pub turn_node : (bits : ℕ) (m : Shared) (E : ℕ → ℕ) (queue free : List ℕ) (a b : Actor) (k : ℕ) (x : Node) → Shape bits m E queue free
+    → ((n : ℕ) → holds n a ≤ E n) → 1 ≤ k → 1 ≤ holds k a → ((n : ℕ) → holds n b ≡ holds n a) → Turn bits m (with_node m k x) queue free queue free a b None
 turn_node bits m E queue free a b k x sh mine some here same =
     let h : holds k a ≤ E k = mine k in
     let apart : (times k queue ≡ 0) × (times k free ≡ 0) = not_linked bits m E queue free sh k some (omega arith) in
@@ -172,13 +181,15 @@ turn_node bits m E queue free a b k x sh mine some here same =
     }
 
 -- the last node of the queue is there
-pub last_there : (bits : ℕ) (m : Shared) (E : ℕ → ℕ) (h : ℕ) (rest free : List ℕ) (k : ℕ) → Shape bits m E (h ∷ rest) free → k ≡ last_node (h ∷ rest) → (1 ≤ k) × (k ≤ length m.nodes) × (1 ≤ times k (h ∷ rest))
+pub last_there : (bits : ℕ) (m : Shared) (E : ℕ → ℕ) (h : ℕ) (rest free : List ℕ) (k : ℕ) → Shape bits m E (h ∷ rest) free → k ≡ last_node (h ∷ rest)
+    → (1 ≤ k) × (k ≤ length m.nodes) × (1 ≤ times k (h ∷ rest))
 last_there bits m E h rest free k sh at =
     let within : (1 ≤ last_node (h ∷ rest)) × (last_node (h ∷ rest) ≤ length m.nodes) = last_within (IsEnd bits) m.nodes h rest m.head.node sh.queue_chain in
     (subst (λ j. 1 ≤ j) (sym at) within.0, subst (λ j. j ≤ length m.nodes) (sym at) within.1, subst (λ j. 1 ≤ times j (h ∷ rest)) (sym at) (last_times h rest))
 
 -- where its `next` was null, that is all that a write to it changes
-writes_last : (bits : ℕ) (m : Shared) (E : ℕ → ℕ) (h : ℕ) (rest free : List ℕ) (a : Actor) (k : ℕ) (r : Ref) → Shape bits m E (h ∷ rest) free → k ≡ last_node (h ∷ rest) → next_in m.nodes k ≡ 0 → WritesOneNode m (put (Next k) r m) (h ∷ rest) a
+writes_last : (bits : ℕ) (m : Shared) (E : ℕ → ℕ) (h : ℕ) (rest free : List ℕ) (a : Actor) (k : ℕ) (r : Ref) → Shape bits m E (h ∷ rest) free
+    → k ≡ last_node (h ∷ rest) → next_in m.nodes k ≡ 0 → WritesOneNode m (put (Next k) r m) (h ∷ rest) a
 writes_last bits m E h rest free a k r sh at unlinked =
     let there : (1 ≤ k) × (k ≤ length m.nodes) × (1 ≤ times k (h ∷ rest)) = last_there bits m E h rest free k sh at in
     record {
@@ -188,7 +199,9 @@ writes_last bits m E h rest free a k r sh at unlinked =
     }
 
 -- the last node of the queue, which leads to null, comes to lead to an end
-pub turn_shut : (bits : ℕ) (m : Shared) (E : ℕ → ℕ) (h : ℕ) (rest free : List ℕ) (a b : Actor) (k : ℕ) (r : Ref) → Shape bits m E (h ∷ rest) free → k ≡ last_node (h ∷ rest) → next_in m.nodes k ≡ 0 → IsEnd bits r.node → ((n : ℕ) → holds n b ≡ holds n a) → Turn bits m (put (Next k) r m) (h ∷ rest) free (h ∷ rest) free a b None
+pub turn_shut : (bits : ℕ) (m : Shared) (E : ℕ → ℕ) (h : ℕ) (rest free : List ℕ) (a b : Actor) (k : ℕ) (r : Ref) → Shape bits m E (h ∷ rest) free
+    → k ≡ last_node (h ∷ rest) → next_in m.nodes k ≡ 0 → IsEnd bits r.node → ((n : ℕ) → holds n b ≡ holds n a)
+    → Turn bits m (put (Next k) r m) (h ∷ rest) free (h ∷ rest) free a b None
 turn_shut bits m E h rest free a b k r sh at unlinked end same =
     let there : (1 ≤ k) × (k ≤ length m.nodes) × (1 ≤ times k (h ∷ rest)) = last_there bits m E h rest free k sh at in
     record {
@@ -207,7 +220,9 @@ turn_shut bits m E h rest free a b k r sh at unlinked end same =
     y = record (node_at m k) { next = r }
 
 -- the last node of the queue, which leads to null, is linked to the node in hand, which does too
-pub turn_link : (bits : ℕ) (m : Shared) (E : ℕ → ℕ) (h : ℕ) (rest free : List ℕ) (a b : Actor) (k x : ℕ) (r : Ref) → Shape bits m E (h ∷ rest) free → ((n : ℕ) → holds n a ≤ E n) → k ≡ last_node (h ∷ rest) → next_in m.nodes k ≡ 0 → 1 ≤ x → x ≤ length m.nodes → 1 ≤ holds x a → next_in m.nodes x ≡ 0 → r.node ≡ x → ((n : ℕ) → holds n b + one_if (nat_eq n x) ≡ holds n a) → Turn bits m (put (Next k) r m) (h ∷ rest) free (h ∷ rest ++ x ∷ []) free a b None
+pub turn_link : (bits : ℕ) (m : Shared) (E : ℕ → ℕ) (h : ℕ) (rest free : List ℕ) (a b : Actor) (k x : ℕ) (r : Ref) → Shape bits m E (h ∷ rest) free
+    → ((n : ℕ) → holds n a ≤ E n) → k ≡ last_node (h ∷ rest) → next_in m.nodes k ≡ 0 → 1 ≤ x → x ≤ length m.nodes → 1 ≤ holds x a → next_in m.nodes x ≡ 0
+    → r.node ≡ x → ((n : ℕ) → holds n b + one_if (nat_eq n x) ≡ holds n a) → Turn bits m (put (Next k) r m) (h ∷ rest) free (h ∷ rest ++ x ∷ []) free a b None
 turn_link bits m E h rest free a b k x r sh mine at unlinked some low here null e away =
     record {
       queue_chain =
@@ -248,7 +263,8 @@ turn_link bits m E h rest free a b k x r sh mine at unlinked some low here null 
         omega arith
 
 -- the dummy comes into the hand, and the node behind it is the dummy
-pub turn_pop : (bits : ℕ) (m : Shared) (E : ℕ → ℕ) (h x : ℕ) (rest free : List ℕ) (a b : Actor) (r : Ref) → Shape bits m E (h ∷ x ∷ rest) free → r.node ≡ x → ((n : ℕ) → holds n b ≡ holds n a + one_if (nat_eq n h)) → Turn bits m (put Head r m) (h ∷ x ∷ rest) free (x ∷ rest) free a b None
+pub turn_pop : (bits : ℕ) (m : Shared) (E : ℕ → ℕ) (h x : ℕ) (rest free : List ℕ) (a b : Actor) (r : Ref) → Shape bits m E (h ∷ x ∷ rest) free → r.node ≡ x
+    → ((n : ℕ) → holds n b ≡ holds n a + one_if (nat_eq n h)) → Turn bits m (put Head r m) (h ∷ x ∷ rest) free (x ∷ rest) free a b None
 turn_pop bits m E h x rest free a b r sh e more =
     let c : IsQueueChain bits m.nodes (next_in m.nodes h) (x ∷ rest) = sh.queue_chain.3 in
     record {
@@ -259,7 +275,8 @@ turn_pop bits m E h x rest free a b r sh e more =
     }
 
 -- the shape after a step, where nodes stand elsewhere by what the actor held and holds
-pub shape_turned : (bits : ℕ) (m m' : Shared) (E E' : ℕ → ℕ) (queue free queue' free' : List ℕ) (a b : Actor) (aside : Option ℕ) → Shape bits m E queue free → Turn bits m m' queue free queue' free' a b aside → ((n : ℕ) → 1 ≤ n → E' n + holds n a ≡ E n + holds n b + asides n aside) → Shape bits m' E' queue' free'
+pub shape_turned : (bits : ℕ) (m m' : Shared) (E E' : ℕ → ℕ) (queue free queue' free' : List ℕ) (a b : Actor) (aside : Option ℕ) → Shape bits m E queue free
+    → Turn bits m m' queue free queue' free' a b aside → ((n : ℕ) → 1 ≤ n → E' n + holds n a ≡ E n + holds n b + asides n aside) → Shape bits m' E' queue' free'
 shape_turned bits m m' E E' queue free queue' free' a b aside sh t moves =
     record {
       queue_chain = t.queue_chain;
@@ -293,29 +310,35 @@ last_apart bits m E h rest free sh n some here q =
     omega (arith, sh.once n some, used_most n m.fresh)
 
 -- the nodes of another actor stay as they are
-pub hand_kept : (bits : ℕ) (m m' : Shared) (E : ℕ → ℕ) (h : ℕ) (rest free : List ℕ) (a c : Actor) → Shape bits m E (h ∷ rest) free → WritesOneNode m m' (h ∷ rest) a → ((n : ℕ) → holds n a + holds n c ≤ E n) → (n : ℕ) → 1 ≤ n → 1 ≤ holds n c → node_at m' n ≡ node_at m n
+pub hand_kept : (bits : ℕ) (m m' : Shared) (E : ℕ → ℕ) (h : ℕ) (rest free : List ℕ) (a c : Actor) → Shape bits m E (h ∷ rest) free
+    → WritesOneNode m m' (h ∷ rest) a → ((n : ℕ) → holds n a + holds n c ≤ E n) → (n : ℕ) → 1 ≤ n → 1 ≤ holds n c → node_at m' n ≡ node_at m n
 hand_kept bits m m' E h rest free a c sh w both n some here =
     stays m m' (h ∷ rest) a n w some (omega (arith, both n, sh.once n some, used_most n m.fresh))
     (λ q. absurd (last_apart bits m E h rest free sh n some (omega (arith, both n)) q))
 
 -- the free nodes stay as they are
-pub free_kept : (bits : ℕ) (m m' : Shared) (E : ℕ → ℕ) (h : ℕ) (rest free : List ℕ) (a : Actor) → Shape bits m E (h ∷ rest) free → WritesOneNode m m' (h ∷ rest) a → ((n : ℕ) → holds n a ≤ E n) → (n : ℕ) → 1 ≤ n → 1 ≤ times n free → node_at m' n ≡ node_at m n
+pub free_kept : (bits : ℕ) (m m' : Shared) (E : ℕ → ℕ) (h : ℕ) (rest free : List ℕ) (a : Actor) → Shape bits m E (h ∷ rest) free
+    → WritesOneNode m m' (h ∷ rest) a → ((n : ℕ) → holds n a ≤ E n) → (n : ℕ) → 1 ≤ n → 1 ≤ times n free → node_at m' n ≡ node_at m n
 free_kept bits m m' E h rest free a sh w mine n some here =
     stays m m' (h ∷ rest) a n w some (omega (arith, mine n, sh.once n some, used_most n m.fresh))
     (λ q. absurd (last_apart bits m E h rest free sh n some (omega arith) q))
 
 -- a node of the queue that doesn't lead to null stays as it is
-pub queue_kept : (bits : ℕ) (m m' : Shared) (E : ℕ → ℕ) (h : ℕ) (rest free : List ℕ) (a : Actor) → Shape bits m E (h ∷ rest) free → WritesOneNode m m' (h ∷ rest) a → ((n : ℕ) → holds n a ≤ E n) → (n : ℕ) → 1 ≤ n → 1 ≤ times n (h ∷ rest) → 1 ≤ next_in m.nodes n → node_at m' n ≡ node_at m n
+pub queue_kept : (bits : ℕ) (m m' : Shared) (E : ℕ → ℕ) (h : ℕ) (rest free : List ℕ) (a : Actor) → Shape bits m E (h ∷ rest) free
+    → WritesOneNode m m' (h ∷ rest) a → ((n : ℕ) → holds n a ≤ E n) → (n : ℕ) → 1 ≤ n → 1 ≤ times n (h ∷ rest) → 1 ≤ next_in m.nodes n
+    → node_at m' n ≡ node_at m n
 queue_kept bits m m' E h rest free a sh w mine n some here leads =
     stays m m' (h ∷ rest) a n w some (omega (arith, mine n, sh.once n some, used_most n m.fresh)) (λ last null. omega (arith, leads, null))
 
 -- each node of the queue keeps its value
-pub value_kept : (bits : ℕ) (m m' : Shared) (E : ℕ → ℕ) (queue free : List ℕ) (a : Actor) → Shape bits m E queue free → WritesOneNode m m' queue a → ((n : ℕ) → holds n a ≤ E n) → (n : ℕ) → 1 ≤ n → 1 ≤ times n queue → (node_at m' n).value ≡ (node_at m n).value
+pub value_kept : (bits : ℕ) (m m' : Shared) (E : ℕ → ℕ) (queue free : List ℕ) (a : Actor) → Shape bits m E queue free → WritesOneNode m m' queue a
+    → ((n : ℕ) → holds n a ≤ E n) → (n : ℕ) → 1 ≤ n → 1 ≤ times n queue → (node_at m' n).value ≡ (node_at m n).value
 value_kept bits m m' E queue free a sh w mine n some here =
     value_stays m m' queue a n w some (omega (arith, mine n, sh.once n some, used_most n m.fresh))
 
 -- so the values of nodes that stand in the queue are kept
-pub values_kept : (bits : ℕ) (m m' : Shared) (E : ℕ → ℕ) (queue free : List ℕ) (a : Actor) → Shape bits m E queue free → WritesOneNode m m' queue a → ((n : ℕ) → holds n a ≤ E n) → (ns : List ℕ) → ((n : ℕ) → 1 ≤ times n ns → (1 ≤ n) × (1 ≤ times n queue)) → values_of m' ns ≡ values_of m ns
+pub values_kept : (bits : ℕ) (m m' : Shared) (E : ℕ → ℕ) (queue free : List ℕ) (a : Actor) → Shape bits m E queue free → WritesOneNode m m' queue a
+    → ((n : ℕ) → holds n a ≤ E n) → (ns : List ℕ) → ((n : ℕ) → 1 ≤ times n ns → (1 ≤ n) × (1 ≤ times n queue)) → values_of m' ns ≡ values_of m ns
 values_kept bits m m' E queue free a sh w mine [] within = refl
 values_kept bits m m' E queue free a sh w mine (x ∷ xs) within =
     let here : (1 ≤ x) × (1 ≤ times x queue) = within x (omega (arith, one_if_same x x refl)) in

@@ -1,5 +1,6 @@
 -- What each list of moves leaves of effects: the places that they gave, and no others.
-use Rattle.std.proofs.Common.{◌≡◌, ◌≢◌, ℕ, ◌+◌, ◌≤◌, ◌⊎◌, inl, inr, Bool, true, false, List, [], ◌∷◌, ◌++◌, length, map, drop, get_or, Option, Some, None, IfSome, set, refl, sym, subst, ap, ◌∙◌, append_assoc, append-nil, length-append, arith}
+use Rattle.std.proofs.Common.{◌≡◌, ◌≢◌, ℕ, ◌+◌, ◌≤◌, ◌⊎◌, inl, inr, Bool, true, false, List, [], ◌∷◌, ◌++◌, length, map, drop, get_or, Option, Some}
+use Rattle.std.proofs.Common.{None, IfSome, set, refl, sym, subst, ap, ◌∙◌, append_assoc, append-nil, length-append, arith}
 use Rattle.std.specs.Prelude.{slice_get, IsSome}
 use Rattle.std.specs.List.{AllByRecursion}
 use Rattle.std.proofs.lemmas.Option.{none-some, same_Some, get_or_from_slice_get, IfSome_then}
@@ -137,9 +138,13 @@ module _ (Rests : Type 0) (s : Setup) (n : ℕ) where
       old me k t =
           elim (took_last done w m me k led t) [ inl before ↦ before | inr now ↦ absurd (let f : false ≡ true = sym none ∙ ap is_step now.0 in cc) ]
 
-  module _ (done : List AnyMove) (w : World) (m : AnyMove) (me : ℕ) (o : Outcome) (E : Type 0) (K : List ℕ) (led : run done (opening s n) ≡ Some w) (kept : StampsInvariant Rests K w) (h : Known done w.operations w.steps) (eff : Effects E (w.steps + 1) o) (took : E → Took (done ++ m ∷ []) me (w.steps + 1)) (by_it : (you k : ℕ) → m ≡ made (Step you) → Now w you k → (you ≡ me) × (k ≡ w.steps + 1) × E) where
+  module _ (done : List AnyMove) (w : World) (m : AnyMove) (me : ℕ) (o : Outcome) (E : Type 0) (K : List ℕ) (led : run done (opening s n) ≡ Some w)
+      (kept : StampsInvariant Rests K w) (h : Known done w.operations w.steps) (eff : Effects E (w.steps + 1) o)
+      (took : E → Took (done ++ m ∷ []) me (w.steps + 1)) (by_it : (you k : ℕ) → m ≡ made (Step you) → Now w you k → (you ≡ me) × (k ≡ w.steps + 1) × E) where
     -- a numbered move, by the operation that it changes or adds
-    put_known : (e : ℕ) (t : Stamped) (opz : List Stamped) → PutAt w.operations opz e (with_outcome (w.steps + 1) o t) → t.actor ≡ me → ((k : ℕ) → t.at ≡ Some k → Took done me k) → ((k : ℕ) → t.first ≤ k → Took done me k → (t.at ≡ Some k) ⊎ Rests) → (E → t.at ≡ None) → ((i : ℕ) (p : Stamped) → i ≢ e → slice_get w.operations i ≡ Some p → p.actor ≡ me → Over Rests p) → Known (done ++ m ∷ []) opz (w.steps + 1)
+    put_known : (e : ℕ) (t : Stamped) (opz : List Stamped) → PutAt w.operations opz e (with_outcome (w.steps + 1) o t) → t.actor ≡ me
+        → ((k : ℕ) → t.at ≡ Some k → Took done me k) → ((k : ℕ) → t.first ≤ k → Took done me k → (t.at ≡ Some k) ⊎ Rests) → (E → t.at ≡ None)
+        → ((i : ℕ) (p : Stamped) → i ≢ e → slice_get w.operations i ≡ Some p → p.actor ≡ me → Over Rests p) → Known (done ++ m ∷ []) opz (w.steps + 1)
     put_known e t opz put own t_from t_to first others =
         record {
           from = λ i k p got may at. from i k p may at (put_cases put i p got);
@@ -154,7 +159,8 @@ module _ (Rests : Type 0) (s : Setup) (n : ℕ) where
             subst (λ y. Took (done ++ m ∷ []) y k) (sym own)
             (subst (λ y. Took (done ++ m ∷ []) me y) (sym b.0 ∙ same_Some j k at) (took b.1))
 
-        from : (i k : ℕ) (p : Stamped) → IsByEffect p.reply → p.at ≡ Some k → ((i ≡ e) × (with_outcome (w.steps + 1) o t ≡ p)) ⊎ ((i ≢ e) × (slice_get w.operations i ≡ Some p)) → Took (done ++ m ∷ []) p.actor k
+        from : (i k : ℕ) (p : Stamped) → IsByEffect p.reply → p.at ≡ Some k
+            → ((i ≡ e) × (with_outcome (w.steps + 1) o t ≡ p)) ⊎ ((i ≢ e) × (slice_get w.operations i ≡ Some p)) → Took (done ++ m ∷ []) p.actor k
         from i k p may at (inl q) =
             subst (λ (x : Stamped). IsByEffect x.reply → x.at ≡ Some k → Took (done ++ m ∷ []) x.actor k) q.1 (λ may at. placed k may o.at refl at) may at
         from i k p may at (inr q) = took_more done m p.actor k (h.from i k p q.1 may at)
@@ -173,7 +179,8 @@ module _ (Rests : Type 0) (s : Setup) (n : ℕ) where
                 let b : (me ≡ me) × (k ≡ w.steps + 1) × E = by_it me k new.0 new.1 in
                 inl (ap (λ at. latest_point at t.at) (eff.gives b.2) ∙ ap Some (sym b.1))
 
-        to : (i k : ℕ) (p : Stamped) → p.reply ≡ None → p.first ≤ k → Took (done ++ m ∷ []) p.actor k → ((i ≡ e) × (with_outcome (w.steps + 1) o t ≡ p)) ⊎ ((i ≢ e) × (slice_get w.operations i ≡ Some p)) → (p.at ≡ Some k) ⊎ Rests
+        to : (i k : ℕ) (p : Stamped) → p.reply ≡ None → p.first ≤ k → Took (done ++ m ∷ []) p.actor k
+            → ((i ≡ e) × (with_outcome (w.steps + 1) o t ≡ p)) ⊎ ((i ≢ e) × (slice_get w.operations i ≡ Some p)) → (p.at ≡ Some k) ⊎ Rests
         to i k p none low x (inl q) =
             subst (λ (y : Stamped). y.reply ≡ None → y.first ≤ k → Took (done ++ m ∷ []) y.actor k → (y.at ≡ Some k) ⊎ Rests) q.1 (mine k) none low x
         to i k p none low x (inr q) = go (took_last done w m p.actor k led x)
@@ -188,7 +195,9 @@ module _ (Rests : Type 0) (s : Setup) (n : ℕ) where
             go (inr new) = over (others i p q.0 q.1 (by_it p.actor k new.0 new.1).0)
 
     -- a numbered move of an actor at a line
-    settled_known : (a : Actor) (l : Line) → ((at : Option ℕ) (Noted : Type 0) → E → PointAt l a.due at Noted → at ≡ None) → (entry : Option ℕ) → OperationAt Rests K w.operations me (Some l) entry a.due a.empty_at → Known (done ++ m ∷ []) (with_operation entry (new_operation me a.op (w.steps + 1)) (with_outcome (w.steps + 1) o) w.operations) (w.steps + 1)
+    settled_known : (a : Actor) (l : Line) → ((at : Option ℕ) (Noted : Type 0) → E → PointAt l a.due at Noted → at ≡ None) → (entry : Option ℕ)
+        → OperationAt Rests K w.operations me (Some l) entry a.due a.empty_at
+        → Known (done ++ m ∷ []) (with_operation entry (new_operation me a.op (w.steps + 1)) (with_outcome (w.steps + 1) o) w.operations) (w.steps + 1)
     settled_known a l first None knows =
         put_known (length w.operations) (new_operation me a.op (w.steps + 1)) _ (put_end w.operations _) refl
         (λ k at. absurd (none-some k at))
@@ -251,14 +260,17 @@ module _ (Rests : Type 0) (s : Setup) (n : ℕ) where
                 let line : now.1 ≡ l = same_Some now.1 l (sym now.4 ∙ ap (λ (b : Actor). b.line) actor ∙ at) in
                 (same, now.2, subst (λ b. HasEffect w.shared b l) actor (subst (λ j. HasEffect w.shared now.0 j) line now.5))
 
-  run_known : (ms done : List AnyMove) (w : World) → AllByRecursion (May Rests) done → AllByRecursion (May Rests) ms → run done (opening s n) ≡ Some w → Known done w.operations w.steps → IfSome (run ms w) (λ v. Known (done ++ ms) v.operations v.steps)
+  run_known : (ms done : List AnyMove) (w : World) → AllByRecursion (May Rests) done → AllByRecursion (May Rests) ms → run done (opening s n) ≡ Some w
+      → Known done w.operations w.steps → IfSome (run ms w) (λ v. Known (done ++ ms) v.operations v.steps)
   run_known [] done w before may led h = subst (λ d. Known d w.operations w.steps) (sym (append-nil done)) h
   run_known (m ∷ ms) done w before may led h =
       subst (λ d. IfSome (run_on (run ms) (next_any w m)) (λ v. Known d v.operations v.steps)) (append_assoc done (m ∷ []) ms)
       (on (next_any w m) refl (next_known done w _ led (some_of (StampsInvariant Rests _) (run done (opening s n)) w led (moves_kept Rests s n done before)) h m)
       (λ v l g. run_known ms (done ++ m ∷ []) v (may_on Rests done m before may.0) may.1 l g))
     where
-      on : (o : Option World) → next_any w m ≡ o → IfSome o (λ v. Known (done ++ m ∷ []) v.operations v.steps) → ((v : World) → run (done ++ m ∷ []) (opening s n) ≡ Some v → Known (done ++ m ∷ []) v.operations v.steps → IfSome (run ms v) (λ u. Known ((done ++ m ∷ []) ++ ms) u.operations u.steps)) → IfSome (run_on (run ms) o) (λ u. Known ((done ++ m ∷ []) ++ ms) u.operations u.steps)
+      on : (o : Option World) → next_any w m ≡ o → IfSome o (λ v. Known (done ++ m ∷ []) v.operations v.steps)
+          → ((v : World) → run (done ++ m ∷ []) (opening s n) ≡ Some v → Known (done ++ m ∷ []) v.operations v.steps → IfSome (run ms v) (λ u. Known ((done ++ m ∷ []) ++ ms) u.operations u.steps))
+          → IfSome (run_on (run ms) o) (λ u. Known ((done ++ m ∷ []) ++ ms) u.operations u.steps)
       on None e g more = tt
       on (Some v) e g more = more v (run_last done m (opening s n) w v led e) g
 
@@ -267,7 +279,8 @@ module _ (Rests : Type 0) (s : Setup) (n : ℕ) where
       record {
         from = λ i k o got may at. absurd (none-some o got);
         to = λ i k o got none low t. absurd (none-some o got);
-        within = λ me k t. absurd (let short : length {A = AnyMove} [] ≡ length (t.before ++ made (Step me) ∷ t.after) = ap length t.moves_are in omega (arith, length-append t.before (made (Step me) ∷ t.after)));
+        within = λ me k t. absurd (let short : length {A = AnyMove} [] ≡ length (t.before ++ made (Step me) ∷ t.after) =
+            ap length t.moves_are in omega (arith, length-append t.before (made (Step me) ∷ t.after)));
       }
 
   moves_known : (moves : List AnyMove) → AllByRecursion (May Rests) moves → IfSome (run moves (opening s n)) (λ w. Known moves w.operations w.steps)

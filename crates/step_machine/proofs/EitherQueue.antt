@@ -50,7 +50,8 @@ pub head_some : (w : World) → IsReached w → 1 ≤ w.shared.head.node
 head_some w r = (reached_chains w r).sound.ends.head
 
 -- the chain from Head is the only one, and so is the one from Free
-pub same_queue : (w : World) → IsReached w → (ns ms : List ℕ) → IsQueueChain w.setup.bits w.shared.nodes w.shared.head.node ns → IsQueueChain w.setup.bits w.shared.nodes w.shared.head.node ms → ns ≡ ms
+pub same_queue : (w : World) → IsReached w → (ns ms : List ℕ) → IsQueueChain w.setup.bits w.shared.nodes w.shared.head.node ns
+    → IsQueueChain w.setup.bits w.shared.nodes w.shared.head.node ms → ns ≡ ms
 same_queue w r ns ms = chain_same (IsEnd w.setup.bits) w.shared.nodes ns ms w.shared.head.node (ends_apart w.setup.bits w.shared.nodes (few_nodes w r))
 
 pub same_free : (w : World) → (ns ms : List ℕ) → IsChain w.shared.nodes w.shared.free.node ns → IsChain w.shared.nodes w.shared.free.node ms → ns ≡ ms
@@ -90,7 +91,8 @@ contained n (x ∷ xs) (suc k) low e = omega (arith, contained n xs k (omega ari
 pub queue_and_free_apart : OfEachWorld KeepsQueueAndFreeApart
 queue_and_free_apart w r n queued free =
     let p : HasChains w = reached_chains w r in
-    let q : 1 ≤ times n (p.front ∷ p.rest) = subst (λ ns. 1 ≤ times n ns) (same_queue w r queued.0 (p.front ∷ p.rest) queued.1 p.sound.shape.queue_chain) (contained n queued.0 queued.2.0 queued.2.1 queued.2.2) in
+    let q : 1 ≤ times n (p.front ∷ p.rest) = subst (λ ns. 1 ≤ times n ns) (same_queue w r queued.0 (p.front ∷ p.rest) queued.1
+    p.sound.shape.queue_chain) (contained n queued.0 queued.2.0 queued.2.1 queued.2.2) in
     let f : 1 ≤ times n p.free = subst (λ ns. 1 ≤ times n ns) (same_free w free.0 p.free free.1 p.sound.shape.free_chain) (contained n free.0 free.2.0 free.2.1 free.2.2) in
     go n (p.front ∷ p.rest) p.free q f p.sound.shape
   where

@@ -4,7 +4,8 @@ use Rattle.std.specs.List.{count_by, flat_map}
 use Rattle.std.proofs.lemmas.List.{length-map}
 use Rattle.std.proofs.lemmas.List.Recursion.{is_count_by}
 use Rattle.std.specs.Prelude.{is_some}
-use Rattle.step_machine.specs.Below.{Op, Enq, Deq, Closed, Shut, Taken, Reply, Done, Value, Empty, Refused, Stamped, Entry, Push, ShutEntry, Pop, Queue, is_push, is_pop, Plays, point_or_zero, inserted, by_point, node_at}
+use Rattle.step_machine.specs.Below.{Op, Enq, Deq, Closed, Shut, Taken, Reply, Done, Value, Empty, Refused, Stamped, Entry, Push, ShutEntry, Pop}
+use Rattle.step_machine.specs.Below.{Queue, is_push, is_pop, Plays, point_or_zero, inserted, by_point, node_at}
 use Rattle.step_machine.specs.Machine.{World}
 use Rattle.step_machine.specs.Chains.{queue_values, queue_in}
 use Rattle.step_machine.specs.EachQueue.{HasItsPlaces}
@@ -31,7 +32,8 @@ pub count_is : {X : Type 0} (p : X → Bool) (xs : List X) → count p xs ≡ co
 count_is p xs = is_count_by (count p) p refl (λ x ys. refl) xs
 
 -- the pushes and the values before are as many as the pops and the values after
-plays_count : (es : List Entry) (shut : Bool) (values : List Taken) (r : Queue) → Plays (record { values = values; shut = shut }) es r → count is_push es + length values ≡ count is_pop es + length r.values
+plays_count : (es : List Entry) (shut : Bool) (values : List Taken) (r : Queue) → Plays (record { values = values; shut = shut }) es r
+    → count is_push es + length values ≡ count is_pop es + length r.values
 plays_count [] shut values r e = ap (λ (x : Queue). 0 + length x.values) e
 plays_count (Push seat body ∷ es) false values r h =
     let x : Taken = record { from = seat; body = body } in
@@ -53,7 +55,8 @@ pub pops_are_values : (os : List Stamped) → count is_pop (flat_map entry_of os
 pops_are_values [] = refl
 pops_are_values (o ∷ os) = go o.op o.reply (pops_are_values os)
   where
-    go : (op : Op) (reply : Option Reply) → count is_pop (flat_map entry_of os) ≡ count has_value os → count is_pop (entry_with o.actor op reply ++ flat_map entry_of os) ≡ one_more (is_value reply) (count has_value os)
+    go : (op : Op) (reply : Option Reply) → count is_pop (flat_map entry_of os) ≡ count has_value os
+        → count is_pop (entry_with o.actor op reply ++ flat_map entry_of os) ≡ one_more (is_value reply) (count has_value os)
     go op None e = e
     go (Enq body) (Some Done) e = e
     go Deq (Some Done) e = e
@@ -73,7 +76,8 @@ pub values_inserted : (o : Stamped) (ps : List Stamped) → count has_value (ins
 values_inserted o [] = refl
 values_inserted o (p ∷ ps) = go (nat_le (point_or_zero o.at) (point_or_zero p.at)) (values_inserted o ps)
   where
-    go : (b : Bool) → count has_value (inserted o ps) ≡ one_more (is_value o.reply) (count has_value ps) → count has_value (if b then o ∷ p ∷ ps else p ∷ inserted o ps) ≡ one_more (is_value o.reply) (one_more (is_value p.reply) (count has_value ps))
+    go : (b : Bool) → count has_value (inserted o ps) ≡ one_more (is_value o.reply) (count has_value ps)
+        → count has_value (if b then o ∷ p ∷ ps else p ∷ inserted o ps) ≡ one_more (is_value o.reply) (one_more (is_value p.reply) (count has_value ps))
     go true ih = refl
     go false ih = swapped (is_value o.reply) (is_value p.reply) (count has_value ps) (count has_value (inserted o ps)) ih
 
@@ -91,7 +95,8 @@ values_rising [] = omega arith
 values_rising (o ∷ os) = go (is_some o.at) (values_rising os)
   where
     go : (b : Bool) → count has_value (by_point os) ≤ (count has_value os) → count has_value (if b then inserted o (by_point os) else by_point os) ≤ one_more (is_value o.reply) (count has_value os)
-    go true ih = subst (λ n. n ≤ one_more (is_value o.reply) (count has_value os)) (sym (values_inserted o (by_point os))) (both_more (is_value o.reply) (count has_value (by_point os)) (count has_value os) ih)
+    go true ih = subst (λ n. n ≤ one_more (is_value o.reply) (count has_value os)) (sym (values_inserted o (by_point os)))
+        (both_more (is_value o.reply) (count has_value (by_point os)) (count has_value os) ih)
     go false ih = no_fewer (is_value o.reply) (count has_value (by_point os)) (count has_value os) ih
 
 -- a queue has a node more than values

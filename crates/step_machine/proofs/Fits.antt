@@ -1,7 +1,9 @@
 -- What is in range fits its word.
 use Rattle.std.proofs.Common.{◌≡◌, ℕ, ◌+◌, ◌^◌, ◌<◌, ◌≤◌, ◌⊎◌, inl, inr, refl, Some, length, subst, arith}
 use Rattle.counted_ref.proofs.Words.{span_least, span_most}
-use Rattle.step_machine.specs.Below.{Ref, IsRef, ref, Line, N4, N5, F2, F3, E2, E9, E13, E17, D10, D13, A1, A3, A5, A6, A7, B1, B5, B6, S4, S5, S6, S8, S9, reserved_node, count_bits, null, shut_ref, raised_end, Taken, Setup, Actor, Word, Fresh, Free, Head, Tail, Tail_lock, Head_lock, Next, Value_of, Content, content, action, raised}
+use Rattle.step_machine.specs.Below.{Ref, IsRef, ref, Line, N4, N5, F2, F3, E2, E9, E13, E17, D10, D13, A1, A3, A5, A6, A7, B1, B5, B6, S4, S5, S6}
+use Rattle.step_machine.specs.Below.{S8, S9, reserved_node, count_bits, null, shut_ref, raised_end, Taken, Setup, Actor, Word, Fresh, Free, Head}
+use Rattle.step_machine.specs.Below.{Tail, Tail_lock, Head_lock, Next, Value_of, Content, content, action, raised}
 use Rattle.step_machine.specs.Machine.{World, actor_of, IsSized}
 use Rattle.step_machine.specs.Range.{RefInRange, NextInRange, ValueInRange, RegistersInRange, LineInRange, ActorInRange, WorldInRange}
 use Rattle.step_machine.specs.Tables.{ValueFits, ContentFits, SharedFits, ActionFits}

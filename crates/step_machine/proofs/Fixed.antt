@@ -2,7 +2,12 @@
 -- in its hand, that its pocket is empty, which call it runs, what its call has earned, and which counts were tested.
 use Rattle.std.proofs.Common.{◌≡◌, ◌≢◌, ℕ, ◌+◌, Bool, true, false, nat_eq, nat_lt, if◌then◌else◌, Option, Some, None, IfSome, refl, sym, ap, ◌∙◌, subst, ◌⊎◌, inl, inr}
 use Rattle.std.proofs.lemmas.Bool.{eqb-false}
-use Rattle.step_machine.specs.Below.{is_null, same_ref, Kind, TwoLock, NonBlocking, Line, N1, N2, N3, N4, N5, F1, F2, F3, E2, E3, E5, E6, E7, E9, E13, E17, D2, D5, D10, D12, D13, A1, A2, A3, A4, A5, A6, A7, B1, B3, B4, B5, B6, S1, S3, S4, S5, S6, S8, S9, is_shut, null, Closed, left, left_with_node, Section, section_of, OfHead, WornOut, Op, Enq, Deq, Shut as ShutOp, Taken, Reply, Done, Value, Empty, Refused, Setup, Held, Actor, Outcome, Found, action, outcome, goes, ends, effect, sets_aside, fills_hand, empties_hand, to_pocket, with_node, freed, unlocked, busy_or, gives_up, from_pocket, begun}
+use Rattle.step_machine.specs.Below.{is_null, same_ref, Kind, TwoLock, NonBlocking, Line, N1, N2, N3, N4, N5, F1, F2, F3, E2, E3, E5, E6, E7, E9, E13}
+use Rattle.step_machine.specs.Below.{E17, D2, D5, D10, D12, D13, A1, A2, A3, A4, A5, A6, A7, B1, B3, B4, B5, B6, S1, S3, S4, S5, S6, S8, S9, is_shut}
+use Rattle.step_machine.specs.Below.{null, Closed, left, left_with_node, Section, section_of, OfHead, WornOut, Op, Enq, Deq, Shut as ShutOp, Taken}
+use Rattle.step_machine.specs.Below.{Reply, Done, Value, Empty, Refused, Setup, Held, Actor, Outcome, Found, action, outcome, goes, ends, effect}
+use Rattle.step_machine.specs.Below.{sets_aside, fills_hand, empties_hand, to_pocket, with_node, freed, unlocked, busy_or, gives_up, from_pocket}
+use Rattle.step_machine.specs.Below.{begun}
 use Rattle.line_table.specs.declared.lines.Section.TheVariants.{NewNode, Free, Enqueue, Dequeue, LockedEnqueue, LockedDequeue, Shut, LockedShut}
 use Rattle.step_machine.proofs.Choices.{either, both}
 
@@ -183,7 +188,8 @@ module _ (limit me : ℕ) where
         };
       }
 
-  ended_or : (b : Bool) (now : ℕ) (a : Actor) → (b ≡ false → a.tail.count ≢ limit) → a.pocket ≡ None → Pushes me a.op a.val → Fixes limit me (effect now (if b then ends now Done (empties_hand (record a { due = Some Done })) else goes E17 (empties_hand (record a { due = Some Done }))))
+  ended_or : (b : Bool) (now : ℕ) (a : Actor) → (b ≡ false → a.tail.count ≢ limit) → a.pocket ≡ None → Pushes me a.op a.val
+      → Fixes limit me (effect now (if b then ends now Done (empties_hand (record a { due = Some Done })) else goes E17 (empties_hand (record a { due = Some Done }))))
   ended_or true now a r p c = record { fixed = refl }
   ended_or false now a r p c = record { fixed = record { pocket = p; hand = refl; call = c; earned = refl; room = r refl } }
 
@@ -253,7 +259,8 @@ fixed s now me a S3 c h =
     (either (Fixes s.limit me) (nat_eq a.tail.count s.limit) (λ e. record { fixed = h.hand })
     (λ e. record { fixed = record { pocket = h.pocket; hand = h.hand; call = h.call; earned = h.earned; room = eqb-false a.tail.count s.limit e } }))))
     (record { fixed = record { pocket = h.pocket; hand = h.hand; call = h.call; earned = h.earned; room = tt } })
-fixed s now me a S4 c h = both (Fixes s.limit me) (same_ref c a.next) (record { fixed = h.hand }) (record { fixed = record { pocket = h.pocket; hand = h.hand; call = h.call; earned = h.earned; room = tt } })
+fixed s now me a S4 c h = both (Fixes s.limit me) (same_ref c a.next) (record { fixed = h.hand })
+    (record { fixed = record { pocket = h.pocket; hand = h.hand; call = h.call; earned = h.earned; room = tt } })
 fixed s now me a S6 c h =
     both (Fixes s.limit me) (nat_eq c 0) (record { fixed = record { pocket = h.pocket; hand = h.hand; call = h.call; earned = h.earned; room = tt } })
     (record { fixed = record { pocket = h.pocket; hand = h.hand; call = h.call; earned = h.earned; room = tt } })
@@ -291,19 +298,25 @@ fixed_given limit now me a S1 h = record { fixed = h.hand }
 fixed_given limit now me a S6 h = record { fixed = h.hand }
 fixed_given limit now me a _ h = tt
 
-from_pocket_fixed : (limit me : ℕ) (l : Line) (pocket : Option Held) (a : Actor) → a.pocket ≡ pocket → ((held : Held) → FixedAt limit me (from_pocket l (Some held) a) (Some l)) → (a.pocket ≡ None → FixedAt limit me a a.line) → FixedAt limit me (from_pocket l pocket a) (from_pocket l pocket a).line
+from_pocket_fixed : (limit me : ℕ) (l : Line) (pocket : Option Held) (a : Actor) → a.pocket ≡ pocket
+    → ((held : Held) → FixedAt limit me (from_pocket l (Some held) a) (Some l)) → (a.pocket ≡ None → FixedAt limit me a a.line)
+    → FixedAt limit me (from_pocket l pocket a) (from_pocket l pocket a).line
 from_pocket_fixed limit me l None a e full none = none e
 from_pocket_fixed limit me l (Some held) a e full none = full held
 
 -- an actor that begins a call
 pub fixed_begun : (limit me : ℕ) (kind : Kind) (op : Op) (a : Actor) → a.holds ≡ false → FixedAt limit me (begun kind me op a) (begun kind me op a).line
 fixed_begun limit me TwoLock (Enq body) a h =
-    from_pocket_fixed limit me A1 a.pocket _ refl (λ held. record { pocket = refl; hand = refl; call = refl; earned = refl; room = tt }) (λ p. record { pocket = p; hand = h; call = refl; earned = refl; room = tt })
+    from_pocket_fixed limit me A1 a.pocket _ refl (λ held. record { pocket = refl; hand = refl; call = refl; earned = refl; room = tt })
+    (λ p. record { pocket = p; hand = h; call = refl; earned = refl; room = tt })
 fixed_begun limit me NonBlocking (Enq body) a h =
-    from_pocket_fixed limit me E2 a.pocket _ refl (λ held. record { pocket = refl; hand = refl; call = refl; earned = refl; room = tt }) (λ p. record { pocket = p; hand = h; call = refl; earned = refl; room = tt })
+    from_pocket_fixed limit me E2 a.pocket _ refl (λ held. record { pocket = refl; hand = refl; call = refl; earned = refl; room = tt })
+    (λ p. record { pocket = p; hand = h; call = refl; earned = refl; room = tt })
 fixed_begun limit me TwoLock Deq a h =
-    from_pocket_fixed limit me F1 a.pocket _ refl (λ held. record { pocket = refl; hand = refl; call = refl; earned = tt; room = tt }) (λ p. record { pocket = p; hand = h; call = refl; earned = refl; room = tt })
+    from_pocket_fixed limit me F1 a.pocket _ refl (λ held. record { pocket = refl; hand = refl; call = refl; earned = tt; room = tt })
+    (λ p. record { pocket = p; hand = h; call = refl; earned = refl; room = tt })
 fixed_begun limit me NonBlocking Deq a h =
-    from_pocket_fixed limit me F1 a.pocket _ refl (λ held. record { pocket = refl; hand = refl; call = refl; earned = tt; room = tt }) (λ p. record { pocket = p; hand = h; call = refl; earned = refl; room = tt })
+    from_pocket_fixed limit me F1 a.pocket _ refl (λ held. record { pocket = refl; hand = refl; call = refl; earned = tt; room = tt })
+    (λ p. record { pocket = p; hand = h; call = refl; earned = refl; room = tt })
 fixed_begun limit me TwoLock ShutOp a h = record { pocket = tt; hand = h; call = refl; earned = refl; room = tt }
 fixed_begun limit me NonBlocking ShutOp a h = record { pocket = tt; hand = h; call = refl; earned = refl; room = tt }

@@ -68,12 +68,15 @@ module _ (q : Queue) where
       }
 
   -- another actor goes on knowing what it knew
-  goes_on : (Z Z' : ℕ → Type 0) (s : Setup) (m m' : Shared) (last last' you : ℕ) (c : Actor) (l : Option Line) → ((k : ℕ) → Z k → Z' k) → q.Rely m m' last last' you → NodesRely m m' c → IsAtLine s.bits s.kind c l → FixedAt s.limit you c l → OwnsAt m you l → Knows q Z s m last c l → Knows q Z' s m' last' c l
+  goes_on : (Z Z' : ℕ → Type 0) (s : Setup) (m m' : Shared) (last last' you : ℕ) (c : Actor) (l : Option Line) → ((k : ℕ) → Z k → Z' k)
+      → q.Rely m m' last last' you → NodesRely m m' c → IsAtLine s.bits s.kind c l → FixedAt s.limit you c l → OwnsAt m you l → Knows q Z s m last c l
+      → Knows q Z' s m' last' c l
   goes_on Z Z' s m m' last last' you c None more k n p f g h = tt
   goes_on Z Z' s m m' last last' you c (Some l) more k n p f g h =
       knows_more q Z Z' s m' last' c (Some l) more (knows_kept q Z s m m' last last' you c l k n f p.1 g h)
 
-  others_know : (Z Z' : ℕ → Type 0) (s : Setup) (m m' : Shared) (last last' you : ℕ) (c : Actor) → ((k : ℕ) → Z k → Z' k) → q.Rely m m' last last' you → NodesRely m m' c → LocalInvariant q Z s m last you c → LocalInvariant q Z' s m' last' you c
+  others_know : (Z Z' : ℕ → Type 0) (s : Setup) (m m' : Shared) (last last' you : ℕ) (c : Actor) → ((k : ℕ) → Z k → Z' k) → q.Rely m m' last last' you
+      → NodesRely m m' c → LocalInvariant q Z s m last you c → LocalInvariant q Z' s m' last' you c
   others_know Z Z' s m m' last last' you c more k n h =
       record {
         stands = h.stands;
@@ -84,7 +87,8 @@ module _ (q : Queue) where
       }
 
   -- where its operation stands says nothing of an actor
-  knowing_entry : (Z : ℕ → Type 0) (s : Setup) (m : Shared) (last me : ℕ) (a : Actor) (entry : Option ℕ) → LocalInvariant q Z s m last me a → LocalInvariant q Z s m last me (record a { entry = entry })
+  knowing_entry : (Z : ℕ → Type 0) (s : Setup) (m : Shared) (last me : ℕ) (a : Actor) (entry : Option ℕ) → LocalInvariant q Z s m last me a
+      → LocalInvariant q Z s m last me (record a { entry = entry })
   knowing_entry Z s m last me a entry h =
       record {
         stands = record { pocket = h.stands.pocket; line = still_stands s.bits s.kind a a.holds entry a.line h.stands.line };
@@ -95,7 +99,9 @@ module _ (q : Queue) where
       }
 
   -- what holds of a world after an actor that holds what it held has another state
-  sound_with : (Z Z' : ℕ → Type 0) (w : World) (me : ℕ) (a b : Actor) (front : ℕ) (rest free : List ℕ) → actor_of w me ≡ Some a → QueueInvariant q Z w front rest free → ((k : ℕ) → Z k → Z' k) → PcIsValid w.setup.bits w.setup.kind b → FixedAt w.setup.limit me b b.line → Begins q Z' w.setup w.shared (last_node (front ∷ rest)) me a b → QueueInvariant q Z' (with_actor w me b) front rest free
+  sound_with : (Z Z' : ℕ → Type 0) (w : World) (me : ℕ) (a b : Actor) (front : ℕ) (rest free : List ℕ) → actor_of w me ≡ Some a
+      → QueueInvariant q Z w front rest free → ((k : ℕ) → Z k → Z' k) → PcIsValid w.setup.bits w.setup.kind b → FixedAt w.setup.limit me b b.line
+      → Begins q Z' w.setup w.shared (last_node (front ∷ rest)) me a b → QueueInvariant q Z' (with_actor w me b) front rest free
   sound_with Z Z' w me a b front rest free is so more stands fixed h =
       record {
         shape =
@@ -118,7 +124,8 @@ module _ (q : Queue) where
           record { stands = g.stands; fixed = g.fixed; marked = g.marked; knows = knows_more q Z Z' w.setup w.shared (last_node (front ∷ rest)) c c.line more g.knows; owns = g.owns }
 
       pick : (you : ℕ) (c : Actor) → ((you ≡ me) × (b ≡ c)) ⊎ ((you ≢ me) × (actor_of w you ≡ Some c)) → LocalInvariant q Z' w.setup w.shared (last_node (front ∷ rest)) you c
-      pick you c (inl e) = subst (λ i. LocalInvariant q Z' w.setup w.shared (last_node (front ∷ rest)) i c) (sym e.0) (subst (LocalInvariant q Z' w.setup w.shared (last_node (front ∷ rest)) me) e.1 mover)
+      pick you c (inl e) = subst (λ i. LocalInvariant q Z' w.setup w.shared (last_node (front ∷ rest)) i c) (sym e.0)
+          (subst (LocalInvariant q Z' w.setup w.shared (last_node (front ∷ rest)) me) e.1 mover)
       pick you c (inr e) = other you c (so.actors you c e.1)
 
 -- a world's chains, with what holds of them
@@ -130,7 +137,8 @@ pub record ReachedInvariant (q : Queue) (L : World → List ℕ → Type 0) (Z :
   pub fact : L w (front ∷ rest)
 
 -- what holds before a step of an actor at a line
-module _ (q : Queue) (L : World → List ℕ → Type 0) (Z : World → ℕ → Type 0) (w : World) (me : ℕ) (a : Actor) (l : Line) (r : IsReached w) (e : w.setup.kind ≡ q.kind) (is : actor_of w me ≡ Some a) (at : a.line ≡ Some l) (p : ReachedInvariant q L Z w) where
+module _ (q : Queue) (L : World → List ℕ → Type 0) (Z : World → ℕ → Type 0) (w : World) (me : ℕ) (a : Actor) (l : Line) (r : IsReached w)
+    (e : w.setup.kind ≡ q.kind) (is : actor_of w me ≡ Some a) (at : a.line ≡ Some l) (p : ReachedInvariant q L Z w) where
   local : LocalInvariant q (Z w) w.setup w.shared (last_node (p.front ∷ p.rest)) me a
   local = p.sound.actors me a is
 
@@ -205,7 +213,8 @@ record Made (q : Queue) (L : World → List ℕ → Type 0) (Z : World → ℕ �
   fixes : Fixes w.setup.limit me o
 
 -- it is a numbered move
-numbered : (q : Queue) (L : World → List ℕ → Type 0) (Z : World → ℕ → Type 0) (w : World) (me : ℕ) (a : Actor) (p : ReachedInvariant q L Z w) (m' : Shared) (o : Outcome) (t : Made q L Z w me a p m' o) → NumberedMove (Z w) w me a m' o p.front p.rest (t.does.front' ∷ t.does.rest')
+numbered : (q : Queue) (L : World → List ℕ → Type 0) (Z : World → ℕ → Type 0) (w : World) (me : ℕ) (a : Actor) (p : ReachedInvariant q L Z w) (m' : Shared) (o : Outcome) (t : Made q L Z w me a p m' o)
+    → NumberedMove (Z w) w me a m' o p.front p.rest (t.does.front' ∷ t.does.rest')
 numbered q L Z w me a p m' o t =
     record {
       line = t.line;
@@ -222,14 +231,18 @@ numbered q L Z w me a p m' o t =
     }
 
 -- what holds of a world after an actor was told an outcome, by what its step did
-sound_settled : (q : Queue) (L : World → List ℕ → Type 0) (Z : World → ℕ → Type 0) (Z' : ℕ → Type 0) (w : World) (me : ℕ) (a : Actor) (m' : Shared) (o : Outcome) (p : ReachedInvariant q L Z w) (t : Made q L Z w me a p m' o) → ((k : ℕ) → Z w k → Z' k) → (queue_in w.setup.bits w.shared (p.front ∷ p.rest) ≡ empty → Z' (w.steps + 1)) → QueueInvariant q Z' (after_outcome w me a m' o) t.does.front' t.does.rest' t.does.free'
+sound_settled : (q : Queue) (L : World → List ℕ → Type 0) (Z : World → ℕ → Type 0) (Z' : ℕ → Type 0) (w : World) (me : ℕ) (a : Actor) (m' : Shared)
+    (o : Outcome) (p : ReachedInvariant q L Z w) (t : Made q L Z w me a p m' o) → ((k : ℕ) → Z w k → Z' k)
+    → (queue_in w.setup.bits w.shared (p.front ∷ p.rest) ≡ empty → Z' (w.steps + 1))
+    → QueueInvariant q Z' (after_outcome w me a m' o) t.does.front' t.does.rest' t.does.free'
 sound_settled q L Z Z' w me a m' o p t more finds =
     record {
       shape =
           shape_turned w.setup.bits w.shared m' (elsewhere w) (elsewhere (after_outcome w me a m' o)) (p.front ∷ p.rest) p.free (d.front' ∷ d.rest') d.free' a o.actor o.aside p.sound.shape d.turn
           (λ n some. elsewhere_settled w me a m' o n t.here some (is_new w me a (p.front ∷ p.rest) p.free o.aside (reached_in_range w t.reached) t.here p.sound.shape d.own_aside));
       ends = t.ends;
-      unused = λ n above. ap (λ (x : Node). x.next.count) (unused_kept w.setup.bits w.shared m' (elsewhere w) p.front p.rest p.free a p.sound.shape d.turn.writes mine n (omega (arith, t.rises))) ∙ p.sound.unused n (omega (arith, t.rises));
+      unused = λ n above. ap (λ (x : Node). x.next.count) (unused_kept w.setup.bits w.shared m' (elsewhere w) p.front p.rest p.free a p.sound.shape
+          d.turn.writes mine n (omega (arith, t.rises))) ∙ p.sound.unused n (omega (arith, t.rises));
       words = d.words;
       actors = λ you c got. pick you c (actor_cases w me a _ t.here you c got);
     }
@@ -246,20 +259,28 @@ sound_settled q L Z Z' w me a m' o p t more finds =
           stands = record { pocket = t.placed.pocket; line = t.placed.line };
           fixed = t.fixes.fixed;
           marked = d.marked;
-          knows = knows_more q (Found w.setup.bits w.shared (p.front ∷ p.rest) (w.steps + 1)) Z' w.setup m' (last_node (d.front' ∷ d.rest')) o.actor o.actor.line (λ k f. subst Z' (sym f.1) (finds f.0)) d.knows;
+          knows = knows_more q (Found w.setup.bits w.shared (p.front ∷ p.rest) (w.steps + 1)) Z' w.setup m' (last_node (d.front' ∷ d.rest')) o.actor
+              o.actor.line (λ k f. subst Z' (sym f.1) (finds f.0)) d.knows;
           owns = d.owns;
         }
 
-    pick : (you : ℕ) (c : Actor) → ((you ≡ me) × (record o.actor { entry = Some (entry_or a.entry (length w.operations)) } ≡ c)) ⊎ ((you ≢ me) × (actor_of w you ≡ Some c)) → LocalInvariant q Z' w.setup m' (last_node (d.front' ∷ d.rest')) you c
+    pick : (you : ℕ) (c : Actor)
+        → ((you ≡ me) × (record o.actor { entry = Some (entry_or a.entry (length w.operations)) } ≡ c)) ⊎ ((you ≢ me) × (actor_of w you ≡ Some c))
+        → LocalInvariant q Z' w.setup m' (last_node (d.front' ∷ d.rest')) you c
     pick you c (inl e) =
         subst (λ i. LocalInvariant q Z' w.setup m' (last_node (d.front' ∷ d.rest')) i c) (sym e.0)
-        (subst (LocalInvariant q Z' w.setup m' (last_node (d.front' ∷ d.rest')) me) e.1 (knowing_entry q Z' w.setup m' (last_node (d.front' ∷ d.rest')) me o.actor (Some (entry_or a.entry (length w.operations))) mover))
+        (subst (LocalInvariant q Z' w.setup m' (last_node (d.front' ∷ d.rest')) me) e.1
+        (knowing_entry q Z' w.setup m' (last_node (d.front' ∷ d.rest')) me o.actor (Some (entry_or a.entry (length w.operations))) mover))
     pick you c (inr e) =
         others_know q (Z w) Z' w.setup w.shared m' (last_node (p.front ∷ p.rest)) (last_node (d.front' ∷ d.rest')) you c more (d.relies you (actor_stands w you c e.1).0 e.0)
-        (nodes_kept w me you a c m' p.front p.rest p.free e.0 (let g : WorldInRange w = reached_in_range w t.reached in omega (arith, g.shared.fresh, g.sized.numbered)) p.sound.ends.head t.here e.1 p.sound.shape d.rises d.turn.writes) (p.sound.actors you c e.1)
+        (nodes_kept w me you a c m' p.front p.rest p.free e.0 (let g : WorldInRange w =
+        reached_in_range w t.reached in omega (arith, g.shared.fresh, g.sized.numbered)) p.sound.ends.head t.here e.1 p.sound.shape d.rises
+        d.turn.writes) (p.sound.actors you c e.1)
 
 module _ (q : Queue) (steps : Steps q) (L : World → List ℕ → Type 0) (Z : World → ℕ → Type 0) (carries : Carries L Z) where
-  step_made : (w : World) (me : ℕ) (a : Actor) (l : Line) → IsReached w → w.setup.kind ≡ q.kind → actor_of w me ≡ Some a → a.line ≡ Some l → (p : ReachedInvariant q L Z w) → Made q L Z w me a p (performed (action w.setup me a l) w.shared) (outcome w.setup (w.steps + 1) me a l (found (action w.setup me a l) w.shared))
+  step_made : (w : World) (me : ℕ) (a : Actor) (l : Line) → IsReached w → w.setup.kind ≡ q.kind → actor_of w me ≡ Some a → a.line ≡ Some l
+      → (p : ReachedInvariant q L Z w)
+      → Made q L Z w me a p (performed (action w.setup me a l) w.shared) (outcome w.setup (w.steps + 1) me a l (found (action w.setup me a l) w.shared))
   step_made w me a l r e is at p =
       record {
         line = l;
@@ -284,7 +305,8 @@ module _ (q : Queue) (steps : Steps q) (L : World → List ℕ → Type 0) (Z : 
       d : After q (before q L Z w me a l r e is at p) (performed (action w.setup me a l) w.shared) (outcome w.setup (w.steps + 1) me a l (found (action w.setup me a l) w.shared))
       d = does q steps (before q L Z w me a l r e is at p) l t
 
-  give_made : (w : World) (me : ℕ) (a : Actor) (l : Line) (o : Outcome) → IsReached w → w.setup.kind ≡ q.kind → actor_of w me ≡ Some a → a.line ≡ Some l → gives_up (w.steps + 1) a l ≡ Some o → (p : ReachedInvariant q L Z w) → Made q L Z w me a p w.shared o
+  give_made : (w : World) (me : ℕ) (a : Actor) (l : Line) (o : Outcome) → IsReached w → w.setup.kind ≡ q.kind → actor_of w me ≡ Some a → a.line ≡ Some l
+      → gives_up (w.steps + 1) a l ≡ Some o → (p : ReachedInvariant q L Z w) → Made q L Z w me a p w.shared o
   give_made w me a l o r e is at given p =
       record {
         line = l;
@@ -307,15 +329,19 @@ module _ (q : Queue) (steps : Steps q) (L : World → List ℕ → Type 0) (Z : 
       d : After q (before q L Z w me a l r e is at p) w.shared o
       d = some_of (After q (before q L Z w me a l r e is at p) w.shared) (gives_up (w.steps + 1) a l) o given (gives q (before q L Z w me a l r e is at p) l t.fixed t.owns)
 
-  pub step_moving : (w : World) (me : ℕ) (a : Actor) (l : Line) → IsReached w → w.setup.kind ≡ q.kind → actor_of w me ≡ Some a → a.line ≡ Some l → ReachedInvariant q L Z w → Moving L Z w me a (performed (action w.setup me a l) w.shared) (outcome w.setup (w.steps + 1) me a l (found (action w.setup me a l) w.shared))
+  pub step_moving : (w : World) (me : ℕ) (a : Actor) (l : Line) → IsReached w → w.setup.kind ≡ q.kind → actor_of w me ≡ Some a → a.line ≡ Some l
+      → ReachedInvariant q L Z w
+      → Moving L Z w me a (performed (action w.setup me a l) w.shared) (outcome w.setup (w.steps + 1) me a l (found (action w.setup me a l) w.shared))
   step_moving w me a l r e is at p = record { front = p.front; rest = p.rest; queue' = _; move = numbered q L Z w me a p _ _ (step_made w me a l r e is at p); fact = p.fact }
 
-  pub give_moving : (w : World) (me : ℕ) (a : Actor) (l : Line) (o : Outcome) → IsReached w → w.setup.kind ≡ q.kind → actor_of w me ≡ Some a → a.line ≡ Some l → gives_up (w.steps + 1) a l ≡ Some o → ReachedInvariant q L Z w → Moving L Z w me a w.shared o
+  pub give_moving : (w : World) (me : ℕ) (a : Actor) (l : Line) (o : Outcome) → IsReached w → w.setup.kind ≡ q.kind → actor_of w me ≡ Some a → a.line ≡ Some l
+      → gives_up (w.steps + 1) a l ≡ Some o → ReachedInvariant q L Z w → Moving L Z w me a w.shared o
   give_moving w me a l o r e is at given p = record { front = p.front; rest = p.rest; queue' = _; move = numbered q L Z w me a p w.shared o (give_made w me a l o r e is at given p); fact = p.fact }
 
   made_keeps : (w : World) (me : ℕ) (a : Actor) (m' : Shared) (o : Outcome) (p : ReachedInvariant q L Z w) → Made q L Z w me a p m' o → ReachedInvariant q L Z (after_outcome w me a m' o)
   made_keeps w me a m' o p t =
-      let c : Carried L Z w (after_outcome w me a m' o) (p.front ∷ p.rest) (t.does.front' ∷ t.does.rest') = carries.told w me a m' o p.front p.rest (t.does.front' ∷ t.does.rest') (numbered q L Z w me a p m' o t) p.fact in
+      let c : Carried L Z w (after_outcome w me a m' o) (p.front ∷ p.rest) (t.does.front' ∷ t.does.rest') =
+      carries.told w me a m' o p.front p.rest (t.does.front' ∷ t.does.rest') (numbered q L Z w me a p m' o t) p.fact in
       record {
         front = t.does.front';
         rest = t.does.rest';
@@ -324,7 +350,8 @@ module _ (q : Queue) (steps : Steps q) (L : World → List ℕ → Type 0) (Z : 
         fact = c.fact;
       }
 
-  began_keeps : (w : World) (me : ℕ) (op : Op) (a : Actor) → IsReached w → w.setup.kind ≡ q.kind → actor_of w me ≡ Some a → a.line ≡ None → is_call op ≡ true → ReachedInvariant q L Z w → ReachedInvariant q L Z (with_actor w me (begun w.setup.kind me op a))
+  began_keeps : (w : World) (me : ℕ) (op : Op) (a : Actor) → IsReached w → w.setup.kind ≡ q.kind → actor_of w me ≡ Some a → a.line ≡ None → is_call op ≡ true
+      → ReachedInvariant q L Z w → ReachedInvariant q L Z (with_actor w me (begun w.setup.kind me op a))
   began_keeps w me op a r e is at call p =
       let k : LocalInvariant q (Z w) w.setup w.shared (last_node (p.front ∷ p.rest)) me a = p.sound.actors me a is in
       let empty : a.holds ≡ false = subst (FixedAt w.setup.limit me a) at k.fixed in
@@ -341,7 +368,8 @@ module _ (q : Queue) (steps : Steps q) (L : World → List ℕ → Type 0) (Z : 
         fact = c.0;
       }
 
-  rested_keeps : (w : World) (me : ℕ) (a : Actor) (l : Line) → IsReached w → w.setup.kind ≡ q.kind → actor_of w me ≡ Some a → a.line ≡ Some l → may_rest l ≡ true → ReachedInvariant q L Z w → ReachedInvariant q L Z (with_actor w me (rested a))
+  rested_keeps : (w : World) (me : ℕ) (a : Actor) (l : Line) → IsReached w → w.setup.kind ≡ q.kind → actor_of w me ≡ Some a → a.line ≡ Some l
+      → may_rest l ≡ true → ReachedInvariant q L Z w → ReachedInvariant q L Z (with_actor w me (rested a))
   rested_keeps w me a l r e is at may p =
       let t : AtLine q (before q L Z w me a l r e is at p) l = at_line q L Z w me a l r e is at p in
       let c : L (with_actor w me (rested a)) (p.front ∷ p.rest) × ((k : ℕ) → Z w k → Z (with_actor w me (rested a)) k) = carries.at_rest w me a l (p.front ∷ p.rest) r is at may p.fact in

@@ -22,7 +22,8 @@ used_some n fresh h = go (nat_le n fresh) refl h
     go false e g = absurd (omega arith)
 
 -- a node that is set aside was not
-pub is_new : (w : World) (me : ℕ) (a : Actor) (queue free : List ℕ) (aside : Option ℕ) → WorldInRange w → actor_of w me ≡ Some a → Shape w.setup.bits w.shared (elsewhere w) queue free → IfSome aside (λ k. (1 ≤ k) × (1 ≤ holds k a)) → IsNew w.aside aside
+pub is_new : (w : World) (me : ℕ) (a : Actor) (queue free : List ℕ) (aside : Option ℕ) → WorldInRange w → actor_of w me ≡ Some a
+    → Shape w.setup.bits w.shared (elsewhere w) queue free → IfSome aside (λ k. (1 ≤ k) × (1 ≤ holds k a)) → IsNew w.aside aside
 is_new w me a queue free None g is sh own = tt
 is_new w me a queue free (Some k) g is sh own =
     let up : w.shared.fresh ≤ w.setup.size = g.shared.fresh in
@@ -35,7 +36,8 @@ is_new w me a queue free (Some k) g is sh own =
     (own.0, omega arith, omega arith)
 
 -- nodes that were never used stay as they are
-pub unused_kept : (bits : ℕ) (m m' : Shared) (E : ℕ → ℕ) (front : ℕ) (rest free : List ℕ) (a : Actor) → Shape bits m E (front ∷ rest) free → WritesOneNode m m' (front ∷ rest) a → ((n : ℕ) → holds n a ≤ E n) → (n : ℕ) → m.fresh < n → node_at m' n ≡ node_at m n
+pub unused_kept : (bits : ℕ) (m m' : Shared) (E : ℕ → ℕ) (front : ℕ) (rest free : List ℕ) (a : Actor) → Shape bits m E (front ∷ rest) free
+    → WritesOneNode m m' (front ∷ rest) a → ((n : ℕ) → holds n a ≤ E n) → (n : ℕ) → m.fresh < n → node_at m' n ≡ node_at m n
 unused_kept bits m m' E front rest free a sh w mine n above = w.others n (omega arith) (go w.whose)
   where
     nowhere : times n (front ∷ rest) + times n free + E n ≡ 0
@@ -51,7 +53,9 @@ unused_kept bits m m' E front rest free a sh w mine n above = w.others n (omega 
         omega (arith, nowhere)
 
 -- what a step keeps of the nodes for another actor
-pub nodes_kept : (w : World) (me you : ℕ) (a c : Actor) (m' : Shared) (front : ℕ) (rest free : List ℕ) → you ≢ me → w.shared.fresh < reserved_node w.setup.bits → 1 ≤ w.shared.head.node → actor_of w me ≡ Some a → actor_of w you ≡ Some c → Shape w.setup.bits w.shared (elsewhere w) (front ∷ rest) free → Rises w.shared.free m'.free → WritesOneNode w.shared m' (front ∷ rest) a → NodesRely w.shared m' c
+pub nodes_kept : (w : World) (me you : ℕ) (a c : Actor) (m' : Shared) (front : ℕ) (rest free : List ℕ) → you ≢ me → w.shared.fresh < reserved_node w.setup.bits
+    → 1 ≤ w.shared.head.node → actor_of w me ≡ Some a → actor_of w you ≡ Some c → Shape w.setup.bits w.shared (elsewhere w) (front ∷ rest) free
+    → Rises w.shared.free m'.free → WritesOneNode w.shared m' (front ∷ rest) a → NodesRely w.shared m' c
 nodes_kept w me you a c m' front rest free other few some is there sh rises writes =
     record {
       free = rises;

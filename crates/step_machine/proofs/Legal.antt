@@ -1,12 +1,15 @@
 -- That the operations of a world, by rising place and with the replies that their calls have earned, are what the queue
 -- gives, and that the queue then has the values of the chain: kept by each step that has an `LinearizationStep`, in both queues.
-use Rattle.std.proofs.Common.{◌≡◌, ℕ, zero, suc, ◌+◌, ◌≤◌, ◌<◌, Bool, true, inl, inr, false, nat_eq, Option, Some, None, is_some, List, [], ◌∷◌, ◌++◌, drop, append-nil, refl, sym, ap, ◌∙◌, subst, arith}
+use Rattle.std.proofs.Common.{◌≡◌, ℕ, zero, suc, ◌+◌, ◌≤◌, ◌<◌, Bool, true, inl, inr, false, nat_eq, Option, Some, None, is_some, List, [], ◌∷◌, ◌++◌}
+use Rattle.std.proofs.Common.{drop, append-nil, refl, sym, ap, ◌∙◌, subst, arith}
 use Rattle.std.specs.Prelude.{slice_get}
 use Rattle.std.specs.List.{AllByRecursion, flat_map}
 use Rattle.std.proofs.lemmas.Bool.{true≢false}
 use Rattle.std.proofs.lemmas.List.{map-append}
 use Rattle.std.proofs.lemmas.Grind.{flat_map-append}
-use Rattle.step_machine.specs.Below.{Line, Refusal, Closed, Op, Enq, Deq, Shut, Taken, Reply, Done, Value, Empty, Refused, Stamped, Queue, empty, response, front_of, Plays, point_or_zero, by_point, answer, AgreesWithQueue, IsSequentialRun, queue_after, Actor, Outcome, Shared, node_at}
+use Rattle.step_machine.specs.Below.{Line, Refusal, Closed, Op, Enq, Deq, Shut, Taken, Reply, Done, Value, Empty, Refused, Stamped, Queue, empty}
+use Rattle.step_machine.specs.Below.{response, front_of, Plays, point_or_zero, by_point, answer, AgreesWithQueue, IsSequentialRun, queue_after, Actor}
+use Rattle.step_machine.specs.Below.{Outcome, Shared, node_at}
 use Rattle.step_machine.specs.Machine.{World, actor_of, with_outcome, after_outcome}
 use Rattle.step_machine.specs.Places.{IsEnd, one_if, times}
 use Rattle.step_machine.specs.Chains.{values_of, queue_values, is_shut_chain, queue_in}
@@ -34,7 +37,8 @@ abbrev pub WasEmpty : World → ℕ → Type 0
 WasEmpty w k = (k ≤ w.steps) × (queue_after empty (before k (by_point (bare_completion w))) ≡ empty)
 
 -- the values of the queue stay where its nodes do
-same_values : (bits : ℕ) (m m' : Shared) (E : ℕ → ℕ) (h : ℕ) (rest free : List ℕ) (a : Actor) → Shape bits m E (h ∷ rest) free → WritesOneNode m m' (h ∷ rest) a → ((n : ℕ) → holds n a ≤ E n) → (ns : List ℕ) → ((n : ℕ) → times n ns ≤ times n rest) → values_of m' ns ≡ values_of m ns
+same_values : (bits : ℕ) (m m' : Shared) (E : ℕ → ℕ) (h : ℕ) (rest free : List ℕ) (a : Actor) → Shape bits m E (h ∷ rest) free → WritesOneNode m m' (h ∷ rest) a
+    → ((n : ℕ) → holds n a ≤ E n) → (ns : List ℕ) → ((n : ℕ) → times n ns ≤ times n rest) → values_of m' ns ≡ values_of m ns
 same_values bits m m' E h rest free a sh w mine ns among = values_kept bits m m' E (h ∷ rest) free a sh w mine ns (λ n more. within n more)
   where
     within : (n : ℕ) → 1 ≤ times n ns → (1 ≤ n) × (1 ≤ times n (h ∷ rest))
@@ -47,7 +51,8 @@ abbrev pub queue_with : Bool → List Taken → Queue
 queue_with flag vs = record { values = vs; shut = flag }
 
 -- what the queue gives a push and a shut, where it isn't shut, and a pop
-pub push_gives : (me : ℕ) (op : Op) (v : Taken) (vs : List Taken) (flag : Bool) → flag ≡ false → Pushes me op v → (Done ≡ (response me op (queue_with flag vs)).reply) × ((response me op (queue_with flag vs)).after ≡ queue_with false (vs ++ v ∷ []))
+pub push_gives : (me : ℕ) (op : Op) (v : Taken) (vs : List Taken) (flag : Bool) → flag ≡ false → Pushes me op v
+    → (Done ≡ (response me op (queue_with flag vs)).reply) × ((response me op (queue_with flag vs)).after ≡ queue_with false (vs ++ v ∷ []))
 push_gives me (Enq body) v vs false unshut h = (refl, ap (λ x. queue_with false (vs ++ x ∷ [])) (sym h))
 push_gives me (Enq body) v vs true unshut h = absurd (true≢false unshut)
 push_gives me Deq v vs flag unshut h = absurd h
@@ -57,7 +62,8 @@ pub shut_gives : (me : ℕ) (vs : List Taken) (flag : Bool) → flag ≡ false �
 shut_gives me vs false unshut = (refl, refl)
 shut_gives me vs true unshut = absurd (true≢false unshut)
 
-pub pop_gives : (me : ℕ) (op : Op) (v : Taken) (vs : List Taken) (flag : Bool) (queue : Queue) → op ≡ Deq → queue ≡ queue_with flag (v ∷ vs) → (Value v ≡ (response me op queue).reply) × ((response me op queue).after ≡ queue_with flag vs)
+pub pop_gives : (me : ℕ) (op : Op) (v : Taken) (vs : List Taken) (flag : Bool) (queue : Queue) → op ≡ Deq → queue ≡ queue_with flag (v ∷ vs)
+    → (Value v ≡ (response me op queue).reply) × ((response me op queue).after ≡ queue_with flag vs)
 pop_gives me op v vs flag queue e q =
     let g : response me op queue ≡ front_of (queue_with flag (v ∷ vs)) (v ∷ vs) = ap (λ x. response me x queue) e ∙ ap (λ (x : Queue). front_of x x.values) q in
     (sym (ap (λ x. x.reply) g), ap (λ x. x.after) g)
@@ -77,7 +83,9 @@ pub record AfterStep (w v : World) (queue' : List ℕ) : Type 0 where
   pub counted : v.shared.head.count ≡ taken (bare_completion v)
   pub still : (k : ℕ) → k ≤ w.steps + 1 → queue_after empty (before k (by_point (bare_completion w))) ≡ empty → queue_after empty (before k (by_point (bare_completion v))) ≡ empty
 
-module _ (w : World) (me : ℕ) (a : Actor) (m' : Shared) (o : Outcome) (h : ℕ) (rest free : List ℕ) (sh : Shape w.setup.bits w.shared (elsewhere w) (h ∷ rest) free) (wr : WritesOneNode w.shared m' (h ∷ rest) a) (mine : (n : ℕ) → holds n a ≤ elsewhere w n) (b : Simulates w (after_outcome w me a m' o) me a o) (ac : SimulationRelation w (h ∷ rest)) where
+module _ (w : World) (me : ℕ) (a : Actor) (m' : Shared) (o : Outcome) (h : ℕ) (rest free : List ℕ)
+    (sh : Shape w.setup.bits w.shared (elsewhere w) (h ∷ rest) free) (wr : WritesOneNode w.shared m' (h ∷ rest) a) (mine : (n : ℕ) → holds n a ≤ elsewhere w n)
+    (b : Simulates w (after_outcome w me a m' o) me a o) (ac : SimulationRelation w (h ∷ rest)) where
   abbrev after : World
   after = after_outcome w me a m' o
 
@@ -131,7 +139,9 @@ module _ (w : World) (me : ℕ) (a : Actor) (m' : Shared) (o : Outcome) (h : ℕ
       }
 
   -- a step that enters an operation at its own number
-  after_now : (queue' : List ℕ) (y : Stamped) → place y ≡ w.steps + 1 → Entered (bare_completion w) (bare_completion after) y → AgreesWithQueue was y y.reply → (answer was y y.reply).after ≡ queue_in w.setup.bits m' queue' → m'.head.count ≡ w.shared.head.count + one_if (is_value y.reply) → AfterStep w after queue'
+  after_now : (queue' : List ℕ) (y : Stamped) → place y ≡ w.steps + 1 → Entered (bare_completion w) (bare_completion after) y → AgreesWithQueue was y y.reply
+      → (answer was y y.reply).after ≡ queue_in w.setup.bits m' queue' → m'.head.count ≡ w.shared.head.count + one_if (is_value y.reply)
+      → AfterStep w after queue'
   after_now queue' y at n gets gives count =
       record {
         replays = subst (IsSequentialRun empty) (sym last) (replays_more empty (by_point (bare_completion w)) y ac.replays (subst (λ q. AgreesWithQueue q y y.reply) (sym ac.list) gets));
@@ -144,7 +154,9 @@ module _ (w : World) (me : ℕ) (a : Actor) (m' : Shared) (o : Outcome) (h : ℕ
       last = n.rises ∙ inserted_last y (by_point (bare_completion w)) (subst (λ k. AllByRecursion (λ p. place p < k) (by_point (bare_completion w))) (sym at) below)
 
   -- a step that enters an empty reply
-  after_empty : (queue' : List ℕ) (y : Stamped) → was ≡ queue_in w.setup.bits m' queue' → m'.head.count ≡ w.shared.head.count → IsEmptyReply y → Entered (bare_completion w) (bare_completion after) y → queue_after empty (before (place y) (by_point (bare_completion w))) ≡ empty → AfterStep w after queue'
+  after_empty : (queue' : List ℕ) (y : Stamped) → was ≡ queue_in w.setup.bits m' queue' → m'.head.count ≡ w.shared.head.count → IsEmptyReply y
+      → Entered (bare_completion w) (bare_completion after) y → queue_after empty (before (place y) (by_point (bare_completion w))) ≡ empty
+      → AfterStep w after queue'
   after_empty queue' y same count e n none =
       record {
         replays = subst (IsSequentialRun empty) (sym n.rises) (empty_placed y (by_point (bare_completion w)) e none ac.replays);
@@ -154,7 +166,9 @@ module _ (w : World) (me : ℕ) (a : Actor) (m' : Shared) (o : Outcome) (h : ℕ
       }
 
   -- what a push, a shut and a pop give, and the queue after them
-  pushes_on : (queue' : List ℕ) → queue' ≡ (h ∷ rest) ++ a.node ∷ [] → is_shut_chain w.setup.bits w.shared (h ∷ rest) ≡ false → is_shut_chain w.setup.bits m' queue' ≡ false → (node_at m' a.node).value ≡ a.val → Pushes me a.op a.val → (Done ≡ (response me a.op was).reply) × ((response me a.op was).after ≡ queue_in w.setup.bits m' queue')
+  pushes_on : (queue' : List ℕ) → queue' ≡ (h ∷ rest) ++ a.node ∷ [] → is_shut_chain w.setup.bits w.shared (h ∷ rest) ≡ false
+      → is_shut_chain w.setup.bits m' queue' ≡ false → (node_at m' a.node).value ≡ a.val → Pushes me a.op a.val
+      → (Done ≡ (response me a.op was).reply) × ((response me a.op was).after ≡ queue_in w.setup.bits m' queue')
   pushes_on queue' longer unshut still value pushes =
       let g : (Done ≡ (response me a.op was).reply) × ((response me a.op was).after ≡ queue_with false (values_of w.shared rest ++ a.val ∷ [])) =
       push_gives me a.op a.val (values_of w.shared rest) (is_shut_chain w.setup.bits w.shared (h ∷ rest)) unshut pushes in
@@ -162,7 +176,8 @@ module _ (w : World) (me : ℕ) (a : Actor) (m' : Shared) (o : Outcome) (h : ℕ
       let now : queue_with false (values_of w.shared rest ++ a.val ∷ []) ≡ queue_in w.setup.bits m' queue' = (λ i. record { values = values i; shut = sym still i }) in
       (g.0, g.1 ∙ now)
 
-  shuts_on : (queue' : List ℕ) → queue' ≡ h ∷ rest → is_shut_chain w.setup.bits w.shared (h ∷ rest) ≡ false → is_shut_chain w.setup.bits m' (h ∷ rest) ≡ true → a.op ≡ Shut → (Done ≡ (response me a.op was).reply) × ((response me a.op was).after ≡ queue_in w.setup.bits m' queue')
+  shuts_on : (queue' : List ℕ) → queue' ≡ h ∷ rest → is_shut_chain w.setup.bits w.shared (h ∷ rest) ≡ false → is_shut_chain w.setup.bits m' (h ∷ rest) ≡ true
+      → a.op ≡ Shut → (Done ≡ (response me a.op was).reply) × ((response me a.op was).after ≡ queue_in w.setup.bits m' queue')
   shuts_on queue' same unshut now op =
       let g : (Done ≡ (response me Shut was).reply) × ((response me Shut was).after ≡ queue_with true (values_of w.shared rest)) =
       shut_gives me (values_of w.shared rest) (is_shut_chain w.setup.bits w.shared (h ∷ rest)) unshut in
@@ -170,10 +185,13 @@ module _ (w : World) (me : ℕ) (a : Actor) (m' : Shared) (o : Outcome) (h : ℕ
       (let kept : queue_with true (values_of w.shared rest) ≡ queue_in w.setup.bits m' (h ∷ rest) = (λ i. record { values = sym kept_values i; shut = sym now i }) in
       (g.0, g.1 ∙ kept ∙ ap (λ q. queue_in w.setup.bits m' q) (sym same)))
 
-  pops_on : (queue' : List ℕ) (p : Op) (first x : ℕ) (ns : List ℕ) → h ∷ rest ≡ first ∷ x ∷ ns → queue' ≡ x ∷ ns → is_shut_chain w.setup.bits m' queue' ≡ is_shut_chain w.setup.bits w.shared (h ∷ rest) → p ≡ Deq → (Value (node_at w.shared x).value ≡ (response me p was).reply) × ((response me p was).after ≡ queue_in w.setup.bits m' queue')
+  pops_on : (queue' : List ℕ) (p : Op) (first x : ℕ) (ns : List ℕ) → h ∷ rest ≡ first ∷ x ∷ ns → queue' ≡ x ∷ ns
+      → is_shut_chain w.setup.bits m' queue' ≡ is_shut_chain w.setup.bits w.shared (h ∷ rest) → p ≡ Deq
+      → (Value (node_at w.shared x).value ≡ (response me p was).reply) × ((response me p was).after ≡ queue_in w.setup.bits m' queue')
   pops_on queue' p first x ns before_is now_is flag op =
       let g : (Value (node_at w.shared x).value ≡ (response me p was).reply) × ((response me p was).after ≡ queue_with (is_shut_chain w.setup.bits w.shared (h ∷ rest)) (values_of w.shared ns)) =
-      pop_gives me p (node_at w.shared x).value (values_of w.shared ns) (is_shut_chain w.setup.bits w.shared (h ∷ rest)) was op (ap (λ qs. queue_with (is_shut_chain w.setup.bits w.shared (h ∷ rest)) (queue_values w.shared qs)) before_is) in
+      pop_gives me p (node_at w.shared x).value (values_of w.shared ns) (is_shut_chain w.setup.bits w.shared (h ∷ rest)) was op
+      (ap (λ qs. queue_with (is_shut_chain w.setup.bits w.shared (h ∷ rest)) (queue_values w.shared qs)) before_is) in
       let values : values_of w.shared ns ≡ queue_values m' queue' = sym (popped_values first x ns before_is) ∙ ap (λ q. queue_values m' q) (sym now_is) in
       let now : queue_with (is_shut_chain w.setup.bits w.shared (h ∷ rest)) (values_of w.shared ns) ≡ queue_in w.setup.bits m' queue' = (λ i. record { values = values i; shut = sym flag i }) in
       (g.0, g.1 ∙ now)
@@ -198,7 +216,8 @@ module _ (w : World) (me : ℕ) (a : Actor) (m' : Shared) (o : Outcome) (h : ℕ
       after_now queue' (entered me a.op (Some (w.steps + 1)) (Some Done)) refl
       (entered_at w after me a o (w.steps + 1) (Some Done) b at none with_outcome) g.0 g.1 (omega (arith, count))
   after_step queue' (popped first x ns before_is now_is count flag at with_outcome op none) =
-      let g : (Value (node_at w.shared x).value ≡ (response me a.op was).reply) × ((response me a.op was).after ≡ queue_in w.setup.bits m' queue') = pops_on queue' a.op first x ns before_is now_is flag op in
+      let g : (Value (node_at w.shared x).value ≡ (response me a.op was).reply) × ((response me a.op was).after ≡ queue_in w.setup.bits m' queue') =
+      pops_on queue' a.op first x ns before_is now_is flag op in
       after_now queue' (entered me a.op (Some (w.steps + 1)) (Some (Value (node_at w.shared x).value))) refl
       (entered_at w after me a o (w.steps + 1) (Some (Value (node_at w.shared x).value)) b at none with_outcome) g.0 g.1 count
   after_step queue' (shut same count unshut now at with_outcome op none) =
@@ -268,13 +287,15 @@ module _ (w : World) (me : ℕ) (a : Actor) (m' : Shared) (o : Outcome) (h : ℕ
       let g : (Done ≡ (response me a.op was).reply) × ((response me a.op was).after ≡ queue_in w.setup.bits m' queue') = pushes_on queue' longer unshut still value pushes in
       subst (λ es. Plays was es (queue_in w.setup.bits m' queue')) (sym (gained_is (w.steps + 1) (Some Done) at with_outcome)) (push_plays me a.op a.val _ _ pushes g.0 g.1)
   outcome_plays queue' (popped first x ns before_is now_is count flag at with_outcome op none) =
-      let g : (Value (node_at w.shared x).value ≡ (response me Deq was).reply) × ((response me Deq was).after ≡ queue_in w.setup.bits m' queue') = pops_on queue' Deq first x ns before_is now_is flag refl in
+      let g : (Value (node_at w.shared x).value ≡ (response me Deq was).reply) × ((response me Deq was).after ≡ queue_in w.setup.bits m' queue') =
+      pops_on queue' Deq first x ns before_is now_is flag refl in
       subst (λ es. Plays was es (queue_in w.setup.bits m' queue')) (sym (gained_is (w.steps + 1) _ at with_outcome)) (sym g.0, g.1)
   outcome_plays queue' (shut same count unshut now at with_outcome op none) =
       let g : (Done ≡ (response me a.op was).reply) × ((response me a.op was).after ≡ queue_in w.setup.bits m' queue') = shuts_on queue' same unshut now op in
       subst (λ es. Plays was es (queue_in w.setup.bits m' queue')) (sym (gained_is (w.steps + 1) (Some Done) at with_outcome)) (shut_plays me a.op _ _ op g.0 g.1)
 
-  pub after_plays : (queue' : List ℕ) → LinearizationStep w.setup.bits (WasEmpty w) me (w.steps + 1) w.shared m' (h ∷ rest) queue' a o → Plays empty (completion_entries after) (queue_in w.setup.bits m' queue')
+  pub after_plays : (queue' : List ℕ) → LinearizationStep w.setup.bits (WasEmpty w) me (w.steps + 1) w.shared m' (h ∷ rest) queue' a o
+      → Plays empty (completion_entries after) (queue_in w.setup.bits m' queue')
   after_plays queue' account =
       subst (λ es. Plays empty es (queue_in w.setup.bits m' queue')) (sym (after_gains queue' account))
       (plays-append empty _ _ (completion_entries w) (gained me a.op o) ac.plays (outcome_plays queue' account))

@@ -1,9 +1,14 @@
 -- That moves keep what the operations of a world are accounted for, for both queues: which call an operation is of, and
 -- what begins and rests leave.
-use Rattle.std.proofs.Common.{◌≡◌, ◌≢◌, ℕ, ◌+◌, ◌<◌, ◌⊎◌, inl, inr, Bool, true, false, nat_eq, nat_lt, if◌then◌else◌, Option, Some, None, IfSome, List, set, length, get_or, refl, sym, ap, ◌∙◌, subst, arith}
+use Rattle.std.proofs.Common.{◌≡◌, ◌≢◌, ℕ, ◌+◌, ◌<◌, ◌⊎◌, inl, inr, Bool, true, false, nat_eq, nat_lt, if◌then◌else◌, Option, Some, None, IfSome}
+use Rattle.std.proofs.Common.{List, set, length, get_or, refl, sym, ap, ◌∙◌, subst, arith}
 use Rattle.std.specs.Prelude.{slice_get}
 use Rattle.std.proofs.lemmas.Option.{same_Some, slice_get_within, get_or_from_slice_get}
-use Rattle.step_machine.specs.Below.{is_null, same_ref, Kind, Line, N1, N2, N4, N5, F1, F3, E3, E5, E7, E9, E17, D2, D5, D12, D13, A3, B1, B3, B4, B6, A5, A7, S1, S3, S4, S6, S8, S9, is_shut, null, left, left_with_node, Op, Enq, Deq, Shut, Reply, Done, Refused, Stamped, empty, Plays, by_point, IsSequentialRun, queue_after, Setup, Held, Actor, Outcome, Shared, Found, action, outcome, goes, ends, effect, empties_hand, to_pocket, with_node, freed, unlocked, busy_or, gives_up, from_pocket, begun}
+use Rattle.step_machine.specs.Below.{is_null, same_ref, Kind, Line, N1, N2, N4, N5, F1, F3, E3, E5, E7, E9, E17, D2, D5, D12, D13, A3, B1, B3, B4, B6}
+use Rattle.step_machine.specs.Below.{A5, A7, S1, S3, S4, S6, S8, S9, is_shut, null, left, left_with_node, Op, Enq, Deq, Shut, Reply, Done, Refused}
+use Rattle.step_machine.specs.Below.{Stamped, empty, Plays, by_point, IsSequentialRun, queue_after, Setup, Held, Actor, Outcome, Shared, Found}
+use Rattle.step_machine.specs.Below.{action, outcome, goes, ends, effect, empties_hand, to_pocket, with_node, freed, unlocked, busy_or, gives_up}
+use Rattle.step_machine.specs.Below.{from_pocket, begun}
 use Rattle.std.specs.List.{flat_map}
 use Rattle.step_machine.specs.Chains.{queue_in}
 use Rattle.step_machine.specs.Entries.{entry_of}
@@ -40,19 +45,25 @@ left_with_node_op now (Some (Refused refusal)) a = record { same = refl }
 left_with_node_op now _ a = record { same = refl }
 
 op_kept : (s : Setup) (now me : ℕ) (a : Actor) (l : Line) (c : Found (action s me a l)) → SameOp a (outcome s now me a l c)
-op_kept s now me a N2 c = both (SameOp a) (is_null c) (both (SameOp a) (nat_lt a.f s.size) (record { same = refl }) (record { same = refl })) (both (SameOp a) (nat_eq c.count s.limit) (record { same = refl }) (record { same = refl }))
+op_kept s now me a N2 c = both (SameOp a) (is_null c) (both (SameOp a) (nat_lt a.f s.size) (record { same = refl }) (record { same = refl }))
+    (both (SameOp a) (nat_eq c.count s.limit) (record { same = refl }) (record { same = refl }))
 op_kept s now me a N4 c = both (SameOp a) (same_ref c a.top) (record { same = refl }) (record { same = refl })
 op_kept s now me a N5 c = both (SameOp a) (nat_eq c a.f) (record { same = refl }) (record { same = refl })
 op_kept s now me a F1 c = both (SameOp a) (nat_eq c.count s.limit) (record { same = (freed_op s.kind now a.due (record a { top = c })).same }) (record { same = refl })
 op_kept s now me a F3 c = both (SameOp a) (same_ref c a.top) (record { same = (freed_op s.kind now a.due (empties_hand a)).same }) (record { same = refl })
 op_kept s now me a E3 c = both (SameOp a) (nat_eq c.count s.limit) (record { same = refl }) (record { same = refl })
-op_kept s now me a E7 c = both (SameOp a) (same_ref c a.tail) (both (SameOp a) (is_null a.next) (record { same = refl }) (both (SameOp a) (is_shut s.bits a.next) (record { same = refl }) (both (SameOp a) (nat_eq a.tail.count s.limit) (record { same = refl }) (record { same = refl })))) (record { same = refl })
+op_kept s now me a E7 c = both (SameOp a) (same_ref c a.tail) (both (SameOp a) (is_null a.next) (record { same = refl })
+    (both (SameOp a) (is_shut s.bits a.next) (record { same = refl }) (both (SameOp a) (nat_eq a.tail.count s.limit) (record { same = refl })
+    (record { same = refl })))) (record { same = refl })
 op_kept s now me a E9 c = both (SameOp a) (same_ref c a.next) (ended (nat_eq a.tail.count s.limit)) (record { same = refl })
   where
     ended : (b : Bool) → SameOp a (effect now (if b then ends now Done (empties_hand (record a { due = Some Done })) else goes E17 (empties_hand (record a { due = Some Done }))))
     ended true = record { same = refl }
     ended false = record { same = refl }
-op_kept s now me a D5 c = both (SameOp a) (same_ref c a.head) (both (SameOp a) (nat_eq a.head.node a.tail.node) (both (SameOp a) (is_null a.next) (record { same = refl }) (both (SameOp a) (is_shut s.bits a.next) (record { same = refl }) (both (SameOp a) (nat_eq a.tail.count s.limit) (record { same = refl }) (record { same = refl })))) (record { same = refl })) (record { same = refl })
+op_kept s now me a D5 c = both (SameOp a) (same_ref c a.head) (both (SameOp a) (nat_eq a.head.node a.tail.node)
+    (both (SameOp a) (is_null a.next) (record { same = refl }) (both (SameOp a) (is_shut s.bits a.next) (record { same = refl })
+    (both (SameOp a) (nat_eq a.tail.count s.limit) (record { same = refl }) (record { same = refl })))) (record { same = refl }))
+    (record { same = refl })
 op_kept s now me a D12 c = both (SameOp a) (nat_eq a.head.count s.limit) (record { same = refl }) (record { same = refl })
 op_kept s now me a D13 c = both (SameOp a) (same_ref c a.head) (record { same = refl }) (record { same = refl })
 op_kept s now me a A3 c = both (SameOp a) (nat_eq c 0) (record { same = refl }) (record { same = refl })
@@ -62,7 +73,9 @@ op_kept s now me a B4 c = both (SameOp a) (nat_eq a.head.count s.limit) (record 
 op_kept s now me a B6 c = unlocked_op now a.due a
 op_kept s now me a A5 c = both (SameOp a) (same_ref c null) (record { same = refl }) (record { same = refl })
 op_kept s now me a A7 c = left_with_node_op now a.due a
-op_kept s now me a S3 c = both (SameOp a) (same_ref c a.tail) (both (SameOp a) (is_null a.next) (record { same = refl }) (both (SameOp a) (is_shut s.bits a.next) (record { same = refl }) (both (SameOp a) (nat_eq a.tail.count s.limit) (record { same = refl }) (record { same = refl })))) (record { same = refl })
+op_kept s now me a S3 c = both (SameOp a) (same_ref c a.tail) (both (SameOp a) (is_null a.next) (record { same = refl })
+    (both (SameOp a) (is_shut s.bits a.next) (record { same = refl }) (both (SameOp a) (nat_eq a.tail.count s.limit) (record { same = refl })
+    (record { same = refl })))) (record { same = refl })
 op_kept s now me a S4 c = both (SameOp a) (same_ref c a.next) (record { same = refl }) (record { same = refl })
 op_kept s now me a S6 c = both (SameOp a) (nat_eq c 0) (record { same = refl }) (record { same = refl })
 op_kept s now me a S8 c = both (SameOp a) (same_ref c null) (record { same = refl }) (record { same = refl })
@@ -90,7 +103,8 @@ same_op_given now a S6 = refl
 same_op_given now a _ = tt
 
 -- what stands in a list once an operation is added or changed
-recorded_other : (entry : Option ℕ) (new : Stamped) (change : Stamped → Stamped) (ops : List Stamped) (i : ℕ) (s : Stamped) → i ≢ entry_or entry (length ops) → slice_get (with_operation entry new change ops) i ≡ Some s → slice_get ops i ≡ Some s
+recorded_other : (entry : Option ℕ) (new : Stamped) (change : Stamped → Stamped) (ops : List Stamped) (i : ℕ) (s : Stamped) → i ≢ entry_or entry (length ops)
+    → slice_get (with_operation entry new change ops) i ≡ Some s → slice_get ops i ≡ Some s
 recorded_other None new change ops i s other got = sym ((put_end ops (change new)).others i other) ∙ got
 recorded_other (Some e) new change ops i s other got = sym (slice_get-set_other ops e i (change (get_or ops e new)) other) ∙ got
 
@@ -100,19 +114,25 @@ OfTheirCalls w =
     (me e : ℕ) (a : Actor) (l : Line) (s : Stamped) → actor_of w me ≡ Some a → a.line ≡ Some l → a.entry ≡ Some e → slice_get w.operations e ≡ Some s → s.op ≡ a.op
 
 -- the operation of a mover after its step
-recorded_here : (K : List ℕ) (w : World) (me : ℕ) (a : Actor) (l : Line) (o : Outcome) (s : Stamped) (entry : Option ℕ) → a.entry ≡ entry → OperationAt (Unit {0}) K w.operations me (Some l) entry a.due a.empty_at → actor_of w me ≡ Some a → a.line ≡ Some l → OfTheirCalls w → slice_get (with_operation entry (new_operation me a.op (w.steps + 1)) (with_outcome (w.steps + 1) o) w.operations) (entry_or entry (length w.operations)) ≡ Some s → s.op ≡ a.op
+recorded_here : (K : List ℕ) (w : World) (me : ℕ) (a : Actor) (l : Line) (o : Outcome) (s : Stamped) (entry : Option ℕ) → a.entry ≡ entry
+    → OperationAt (Unit {0}) K w.operations me (Some l) entry a.due a.empty_at → actor_of w me ≡ Some a → a.line ≡ Some l → OfTheirCalls w
+    → slice_get (with_operation entry (new_operation me a.op (w.steps + 1)) (with_outcome (w.steps + 1) o) w.operations) (entry_or entry (length w.operations)) ≡ Some s
+    → s.op ≡ a.op
 recorded_here K w me a l o s None at k is line calls got =
     sym (ap (λ (x : Stamped). x.op) (same_Some _ s (sym (slice_get-append_end w.operations (with_outcome (w.steps + 1) o (new_operation me a.op (w.steps + 1)))) ∙ got)))
 recorded_here K w me a l o s (Some e) at k is line calls got =
     let b : Busy (Unit {0}) w.operations me e k.0 = k.1 in
-    let here : slice_get (set w.operations e (with_outcome (w.steps + 1) o (get_or w.operations e (new_operation me a.op (w.steps + 1))))) e ≡ Some (with_outcome (w.steps + 1) o (get_or w.operations e (new_operation me a.op (w.steps + 1)))) =
+    let here : slice_get (set w.operations e (with_outcome (w.steps + 1) o (get_or w.operations e (new_operation me a.op (w.steps + 1))))) e ≡ Some
+    (with_outcome (w.steps + 1) o (get_or w.operations e (new_operation me a.op (w.steps + 1)))) =
     slice_get-set_same w.operations e k.0 _ b.here in
     sym (ap (λ (x : Stamped). x.op) (same_Some _ s (sym here ∙ got)))
     ∙ ap (λ (x : Stamped). x.op) (get_or_from_slice_get w.operations e k.0 (new_operation me a.op (w.steps + 1)) b.here)
     ∙ calls me e a l k.0 is line at b.here
 
 -- another actor's operation stands at another place
-apart_from : (K : List ℕ) (w : World) (me you e : ℕ) (a c : Actor) (l : Line) (k : Line) → you ≢ me → StampsInvariant (Unit {0}) K w → (entry : Option ℕ) → OperationAt (Unit {0}) K w.operations me (Some l) entry a.due a.empty_at → actor_of w you ≡ Some c → c.line ≡ Some k → c.entry ≡ Some e → e ≢ entry_or entry (length w.operations)
+apart_from : (K : List ℕ) (w : World) (me you e : ℕ) (a c : Actor) (l : Line) (k : Line) → you ≢ me → StampsInvariant (Unit {0}) K w → (entry : Option ℕ)
+    → OperationAt (Unit {0}) K w.operations me (Some l) entry a.due a.empty_at → actor_of w you ≡ Some c → c.line ≡ Some k → c.entry ≡ Some e
+    → e ≢ entry_or entry (length w.operations)
 apart_from K w me you e a c l k other h entry g there line at = go entry g
   where
     mine : OperationAt (Unit {0}) K w.operations you (Some k) (Some e) c.due c.empty_at
@@ -127,7 +147,8 @@ apart_from K w me you e a c l k other h entry g there line at = go entry g
         other (sym mine.1.own ∙ ap (λ (x : Stamped). x.actor) same ∙ g.1.own)
 
 -- operations stay of their calls
-pub calls_settled : (K : List ℕ) (w : World) (me : ℕ) (a : Actor) (l : Line) (m' : Shared) (o : Outcome) → StampsInvariant (Unit {0}) K w → actor_of w me ≡ Some a → a.line ≡ Some l → o.actor.op ≡ a.op → OfTheirCalls w → OfTheirCalls (after_outcome w me a m' o)
+pub calls_settled : (K : List ℕ) (w : World) (me : ℕ) (a : Actor) (l : Line) (m' : Shared) (o : Outcome) → StampsInvariant (Unit {0}) K w
+    → actor_of w me ≡ Some a → a.line ≡ Some l → o.actor.op ≡ a.op → OfTheirCalls w → OfTheirCalls (after_outcome w me a m' o)
 calls_settled K w me a l m' o h is line same calls you e c k s there at entry got = pick (actor_cases w me a (record o.actor { entry = Some (entry_or a.entry (length w.operations)) }) is you c there)
   where
     known : OperationAt (Unit {0}) K w.operations me (Some l) a.entry a.due a.empty_at
@@ -165,7 +186,9 @@ book_rested w me a b is same = map_agree (entry_in (with_actor w me b)) (entry_i
     go p (inr other) = ap (λ x. entered p.actor p.op p.at (completed_reply p.reply p.at (due_of x))) (actor_other w me p.actor b (actor_stands w me a is).0 other)
 
 -- a world with another state of an actor whose operation nobody asks for
-pub simulation_with : (w : World) (me : ℕ) (a b : Actor) (queue : List ℕ) → actor_of w me ≡ Some a → bare_completion (with_actor w me b) ≡ bare_completion w → ((l : Line) (e : ℕ) → b.line ≡ Some l → b.entry ≡ Some e → ⊥) → SimulationRelation w queue → SimulationRelation (with_actor w me b) queue × ((k : ℕ) → WasEmpty w k → WasEmpty (with_actor w me b) k)
+pub simulation_with : (w : World) (me : ℕ) (a b : Actor) (queue : List ℕ) → actor_of w me ≡ Some a → bare_completion (with_actor w me b) ≡ bare_completion w
+    → ((l : Line) (e : ℕ) → b.line ≡ Some l → b.entry ≡ Some e → ⊥) → SimulationRelation w queue
+    → SimulationRelation (with_actor w me b) queue × ((k : ℕ) → WasEmpty w k → WasEmpty (with_actor w me b) k)
 simulation_with w me a b queue is same new ac = (
   record {
     replays = subst (λ t. IsSequentialRun empty (by_point t)) (sym same) ac.replays;
@@ -177,7 +200,8 @@ simulation_with w me a b queue is same new ac = (
   λ k z. (z.0, ap (λ t. queue_after empty (before k (by_point t))) same ∙ z.1),
 )
   where
-    pick : (you e : ℕ) (c : Actor) (l : Line) (s : Stamped) → c.line ≡ Some l → c.entry ≡ Some e → slice_get w.operations e ≡ Some s → ((you ≡ me) × (b ≡ c)) ⊎ ((you ≢ me) × (actor_of w you ≡ Some c)) → s.op ≡ c.op
+    pick : (you e : ℕ) (c : Actor) (l : Line) (s : Stamped) → c.line ≡ Some l → c.entry ≡ Some e → slice_get w.operations e ≡ Some s
+        → ((you ≡ me) × (b ≡ c)) ⊎ ((you ≢ me) × (actor_of w you ≡ Some c)) → s.op ≡ c.op
     pick you e c l s line entry got (inl q) = absurd (new l e (ap (λ (x : Actor). x.line) q.1 ∙ line) (ap (λ (x : Actor). x.entry) q.1 ∙ entry))
     pick you e c l s line entry got (inr q) = ac.calls you e c l s q.1 line entry got
 

@@ -115,7 +115,8 @@ leave_tail_to_its_mover w r e me you a b l is at other there here =
 pub front_is_taken : OfTwoLockWorlds TakesTheFrontAtB5
 front_is_taken w r e me a queue is at chain =
     let p : ReachedInvariant (λ w q. Unit {0}) (λ w k. Unit {0}) w = reached_invariant w r e in
-    let k : InvariantAt (λ k. Unit {0}) w.setup w.shared (last_node (p.front ∷ p.rest)) a (Some B5) = subst (InvariantAt (λ k. Unit {0}) w.setup w.shared (last_node (p.front ∷ p.rest)) a) at (p.sound.actors me a is).knows in
+    let k : InvariantAt (λ k. Unit {0}) w.setup w.shared (last_node (p.front ∷ p.rest)) a (Some B5) =
+    subst (InvariantAt (λ k. Unit {0}) w.setup w.shared (last_node (p.front ∷ p.rest)) a) at (p.sound.actors me a is).knows in
     let here : p.front ≡ a.head.node = sym p.sound.shape.queue_chain.0 ∙ ap (λ (x : Ref). x.node) k.0 in
     let second : (others : List ℕ) × (p.rest ≡ a.next.node ∷ others) =
     second_leads (IsEnd w.setup.bits) w.shared.nodes w.shared.head.node p.front a.next.node p.rest p.sound.shape.queue_chain

@@ -109,7 +109,9 @@ module _ (s : Setup) (m m' : Shared) (c : Actor) (g : Guarantee m m') (n : Nodes
   may_go_on : (to : ℕ) → 1 ≤ to → MayGoOn m c to → MayGoOn m' c to
   may_go_on to some h = (was_on m.tail m'.tail c.tail g.tail h.0, λ e. go (sym (tail_is h.0 e) ∙ e) g.tail_next)
     where
-      go : m.tail ≡ c.tail → (next_of m' m.tail.node ≡ next_of m m.tail.node) ⊎ (((next_of m m.tail.node).node ≡ 0) × ((next_of m m.tail.node).count < (next_of m' m.tail.node).count)) → (next_of m' c.tail.node).node ≡ to
+      go : m.tail ≡ c.tail
+          → (next_of m' m.tail.node ≡ next_of m m.tail.node) ⊎ (((next_of m m.tail.node).node ≡ 0) × ((next_of m m.tail.node).count < (next_of m' m.tail.node).count))
+          → (next_of m' c.tail.node).node ≡ to
       go was (inl same) =
           ap (λ (r : Ref). r.node) (subst (λ (r : Ref). next_of m' r.node ≡ next_of m r.node) was same) ∙ h.1 was
       go was (inr linked) =
@@ -134,16 +136,21 @@ module _ (s : Setup) (m m' : Shared) (c : Actor) (g : Guarantee m m') (n : Nodes
     λ e. let same : m'.head ≡ m.head = head_is h.0 e in let was : m.head ≡ c.head = sym same ∙ e in (next_stays c.next some was (h.1 was).0, off_stays same was (h.1 was).1),
   )
 
-  linked_next : (E9_next : Ref) → (a : (E9_next.count < (next_of m c.tail.node).count) ⊎ ((m.tail ≡ c.tail) × (next_of m c.tail.node ≡ E9_next))) → 1 ≤ c.tail.node → E9_next.node ≡ 0 → (E9_next.count < (next_of m' c.tail.node).count) ⊎ ((m'.tail ≡ c.tail) × (next_of m' c.tail.node ≡ E9_next))
+  linked_next : (E9_next : Ref) → (a : (E9_next.count < (next_of m c.tail.node).count) ⊎ ((m.tail ≡ c.tail) × (next_of m c.tail.node ≡ E9_next)))
+      → 1 ≤ c.tail.node → E9_next.node ≡ 0 → (E9_next.count < (next_of m' c.tail.node).count) ⊎ ((m'.tail ≡ c.tail) × (next_of m' c.tail.node ≡ E9_next))
   linked_next r (inl low) some none = inl (let more : (next_of m c.tail.node).count ≤ (next_of m' c.tail.node).count = g.counts c.tail.node some in omega arith)
   linked_next r (inr was) some none = go g.tail_next g.tail_on
     where
       null : (next_of m m.tail.node).node ≡ 0
       null = ap (λ (q : Ref). (next_of m q.node).node) was.0 ∙ ap (λ (q : Ref). q.node) was.1 ∙ none
 
-      go : (next_of m' m.tail.node ≡ next_of m m.tail.node) ⊎ (((next_of m m.tail.node).node ≡ 0) × ((next_of m m.tail.node).count < (next_of m' m.tail.node).count)) → (m'.tail ≡ m.tail) ⊎ (1 ≤ (next_of m m.tail.node).node) → (r.count < (next_of m' c.tail.node).count) ⊎ ((m'.tail ≡ c.tail) × (next_of m' c.tail.node ≡ r))
+      go : (next_of m' m.tail.node ≡ next_of m m.tail.node) ⊎ (((next_of m m.tail.node).node ≡ 0) × ((next_of m m.tail.node).count < (next_of m' m.tail.node).count))
+          → (m'.tail ≡ m.tail) ⊎ (1 ≤ (next_of m m.tail.node).node)
+          → (r.count < (next_of m' c.tail.node).count) ⊎ ((m'.tail ≡ c.tail) × (next_of m' c.tail.node ≡ r))
       go (inr more) t =
-          inl (let up : (next_of m c.tail.node).count < (next_of m' c.tail.node).count = subst (λ (q : Ref). (next_of m q.node).count < (next_of m' q.node).count) was.0 more.1 in let at : (next_of m c.tail.node).count ≡ r.count = ap (λ (q : Ref). q.count) was.1 in omega arith)
+          inl (let up : (next_of m c.tail.node).count < (next_of m' c.tail.node).count =
+          subst (λ (q : Ref). (next_of m q.node).count < (next_of m' q.node).count) was.0 more.1 in let at : (next_of m c.tail.node).count ≡
+          r.count = ap (λ (q : Ref). q.count) was.1 in omega arith)
       go (inl same) (inl t) = inr (t ∙ was.0, subst (λ (q : Ref). next_of m' q.node ≡ next_of m q.node) was.0 same ∙ was.1)
       go (inl same) (inr some_next) = absurd (omega (arith, null))
 
@@ -221,7 +228,8 @@ pub record LagsWithRoom (s : Setup) (m : Shared) (queue : List ℕ) : Type 0 whe
   pub last_room : is_shut_chain s.bits m queue ≡ false → (next_of m (last_node queue)).count ≢ s.limit
   pub shut_last : is_shut_chain s.bits m queue ≡ true → m.tail.node ≡ last_node queue
 
-pub own_kept : (Z : ℕ → Type 0) (s : Setup) (m m' : Shared) (last last' you : ℕ) (c : Actor) (l : Line) → Guarantee m m' → NodesRely m m' c → FixedAt s.limit you c (Some l) → NonNullAt s.bits l c → OwnsAt m you (Some l) → OwnAt Z s m last c (Some l) → OwnAt Z s m' last' c (Some l)
+pub own_kept : (Z : ℕ → Type 0) (s : Setup) (m m' : Shared) (last last' you : ℕ) (c : Actor) (l : Line) → Guarantee m m' → NodesRely m m' c
+    → FixedAt s.limit you c (Some l) → NonNullAt s.bits l c → OwnsAt m you (Some l) → OwnAt Z s m last c (Some l) → OwnAt Z s m' last' c (Some l)
 own_kept Z s m m' last last' you c l g n f p o h = still_knows s m m' c g n Z last last' you l f p h
 
 -- the locks stay

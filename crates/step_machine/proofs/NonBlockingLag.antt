@@ -8,7 +8,8 @@ use Rattle.step_machine.proofs.Chains.{next_in, one_if_same, ends_apart, chain_s
 use Rattle.step_machine.proofs.Assertions.{next_of}
 
 -- a chain goes on behind each of its nodes
-pub chain_behind : (bits : ℕ) (nodes : List Node) (before : List ℕ) (x : ℕ) (after : List ℕ) (n : ℕ) → IsQueueChain bits nodes n (before ++ x ∷ after) → (1 ≤ x) × (x ≤ length nodes) × IsQueueChain bits nodes (next_in nodes x) after
+pub chain_behind : (bits : ℕ) (nodes : List Node) (before : List ℕ) (x : ℕ) (after : List ℕ) (n : ℕ) → IsQueueChain bits nodes n (before ++ x ∷ after)
+    → (1 ≤ x) × (x ≤ length nodes) × IsQueueChain bits nodes (next_in nodes x) after
 chain_behind bits nodes [] x after n h = (h.1, h.2, h.3)
 chain_behind bits nodes (y ∷ ys) x after n h = chain_behind bits nodes ys x after (next_in nodes y) h.3
 
@@ -26,7 +27,8 @@ pub tail_times : (m : Shared) (queue : List ℕ) → TailLags m queue → 1 ≤ 
 tail_times m queue h = subst (λ ns. 1 ≤ times m.tail.node ns) (sym h.chain) (times_there h.before m.tail.node h.after)
 
 -- a chain goes on behind Tail's node
-pub behind_tail : (bits : ℕ) (m : Shared) (queue : List ℕ) (n : ℕ) → IsQueueChain bits m.nodes n queue → (h : TailLags m queue) → (1 ≤ m.tail.node) × (m.tail.node ≤ length m.nodes) × IsQueueChain bits m.nodes (next_in m.nodes m.tail.node) h.after
+pub behind_tail : (bits : ℕ) (m : Shared) (queue : List ℕ) (n : ℕ) → IsQueueChain bits m.nodes n queue → (h : TailLags m queue)
+    → (1 ≤ m.tail.node) × (m.tail.node ≤ length m.nodes) × IsQueueChain bits m.nodes (next_in m.nodes m.tail.node) h.after
 behind_tail bits m queue n c h = chain_behind bits m.nodes h.before m.tail.node h.after n (subst (λ ns. IsQueueChain bits m.nodes n ns) h.chain c)
 
 -- where null follows Tail's node, it is the last one
@@ -42,20 +44,24 @@ tail_is_last bits m queue n c h none =
     ap last_node (h.chain ∙ ap (λ ns. h.before ++ m.tail.node ∷ ns) (nothing_after bits m queue n c h none)) ∙ last_end h.before m.tail.node
 
 -- the same of any end, where no node is one
-pub ends_after : (bits : ℕ) (m : Shared) (queue : List ℕ) (n : ℕ) → length m.nodes < reserved_node bits → IsQueueChain bits m.nodes n queue → (h : TailLags m queue) → IsEnd bits (next_of m m.tail.node).node → h.after ≡ []
+pub ends_after : (bits : ℕ) (m : Shared) (queue : List ℕ) (n : ℕ) → length m.nodes < reserved_node bits → IsQueueChain bits m.nodes n queue
+    → (h : TailLags m queue) → IsEnd bits (next_of m m.tail.node).node → h.after ≡ []
 ends_after bits m queue n few c h end = chain_same (IsEnd bits) m.nodes h.after [] (next_in m.nodes m.tail.node) (ends_apart bits m.nodes few) (behind_tail bits m queue n c h).2 end
 
-pub tail_at_end : (bits : ℕ) (m : Shared) (queue : List ℕ) (n : ℕ) → length m.nodes < reserved_node bits → IsQueueChain bits m.nodes n queue → TailLags m queue → IsEnd bits (next_of m m.tail.node).node → last_node queue ≡ m.tail.node
+pub tail_at_end : (bits : ℕ) (m : Shared) (queue : List ℕ) (n : ℕ) → length m.nodes < reserved_node bits → IsQueueChain bits m.nodes n queue → TailLags m queue
+    → IsEnd bits (next_of m m.tail.node).node → last_node queue ≡ m.tail.node
 tail_at_end bits m queue n few c h end =
     ap last_node (h.chain ∙ ap (λ ns. h.before ++ m.tail.node ∷ ns) (ends_after bits m queue n few c h end)) ∙ last_end h.before m.tail.node
 
 -- where the closed end follows Tail's node, the queue is shut
-pub shut_behind : (bits : ℕ) (m : Shared) (queue : List ℕ) (n : ℕ) → length m.nodes < reserved_node bits → IsQueueChain bits m.nodes n queue → TailLags m queue → (next_of m m.tail.node).node ≡ reserved_node bits → is_shut_chain bits m queue ≡ true
+pub shut_behind : (bits : ℕ) (m : Shared) (queue : List ℕ) (n : ℕ) → length m.nodes < reserved_node bits → IsQueueChain bits m.nodes n queue → TailLags m queue
+    → (next_of m m.tail.node).node ≡ reserved_node bits → is_shut_chain bits m queue ≡ true
 shut_behind bits m queue n few c h closed =
     ap (λ j. nat_eq (next_of m j).node (reserved_node bits)) (tail_at_end bits m queue n few c h (inr closed)) ∙ ap (λ j. nat_eq j (reserved_node bits)) closed ∙ closed_shut bits
 
 -- where a node follows Tail's, and no end, it is the last one
-pub one_after : (bits : ℕ) (m : Shared) (queue : List ℕ) (n to : ℕ) → IsQueueChain bits m.nodes n queue → (h : TailLags m queue) → (next_of m m.tail.node).node ≡ to → (IsEnd bits to → ⊥) → h.after ≡ to ∷ []
+pub one_after : (bits : ℕ) (m : Shared) (queue : List ℕ) (n to : ℕ) → IsQueueChain bits m.nodes n queue → (h : TailLags m queue)
+    → (next_of m m.tail.node).node ≡ to → (IsEnd bits to → ⊥) → h.after ≡ to ∷ []
 one_after bits m queue n to c h leads some = go h.after (behind_tail bits m queue n c h).2 h.by_one
   where
     go : (after : List ℕ) → IsQueueChain bits m.nodes (next_in m.nodes m.tail.node) after → length after ≤ 1 → after ≡ to ∷ []
@@ -101,7 +107,8 @@ off_leads bits m front n rest c h = go h.before (subst (λ ns. IsQueueChain bits
     go (x ∷ xs) g = let e : (next_of m front).node ≡ x = g.0 in let some : 1 ≤ x = g.1 in omega arith
 
 -- which is no end
-pub off_open : (bits : ℕ) (m : Shared) (front n : ℕ) (rest : List ℕ) → length m.nodes < reserved_node bits → IsQueueChain bits m.nodes n (front ∷ rest) → IsOff m front rest → (next_of m front).node ≢ reserved_node bits
+pub off_open : (bits : ℕ) (m : Shared) (front n : ℕ) (rest : List ℕ) → length m.nodes < reserved_node bits → IsQueueChain bits m.nodes n (front ∷ rest)
+    → IsOff m front rest → (next_of m front).node ≢ reserved_node bits
 off_open bits m front n rest few c h closed = omega (arith, few, closed, go h.before (subst (λ ns. IsQueueChain bits m.nodes (next_in m.nodes front) ns) h.chain c.3))
   where
     go : (before : List ℕ) → IsQueueChain bits m.nodes (next_in m.nodes front) (before ++ m.tail.node ∷ h.after) → (next_of m front).node ≤ length m.nodes
@@ -109,7 +116,8 @@ off_open bits m front n rest few c h closed = omega (arith, few, closed, go h.be
     go (x ∷ xs) g = omega (arith, g.0, g.2)
 
 -- and it is the second one
-pub off_second : (bits : ℕ) (m : Shared) (front n x : ℕ) (rest : List ℕ) → IsQueueChain bits m.nodes n (front ∷ rest) → IsOff m front rest → (next_of m front).node ≡ x → (ns : List ℕ) × (rest ≡ x ∷ ns)
+pub off_second : (bits : ℕ) (m : Shared) (front n x : ℕ) (rest : List ℕ) → IsQueueChain bits m.nodes n (front ∷ rest) → IsOff m front rest
+    → (next_of m front).node ≡ x → (ns : List ℕ) × (rest ≡ x ∷ ns)
 off_second bits m front n x rest c h leads = go h.before h.chain (subst (λ ns. IsQueueChain bits m.nodes (next_in m.nodes front) ns) h.chain c.3)
   where
     go : (before : List ℕ) → rest ≡ before ++ m.tail.node ∷ h.after → IsQueueChain bits m.nodes (next_in m.nodes front) (before ++ m.tail.node ∷ h.after) → (ns : List ℕ) × (rest ≡ x ∷ ns)
@@ -184,5 +192,6 @@ after_not_first m front to rest once h e same = go h.before (h.chain ∙ ap (λ 
         let there : 1 ≤ times to rest = subst (λ ns. 1 ≤ times to ns) (sym (ap others f)) (times_there [] to []) in
         omega (arith, few, one)
     go (x ∷ xs) f =
-        let there : 1 ≤ times to rest = subst (λ ns. 1 ≤ times to ns) (sym (ap others f)) (subst (λ ns. 1 ≤ times to ns) (append_assoc xs (m.tail.node ∷ []) (to ∷ [])) (times_there (xs ++ m.tail.node ∷ []) to [])) in
+        let there : 1 ≤ times to rest = subst (λ ns. 1 ≤ times to ns) (sym (ap others f))
+        (subst (λ ns. 1 ≤ times to ns) (append_assoc xs (m.tail.node ∷ []) (to ∷ [])) (times_there (xs ++ m.tail.node ∷ []) to [])) in
         omega (arith, few, one)

@@ -1,7 +1,9 @@
 -- The laws of the non-blocking queue on Tail, counts, refusals and the front.
 use Rattle.std.proofs.Common.{◌≡◌, ◌≢◌, ℕ, ◌+◌, ◌≤◌, ◌<◌, Bool, true, false, nat_eq, if◌then◌else◌, List, [], ◌∷◌, ◌++◌, length, Option, Some, sym, ap, ◌∙◌, subst, arith, ◌⊎◌, inl, inr}
 use Rattle.std.proofs.lemmas.Bool.{eqb-true}
-use Rattle.step_machine.specs.Below.{reserved_node, Ref, is_null, is_shut, same_ref, NonBlocking, Line, E2, E3, E5, E6, E7, E9, E13, E17, D2, D3, D4, D5, D10, D12, D13, S1, S2, S3, S4, S5, section_of, WornWord, OfFree, OfNext, OfTail, OfHead, NoNode, WornOut, Closed, Reply, Done, Refused, Actor, found, Next, action, outcome, goes, empties_hand, ends, effect}
+use Rattle.step_machine.specs.Below.{reserved_node, Ref, is_null, is_shut, same_ref, NonBlocking, Line, E2, E3, E5, E6, E7, E9, E13, E17, D2, D3, D4}
+use Rattle.step_machine.specs.Below.{D5, D10, D12, D13, S1, S2, S3, S4, S5, section_of, WornWord, OfFree, OfNext, OfTail, OfHead, NoNode, WornOut}
+use Rattle.step_machine.specs.Below.{Closed, Reply, Done, Refused, Actor, found, Next, action, outcome, goes, empties_hand, ends, effect}
 use Rattle.counted_ref.proofs.Words.{same_ref-true, equal_refs}
 use Rattle.step_machine.specs.Machine.{World, actor_of, IsReached}
 use Rattle.step_machine.specs.Range.{RegistersInRange, ActorInRange, WorldInRange}
@@ -45,7 +47,8 @@ tail_is_not_behind w r e =
     first_of [] = 0
     first_of (x ∷ xs) = x
 
-    go : (front : ℕ) (rest before after : List ℕ) → (front ∷ rest) ≡ before ++ w.shared.tail.node ∷ after → w.shared.tail.count ≡ w.shared.head.count + length before → w.shared.head.node ≡ front → TailIsNotBehindHead w
+    go : (front : ℕ) (rest before after : List ℕ) → (front ∷ rest) ≡ before ++ w.shared.tail.node ∷ after
+        → w.shared.tail.count ≡ w.shared.head.count + length before → w.shared.head.node ≡ front → TailIsNotBehindHead w
     go front rest [] after chain count at =
         (omega arith, λ same. equal_refs w.shared.tail w.shared.head (sym (at ∙ ap first_of chain)) same)
     go front rest (b ∷ bs) after chain count at = (omega arith, λ same. absurd (omega arith))
@@ -80,7 +83,9 @@ at_line w r e me a l is at =
     }
 
 -- the null `next` that E9 and S4 compare with is not worn out
-next_below : (w : World) (me : ℕ) (a : Actor) (l : Line) → AtLine w me a l → a.next.node ≡ 0 → (a.next.count < (next_of w.shared a.tail.node).count) ⊎ ((w.shared.tail ≡ a.tail) × (next_of w.shared a.tail.node ≡ a.next)) → a.next.count < w.setup.limit
+next_below : (w : World) (me : ℕ) (a : Actor) (l : Line) → AtLine w me a l → a.next.node ≡ 0
+    → (a.next.count < (next_of w.shared a.tail.node).count) ⊎ ((w.shared.tail ≡ a.tail) × (next_of w.shared a.tail.node ≡ a.next))
+    → a.next.count < w.setup.limit
 next_below w me a l h none = go
   where
     p : Invariant w
@@ -95,7 +100,9 @@ next_below w me a l h none = go
         let at : w.shared.tail.node ≡ a.tail.node = ap (λ (x : Ref). x.node) was.0 in
         let null : (next_of w.shared w.shared.tail.node).node ≡ 0 = ap (λ j. (next_of w.shared j).node) at ∙ ap (λ (x : Ref). x.node) was.1 ∙ none in
         let last : last_node (p.front ∷ p.rest) ≡ w.shared.tail.node = tail_is_last w.setup.bits w.shared (p.front ∷ p.rest) w.shared.head.node p.sound.shape.queue_chain p.sound.words.lag null in
-        let room : a.next.count ≢ w.setup.limit = subst (λ (x : Ref). nat_eq x.node (reserved_node w.setup.bits) ≡ false → x.count ≢ w.setup.limit) (ap (next_of w.shared) (last ∙ at) ∙ was.1) p.sound.words.last_room (ap (λ n. nat_eq n (reserved_node w.setup.bits)) none ∙ null_open w.setup.bits (length w.shared.nodes) h.few_nodes) in
+        let room : a.next.count ≢ w.setup.limit = subst (λ (x : Ref). nat_eq x.node (reserved_node w.setup.bits) ≡ false → x.count ≢ w.setup.limit)
+        (ap (next_of w.shared) (last ∙ at) ∙ was.1) p.sound.words.last_room (ap (λ n. nat_eq n (reserved_node w.setup.bits)) none ∙ null_open
+        w.setup.bits (length w.shared.nodes) h.few_nodes) in
         let most : a.next.count ≤ w.setup.limit = h.registers.next.count in
         omega arith
 
@@ -147,7 +154,8 @@ shut_behind_tail w me a l h was read s =
           (ap (λ (x : Ref). (next_of w.shared x.node).node) was ∙ ap (λ (x : Ref). x.node) next ∙ end),
     )
 
-own_caused : (w : World) (now me : ℕ) (a : Actor) (l : Line) → AtLine w me a l → IsOwnOf (section_of l) NonBlocking → Caused (Own w a) w (outcome w.setup now me a l (found (action w.setup me a l) w.shared))
+own_caused : (w : World) (now me : ℕ) (a : Actor) (l : Line) → AtLine w me a l → IsOwnOf (section_of l) NonBlocking
+    → Caused (Own w a) w (outcome w.setup now me a l (found (action w.setup me a l) w.shared))
 own_caused w now me a E2 h i = record { cause = tt }
 own_caused w now me a E3 h i =
     either (Caused (Own w a) w) (nat_eq (next_of w.shared a.node).count w.setup.limit) (λ b. record { cause = eqb-true (next_of w.shared a.node).count w.setup.limit b }) (λ b. record { cause = tt })
@@ -156,12 +164,14 @@ own_caused w now me a E6 h i = record { cause = tt }
 own_caused w now me a E7 h i =
     either (Caused (Own w a) w) (same_ref w.shared.tail a.tail)
     (λ b. either (Caused (Own w a) w) (is_null a.next) (λ n. record { cause = tt })
-    (λ n. either (Caused (Own w a) w) (is_shut w.setup.bits a.next) (λ s. record { cause = shut_behind_tail w me a E7 h (same_ref-true w.shared.tail a.tail b) (h.knows.2 (same_ref-true w.shared.tail a.tail b)) s })
+    (λ n. either (Caused (Own w a) w) (is_shut w.setup.bits a.next) (λ s. record
+    { cause = shut_behind_tail w me a E7 h (same_ref-true w.shared.tail a.tail b) (h.knows.2 (same_ref-true w.shared.tail a.tail b)) s })
     (λ s. either (Caused (Own w a) w) (nat_eq a.tail.count w.setup.limit)
     (λ c. record { cause = ap (λ (x : Ref). x.count) (same_ref-true w.shared.tail a.tail b) ∙ eqb-true a.tail.count w.setup.limit c }) (λ c. record { cause = tt }))))
     (λ b. record { cause = tt })
 own_caused w now me a E9 h i =
-    either (Caused (Own w a) w) (same_ref (next_of w.shared a.tail.node) a.next) (λ b. ended_or w a now (nat_eq a.tail.count w.setup.limit) (empties_hand (record a { due = Some Done }))) (λ b. record { cause = tt })
+    either (Caused (Own w a) w) (same_ref (next_of w.shared a.tail.node) a.next)
+    (λ b. ended_or w a now (nat_eq a.tail.count w.setup.limit) (empties_hand (record a { due = Some Done }))) (λ b. record { cause = tt })
 own_caused w now me a E13 h i = record { cause = tt }
 own_caused w now me a E17 h i = record { cause = tt }
 own_caused w now me a D2 h i = record { cause = tt }
@@ -201,7 +211,8 @@ own_caused w now me a S2 h i = record { cause = tt }
 own_caused w now me a S3 h i =
     either (Caused (Own w a) w) (same_ref w.shared.tail a.tail)
     (λ b. either (Caused (Own w a) w) (is_null a.next) (λ n. record { cause = tt })
-    (λ n. either (Caused (Own w a) w) (is_shut w.setup.bits a.next) (λ s. record { cause = shut_behind_tail w me a S3 h (same_ref-true w.shared.tail a.tail b) (h.knows.1 (same_ref-true w.shared.tail a.tail b)) s })
+    (λ n. either (Caused (Own w a) w) (is_shut w.setup.bits a.next) (λ s. record
+    { cause = shut_behind_tail w me a S3 h (same_ref-true w.shared.tail a.tail b) (h.knows.1 (same_ref-true w.shared.tail a.tail b)) s })
     (λ s. either (Caused (Own w a) w) (nat_eq a.tail.count w.setup.limit)
     (λ c. record { cause = ap (λ (x : Ref). x.count) (same_ref-true w.shared.tail a.tail b) ∙ eqb-true a.tail.count w.setup.limit c }) (λ c. record { cause = tt }))))
     (λ b. record { cause = tt })
@@ -220,7 +231,8 @@ has_cause w a (Some (Refused Closed)) h = h
 has_cause w a (Some (Refused _)) h = absurd h
 has_cause w a _ h = tt
 
-why_of : (w : World) → IsReached w → w.setup.kind ≡ NonBlocking → (me : ℕ) (a : Actor) (l : Line) → actor_of w me ≡ Some a → a.line ≡ Some l → CauseOfReply (Own w a) w (outcome w.setup (w.steps + 1) me a l (found (action w.setup me a l) w.shared)).reply
+why_of : (w : World) → IsReached w → w.setup.kind ≡ NonBlocking → (me : ℕ) (a : Actor) (l : Line) → actor_of w me ≡ Some a → a.line ≡ Some l
+    → CauseOfReply (Own w a) w (outcome w.setup (w.steps + 1) me a l (found (action w.setup me a l) w.shared)).reply
 why_of w r e me a l is at =
     let h : AtLine w me a l = at_line w r e me a l is at in
     (caused (Own w a) w NonBlocking (w.steps + 1) me a l h.range h.registers h.runs h.fixes (own_caused w (w.steps + 1) me a l h)).cause

@@ -1,7 +1,10 @@
 -- The step of each line of its own in the non-blocking queue: which effect it has, and what its actor knows then.
 use Rattle.std.proofs.Common.{◌≡◌, ◌≢◌, ℕ, ◌+◌, ◌-◌, ◌≤◌, ◌<◌, Bool, true, false, nat_eq, if◌then◌else◌, List, [], ◌∷◌, ◌++◌, length, set, Some, None, refl, sym, ap, ◌∙◌, subst, arith, ◌⊎◌, inl, inr}
 use Rattle.std.proofs.lemmas.Bool.{eqb-true, eqb-false, ne_eqb, true≢false}
-use Rattle.step_machine.specs.Below.{Ref, reserved_node, is_null, same_ref, NonBlocking, Line, F1, E2, E3, E5, E6, E7, E9, E13, E17, D2, D3, D4, D5, D10, D12, D13, S1, S2, S3, S4, S5, is_shut, shut_ref, raised_end, section_of, OfNext, OfTail, OfHead, WornOut, Done, Value, Setup, Node, Actor, Outcome, Shared, node_at, put, performed, found, Head, Tail, Next, action, outcome, raised, goes, ends, effect, fills_hand, empties_hand}
+use Rattle.step_machine.specs.Below.{Ref, reserved_node, is_null, same_ref, NonBlocking, Line, F1, E2, E3, E5, E6, E7, E9, E13, E17, D2, D3, D4, D5}
+use Rattle.step_machine.specs.Below.{D10, D12, D13, S1, S2, S3, S4, S5, is_shut, shut_ref, raised_end, section_of, OfNext, OfTail, OfHead, WornOut}
+use Rattle.step_machine.specs.Below.{Done, Value, Setup, Node, Actor, Outcome, Shared, node_at, put, performed, found, Head, Tail, Next, action}
+use Rattle.step_machine.specs.Below.{outcome, raised, goes, ends, effect, fills_hand, empties_hand}
 use Rattle.counted_ref.proofs.Words.{same_ref-true}
 use Rattle.step_machine.specs.ProgramCounters.{IsRunBy}
 use Rattle.step_machine.specs.Completion.{decided_reply, completed_reply}
@@ -18,7 +21,8 @@ use Rattle.step_machine.proofs.Fixed.{push_is_no_pop, shut_is_no_pop}
 use Rattle.step_machine.proofs.Assertions.{next_of, blank_counts, Found, Marked, OwnsAt, Knows, Before, AtLine, IsOwnOf, Steps}
 use Rattle.step_machine.proofs.StepEffects.{Goes, Learns, still, on, refuses, finds_shut, writes, writes_aside, writes_word, links, shuts, pops, to_pocket_holds, to_pocket_marks, hand_flag}
 use Rattle.step_machine.proofs.NonBlockingAtLines.{WasNext, next_stays_there, MayGoOn, Guarantee, non_blocking}
-use Rattle.step_machine.proofs.NonBlockingLag.{IsOff, behind_tail, nothing_after, tail_is_last, shut_behind, one_after, tail_times, lag_swung, lag_popped, lag_linked, lag_same, after_not_first, off, off_leads, off_open, off_second}
+use Rattle.step_machine.proofs.NonBlockingLag.{IsOff, behind_tail, nothing_after, tail_is_last, shut_behind, one_after, tail_times, lag_swung}
+use Rattle.step_machine.proofs.NonBlockingLag.{lag_popped, lag_linked, lag_same, after_not_first, off, off_leads, off_open, off_second}
 
 -- the `next` of Tail's node, which was null, is written
 moves_link : (m : Shared) (k : ℕ) (r : Ref) → m.tail.node ≡ k → 1 ≤ k → k ≤ length m.nodes → (next_of m k).node ≡ 0 → (next_of m k).count < r.count → Guarantee m (put (Next k) r m)
@@ -55,7 +59,9 @@ module _ (b : Before non_blocking) where
   is_first was = sym shape.queue_chain.0 ∙ ap (λ (x : Ref). x.node) was
 
   -- Tail goes on to a node, where the register is in the word still
-  swings : (to : ℕ) (o : Outcome) → m.tail ≡ a.tail → 1 ≤ to → to ≢ reserved_node s.bits → a.tail.count ≢ s.limit → MayGoOn m a to → ((n : ℕ) → holds n o.actor ≡ holds n a) → o.aside ≡ None → Marked m o.actor → Learns non_blocking b (put Tail (raised s a.tail to) m) o → OwnsAt m me o.actor.line → o.at ≡ None → KeepsReply a o → Goes non_blocking b (put Tail (raised s a.tail to) m) o
+  swings : (to : ℕ) (o : Outcome) → m.tail ≡ a.tail → 1 ≤ to → to ≢ reserved_node s.bits → a.tail.count ≢ s.limit → MayGoOn m a to
+      → ((n : ℕ) → holds n o.actor ≡ holds n a) → o.aside ≡ None → Marked m o.actor → Learns non_blocking b (put Tail (raised s a.tail to) m) o
+      → OwnsAt m me o.actor.line → o.at ≡ None → KeepsReply a o → Goes non_blocking b (put Tail (raised s a.tail to) m) o
   swings to o was some other room may same none marks knows owns no_at keeps =
       writes_word non_blocking b (put Tail r m) o refl refl refl refl same none (λ you one other. moves)
       (record { lag = lag_swung m (front ∷ rest) r words.lag one up; last_room = words.last_room; shut_last = λ e. absurd (not_shut e) }) marks knows owns (stutters refl refl refl no_at keeps)
@@ -77,7 +83,8 @@ module _ (b : Before non_blocking) where
 
       not_shut : is_shut_chain s.bits m (front ∷ rest) ≡ true → ⊥
       not_shut e =
-          other (sym (raised_node s a.tail to other room) ∙ sym leads ∙ ap (λ j. (next_of m j).node) (words.shut_last e) ∙ eqb-true (next_of m (last_node (front ∷ rest))).node (reserved_node s.bits) e)
+          other (sym (raised_node s a.tail to other room) ∙ sym leads ∙ ap (λ j. (next_of m j).node) (words.shut_last e) ∙ eqb-true
+          (next_of m (last_node (front ∷ rest))).node (reserved_node s.bits) e)
 
       moves : Guarantee m (put Tail r m)
       moves =
@@ -127,7 +134,11 @@ module _ (b : Before non_blocking) where
       ((behind_tail s.bits m (front ∷ rest) m.head.node shape.queue_chain words.lag).0, (behind_tail s.bits m (front ∷ rest) m.head.node shape.queue_chain words.lag).1)
 
   -- the node in hand goes behind the last one of the queue
-  links_hand : (o : Outcome) → AtLine non_blocking b E9 → m.tail ≡ a.tail → next_of m a.tail.node ≡ a.next → o.actor.holds ≡ false → o.actor.pocket ≡ None → o.aside ≡ None → Knows non_blocking (Found s.bits m (front ∷ rest) now) s (put (Next a.tail.node) (raised s a.next a.node) m) (last_node (front ∷ rest ++ a.node ∷ [])) o.actor o.actor.line → OwnsAt m me o.actor.line → o.at ≡ Some now → completed_reply o.reply (Some now) o.actor.due ≡ Some Done → Goes non_blocking b (put (Next a.tail.node) (raised s a.next a.node) m) o
+  links_hand : (o : Outcome) → AtLine non_blocking b E9 → m.tail ≡ a.tail → next_of m a.tail.node ≡ a.next → o.actor.holds ≡ false → o.actor.pocket ≡ None
+      → o.aside ≡ None
+      → Knows non_blocking (Found s.bits m (front ∷ rest) now) s (put (Next a.tail.node) (raised s a.next a.node) m) (last_node (front ∷ rest ++ a.node ∷ [])) o.actor o.actor.line
+      → OwnsAt m me o.actor.line → o.at ≡ Some now → completed_reply o.reply (Some now) o.actor.due ≡ Some Done
+      → Goes non_blocking b (put (Next a.tail.node) (raised s a.next a.node) m) o
   links_hand o t was next g z none knows owns at earns =
       links non_blocking b a.tail.node r o
       (record {
@@ -144,9 +155,12 @@ module _ (b : Before non_blocking) where
         relies = λ you one other. moves_link m a.tail.node r (ap (λ (x : Ref). x.node) was) (tail_there was).0 (tail_there was).1 (ap (λ (x : Ref). x.node) next ∙ null) up;
         words_then =
             record {
-              lag = lag_linked m (put (Next a.tail.node) r m) (front ∷ rest) a.node refl refl words.lag (nothing_after s.bits m (front ∷ rest) m.head.node shape.queue_chain words.lag (ap (λ (x : Ref). (next_of m x.node).node) was ∙ ap (λ (x : Ref). x.node) next ∙ null));
+              lag = lag_linked m (put (Next a.tail.node) r m) (front ∷ rest) a.node refl refl words.lag
+                  (nothing_after s.bits m (front ∷ rest) m.head.node shape.queue_chain words.lag
+                  (ap (λ (x : Ref). (next_of m x.node).node) was ∙ ap (λ (x : Ref). x.node) next ∙ null));
               last_room = λ unshut. subst (λ (y : Ref). y.count ≢ s.limit) (sym last_next) (λ e. t.knows.0.2 (sym (marked.hand t.fixed.hand).1 ∙ e));
-              shut_last = λ e. absurd (true≢false (sym e ∙ ap (λ (y : Ref). nat_eq y.node (reserved_node s.bits)) last_next ∙ ap (λ n. nat_eq n (reserved_node s.bits)) t.knows.0.1 ∙ null_open s.bits (length m.nodes) few_nodes));
+              shut_last = λ e. absurd (true≢false (sym e ∙ ap (λ (y : Ref). nat_eq y.node (reserved_node s.bits)) last_next ∙ ap
+                  (λ n. nat_eq n (reserved_node s.bits)) t.knows.0.1 ∙ null_open s.bits (length m.nodes) few_nodes));
             };
         knows = knows;
         owns = owns;
@@ -181,15 +195,22 @@ module _ (b : Before non_blocking) where
           ∙ ap (λ (y : Node). y.next) (others_stay m.nodes a.tail.node a.node (record (node_at m a.tail.node) { next = r }) (tail_there was).0 t.nodes.0 other)
 
   -- the call ends then or goes on to swing Tail
-  linked : (worn : Bool) → AtLine non_blocking b E9 → m.tail ≡ a.tail → next_of m a.tail.node ≡ a.next → Goes non_blocking b (put (Next a.tail.node) (raised s a.next a.node) m) (effect now (if worn then ends now Done (empties_hand (record a { due = Some Done })) else goes E17 (empties_hand (record a { due = Some Done }))))
+  linked : (worn : Bool) → AtLine non_blocking b E9 → m.tail ≡ a.tail → next_of m a.tail.node ≡ a.next
+      → Goes non_blocking b (put (Next a.tail.node) (raised s a.next a.node) m)
+      (effect now (if worn then ends now Done (empties_hand (record a { due = Some Done })) else goes E17
+      (empties_hand (record a { due = Some Done }))))
   linked true t was same = links_hand _ t was same refl t.fixed.pocket refl tt t.owns refl refl
   linked false t was same =
-      links_hand _ t was same refl t.fixed.pocket refl
-      (inl was, λ e. ap (λ (x : Node). x.next.node) (written m.nodes a.tail.node (record (node_at m a.tail.node) { next = raised s a.next a.node }) (tail_there was).0 (tail_there was).1) ∙ raised_node s a.next a.node hand_no_end (next_room was same t.knows.1))
+      links_hand _ t was same refl t.fixed.pocket refl (
+        inl was,
+        λ e. ap (λ (x : Node). x.next.node) (written m.nodes a.tail.node (record (node_at m a.tail.node) { next = raised s a.next a.node })
+            (tail_there was).0 (tail_there was).1) ∙ raised_node s a.next a.node hand_no_end (next_room was same t.knows.1),
+      )
       t.owns refl refl
 
   -- the first node comes into the hand
-  takes_front : AtLine non_blocking b D13 → m.head ≡ a.head → Goes non_blocking b (put Head (raised s a.head a.next.node) m) (effect now (goes F1 (fills_hand a.head.node a.next.count (record a { due = Some (Value a.val) }))))
+  takes_front : AtLine non_blocking b D13 → m.head ≡ a.head
+      → Goes non_blocking b (put Head (raised s a.head a.next.node) m) (effect now (goes F1 (fills_hand a.head.node a.next.count (record a { due = Some (Value a.val) }))))
   takes_front t was =
       pops non_blocking b a.next.node second.0 r _
       (record {
@@ -204,7 +225,15 @@ module _ (b : Before non_blocking) where
         full = refl;
         empty = t.fixed.pocket;
         no_aside = refl;
-        relies = λ last you other. record { locks = (refl, refl); head = inr (omega (arith, up)); tail = inl refl; tail_on = inl refl; tail_next = inl refl; off = λ e d. d; counts = λ n one. omega arith };
+        relies = λ last you other. record {
+          locks = (refl, refl);
+          head = inr (omega (arith, up));
+          tail = inl refl;
+          tail_on = inl refl;
+          tail_next = inl refl;
+          off = λ e d. d;
+          counts = λ n one. omega arith;
+        };
         words_then =
             record {
               lag = lag_popped m front rest r away up;
@@ -289,7 +318,9 @@ module _ (b : Before non_blocking) where
       (ap (λ (x : Node). x.value) (written m.nodes a.node (record (node_at m a.node) { value = a.val }) t.nodes low)) t.owns refl (inl (ap decided_reply t.fixed.earned))
   does E3 r t =
       either (Goes non_blocking b (with_new m a.node x)) (nat_eq (next_of m a.node).count s.limit)
-      (λ i. writes_aside non_blocking b _ x t.fixed.hand t.fixed.pocket t.nodes refl refl t.fixed.pocket refl tt t.owns (refused (WornOut OfNext) refl refl (hand_flag non_blocking b x t.fixed.hand t.fixed.pocket t.nodes refl) refl refl refl (ap decided_reply t.fixed.earned)))
+      (λ i. writes_aside non_blocking b _ x t.fixed.hand t.fixed.pocket t.nodes refl refl t.fixed.pocket refl tt t.owns
+      (refused (WornOut OfNext) refl refl (hand_flag non_blocking b x t.fixed.hand t.fixed.pocket t.nodes refl) refl refl refl
+      (ap decided_reply t.fixed.earned)))
       (λ i. writes non_blocking b _ x t.fixed.hand t.fixed.pocket t.nodes refl t.fixed.hand t.fixed.pocket refl refl refl
       (ap (λ (y : Node). y.value) cleared ∙ t.knows, ap (λ (y : Node). y.next.node) cleared, eqb-false (next_of m a.node).count s.limit i) t.owns refl (inl (ap decided_reply t.fixed.earned)))
     where
@@ -303,12 +334,16 @@ module _ (b : Before non_blocking) where
   does E7 r t =
       either (Goes non_blocking b m) (same_ref m.tail a.tail)
       (λ i. let was : m.tail ≡ a.tail = same_ref-true m.tail a.tail i in
-      either (Goes non_blocking b m) (is_null a.next) (λ n. on non_blocking b _ (ap decided_reply t.fixed.earned) refl (λ n. refl) refl marked (t.knows.0, eqb-true a.next.node 0 n, null_next was (t.knows.2 was)) t.owns)
+      either (Goes non_blocking b m) (is_null a.next) (λ n. on non_blocking b _ (ap decided_reply t.fixed.earned) refl (λ n. refl) refl marked
+      (t.knows.0, eqb-true a.next.node 0 n, null_next was (t.knows.2 was)) t.owns)
       (λ n. let next : next_of m a.tail.node ≡ a.next = next_stays_there m a (eqb-false a.next.node 0 n) (t.knows.2 was) in
       either (Goes non_blocking b m) (is_shut s.bits a.next)
-      (λ e. finds_shut non_blocking b _ (ap decided_reply t.fixed.earned) refl refl (is_shut_behind was next (eqb-true a.next.node (reserved_node s.bits) e)) (λ o. absurd (push_is_no_pop me a.op a.val t.fixed.call o)) (to_pocket_holds non_blocking b t.fixed.hand t.fixed.pocket) refl (to_pocket_marks non_blocking b t.fixed.hand) refl t.owns)
+      (λ e. finds_shut non_blocking b _ (ap decided_reply t.fixed.earned) refl refl
+      (is_shut_behind was next (eqb-true a.next.node (reserved_node s.bits) e)) (λ o. absurd (push_is_no_pop me a.op a.val t.fixed.call o))
+      (to_pocket_holds non_blocking b t.fixed.hand t.fixed.pocket) refl (to_pocket_marks non_blocking b t.fixed.hand) refl t.owns)
       (λ e. either (Goes non_blocking b m) (nat_eq a.tail.count s.limit)
-      (λ c. refuses non_blocking b _ (WornOut OfTail) (ap decided_reply t.fixed.earned) refl refl refl (to_pocket_holds non_blocking b t.fixed.hand t.fixed.pocket) refl (to_pocket_marks non_blocking b t.fixed.hand) refl t.owns)
+      (λ c. refuses non_blocking b _ (WornOut OfTail) (ap decided_reply t.fixed.earned) refl refl refl
+      (to_pocket_holds non_blocking b t.fixed.hand t.fixed.pocket) refl (to_pocket_marks non_blocking b t.fixed.hand) refl t.owns)
       (λ c. on non_blocking b _ (ap decided_reply t.fixed.earned) refl (λ n. refl) refl marked (t.knows.0, (t.knows.1, λ q. ap (λ (x : Ref). x.node) next)) t.owns))))
       (λ i. on non_blocking b _ (ap decided_reply t.fixed.earned) refl (λ n. refl) refl marked t.knows.0 t.owns)
   does E9 r t =
@@ -327,8 +362,12 @@ module _ (b : Before non_blocking) where
   does D2 r t = on non_blocking b _ (ap decided_reply t.fixed.earned) refl (λ n. refl) refl marked (inl refl) t.owns
   does D3 r t = on non_blocking b _ (ap decided_reply t.fixed.earned) refl (λ n. refl) refl marked (t.knows, inl refl, λ q d. d) t.owns
   does D4 r t =
-      on non_blocking b _ (ap decided_reply t.fixed.earned) refl (λ n. refl) refl marked
-      (t.knows.0, t.knows.1, λ q. (λ some. refl, λ d. (t.knows.2 q d, leads q (t.knows.2 q d), goes_on q (t.knows.2 q d))), λ q none. (empty_behind s.bits m front rest few_nodes shape.queue_chain (ap (λ j. (next_of m j).node) (is_first q) ∙ none), refl)) t.owns
+      on non_blocking b _ (ap decided_reply t.fixed.earned) refl (λ n. refl) refl marked (
+        t.knows.0,
+        t.knows.1,
+        λ q. (λ some. refl, λ d. (t.knows.2 q d, leads q (t.knows.2 q d), goes_on q (t.knows.2 q d))),
+        λ q none. (empty_behind s.bits m front rest few_nodes shape.queue_chain (ap (λ j. (next_of m j).node) (is_first q) ∙ none), refl),
+      ) t.owns
     where
       leads : m.head ≡ a.head → m.tail.node ≢ a.head.node → 1 ≤ (next_of m a.head.node).node
       leads was away =
@@ -336,19 +375,23 @@ module _ (b : Before non_blocking) where
 
       goes_on : m.head ≡ a.head → m.tail.node ≢ a.head.node → (next_of m a.head.node).node ≢ reserved_node s.bits
       goes_on was away =
-          subst (λ j. (next_of m j).node ≢ reserved_node s.bits) (is_first was) (off_open s.bits m front m.head.node rest few_nodes shape.queue_chain (off m front rest words.lag (λ q. away (q ∙ is_first was))))
+          subst (λ j. (next_of m j).node ≢ reserved_node s.bits) (is_first was) (off_open s.bits m front m.head.node rest few_nodes shape.queue_chain
+          (off m front rest words.lag (λ q. away (q ∙ is_first was))))
   does D5 r t =
       either (Goes non_blocking b m) (same_ref m.head a.head)
       (λ i. let was : m.head ≡ a.head = same_ref-true m.head a.head i in
       either (Goes non_blocking b m) (nat_eq a.head.node a.tail.node)
-      (λ c. either (Goes non_blocking b m) (is_null a.next) (λ n. still non_blocking b _ (λ n. refl) refl marked tt t.owns (found_empty refl refl refl refl refl t.fixed.call (ap decided_reply t.fixed.earned) (t.knows.3 was (eqb-true a.next.node 0 n))))
+      (λ c. either (Goes non_blocking b m) (is_null a.next) (λ n. still non_blocking b _ (λ n. refl) refl marked tt t.owns
+      (found_empty refl refl refl refl refl t.fixed.call (ap decided_reply t.fixed.earned) (t.knows.3 was (eqb-true a.next.node 0 n))))
       (λ n. let next : next_of m a.head.node ≡ a.next = (t.knows.2 was).0 (let some : a.next.node ≢ 0 = eqb-false a.next.node 0 n in omega arith) in
       either (Goes non_blocking b m) (is_shut s.bits a.next)
       (λ e. let ends : (next_of m front).node ≡ reserved_node s.bits = first_leads was next (eqb-true a.next.node (reserved_node s.bits) e) in
       finds_shut non_blocking b _ (ap decided_reply t.fixed.earned) refl refl (shut_alone s.bits m m.head.node front rest few_nodes shape.queue_chain ends)
       (λ o. ap (λ ys. queue_values m (front ∷ ys)) (alone_at_end s.bits m.nodes m.head.node front rest few_nodes shape.queue_chain ends)) (λ n. refl) refl marked refl t.owns)
-      (λ e. either (Goes non_blocking b m) (nat_eq a.tail.count s.limit) (λ d. refuses non_blocking b _ (WornOut OfTail) (ap decided_reply t.fixed.earned) refl refl refl (λ n. refl) refl marked refl t.owns)
-      (λ d. on non_blocking b _ (ap decided_reply t.fixed.earned) refl (λ n. refl) refl marked (t.knows.1, λ q. ap (λ j. (next_of m j).node) (sym (eqb-true a.head.node a.tail.node c)) ∙ ap (λ (x : Ref). x.node) next) t.owns))))
+      (λ e. either (Goes non_blocking b m) (nat_eq a.tail.count s.limit) (λ d. refuses non_blocking b _ (WornOut OfTail)
+      (ap decided_reply t.fixed.earned) refl refl refl (λ n. refl) refl marked refl t.owns)
+      (λ d. on non_blocking b _ (ap decided_reply t.fixed.earned) refl (λ n. refl) refl marked
+      (t.knows.1, λ q. ap (λ j. (next_of m j).node) (sym (eqb-true a.head.node a.tail.node c)) ∙ ap (λ (x : Ref). x.node) next) t.owns))))
       (λ c. let other : a.tail.node ≢ a.head.node = λ q. eqb-false a.head.node a.tail.node c (sym q) in
       on non_blocking b _ (ap decided_reply t.fixed.earned) refl (λ n. refl) refl marked (inl was, λ q. ((t.knows.2 was).0 ((t.knows.2 was).1 other).1, ((t.knows.2 was).1 other).0)) t.owns))
       (λ i. on non_blocking b _ (ap decided_reply t.fixed.earned) refl (λ n. refl) refl marked tt t.owns)
@@ -367,11 +410,15 @@ module _ (b : Before non_blocking) where
   does S3 r t =
       either (Goes non_blocking b m) (same_ref m.tail a.tail)
       (λ i. let was : m.tail ≡ a.tail = same_ref-true m.tail a.tail i in
-      either (Goes non_blocking b m) (is_null a.next) (λ n. on non_blocking b _ (ap decided_reply t.fixed.earned) refl (λ n. refl) refl marked (eqb-true a.next.node 0 n, null_next was (t.knows.1 was)) t.owns)
+      either (Goes non_blocking b m) (is_null a.next) (λ n. on non_blocking b _ (ap decided_reply t.fixed.earned) refl (λ n. refl) refl marked
+      (eqb-true a.next.node 0 n, null_next was (t.knows.1 was)) t.owns)
       (λ n. let next : next_of m a.tail.node ≡ a.next = next_stays_there m a (eqb-false a.next.node 0 n) (t.knows.1 was) in
       either (Goes non_blocking b m) (is_shut s.bits a.next)
-      (λ e. finds_shut non_blocking b _ (ap decided_reply t.fixed.earned) refl refl (is_shut_behind was next (eqb-true a.next.node (reserved_node s.bits) e)) (λ o. absurd (shut_is_no_pop a.op t.fixed.call o)) (λ n. refl) refl marked refl t.owns)
-      (λ e. either (Goes non_blocking b m) (nat_eq a.tail.count s.limit) (λ c. refuses non_blocking b _ (WornOut OfTail) (ap decided_reply t.fixed.earned) refl refl refl (λ n. refl) refl marked refl t.owns)
+      (λ e. finds_shut non_blocking b _ (ap decided_reply t.fixed.earned) refl refl
+      (is_shut_behind was next (eqb-true a.next.node (reserved_node s.bits) e)) (λ o. absurd (shut_is_no_pop a.op t.fixed.call o))
+      (λ n. refl) refl marked refl t.owns)
+      (λ e. either (Goes non_blocking b m) (nat_eq a.tail.count s.limit) (λ c. refuses non_blocking b _ (WornOut OfTail)
+      (ap decided_reply t.fixed.earned) refl refl refl (λ n. refl) refl marked refl t.owns)
       (λ c. on non_blocking b _ (ap decided_reply t.fixed.earned) refl (λ n. refl) refl marked (t.knows.0, λ q. ap (λ (x : Ref). x.node) next) t.owns))))
       (λ i. on non_blocking b _ (ap decided_reply t.fixed.earned) refl (λ n. refl) refl marked tt t.owns)
   does S4 r t =
@@ -385,8 +432,10 @@ module _ (b : Before non_blocking) where
   does l r t = absurd r
 
 -- a dequeue that goes on to take a value has found a node
-found_a_node : (Z : ℕ → Type 0) (s : Setup) (me : ℕ) (m : Shared) (last : ℕ) (a : Actor) (l : Line) → IsRunBy (section_of l) NonBlocking → Knows non_blocking Z s m last a (Some l) → FoundANode s me a l (found (action s me a l) m)
-found_a_node Z s me m last a D5 r k = λ i c. let found : (m.tail.node ≢ a.head.node) × (1 ≤ a.next.node) × (a.next.node ≢ reserved_node s.bits) = (k.2 (same_ref-true m.head a.head i)).1 (λ q. eqb-false a.head.node a.tail.node c (sym q)) in (found.1, found.2)
+found_a_node : (Z : ℕ → Type 0) (s : Setup) (me : ℕ) (m : Shared) (last : ℕ) (a : Actor) (l : Line) → IsRunBy (section_of l) NonBlocking
+    → Knows non_blocking Z s m last a (Some l) → FoundANode s me a l (found (action s me a l) m)
+found_a_node Z s me m last a D5 r k = λ i c. let found : (m.tail.node ≢ a.head.node) × (1 ≤ a.next.node) × (a.next.node ≢ reserved_node s.bits) =
+    (k.2 (same_ref-true m.head a.head i)).1 (λ q. eqb-false a.head.node a.tail.node c (sym q)) in (found.1, found.2)
 found_a_node Z s me m last a _ r k = tt
 
 -- what the steps of its own lines do

@@ -1,5 +1,6 @@
 -- Each number that an actor's move took lies in exactly one operation of that actor.
-use Rattle.std.proofs.Common.{◌≡◌, ◌≢◌, ℕ, zero, suc, ◌+◌, ◌-◌, ◌<◌, ◌≤◌, ◌⊎◌, inl, inr, List, [], ◌∷◌, ◌++◌, length, map, Option, Some, None, IfSome, refl, sym, subst, ap, ◌∙◌, append_assoc, append-nil, arith}
+use Rattle.std.proofs.Common.{◌≡◌, ◌≢◌, ℕ, zero, suc, ◌+◌, ◌-◌, ◌<◌, ◌≤◌, ◌⊎◌, inl, inr, List, [], ◌∷◌, ◌++◌, length, map, Option, Some, None, IfSome}
+use Rattle.std.proofs.Common.{refl, sym, subst, ap, ◌∙◌, append_assoc, append-nil, arith}
 use Rattle.std.specs.Prelude.{slice_get, IsSomeAnd}
 use Rattle.std.proofs.lemmas.Option.{none-some, same_Some}
 use Rattle.line_table.specs.declared.lines.Line.{Line}
@@ -73,73 +74,77 @@ not_after : (now k : ℕ) (reply : Option Reply) → k ≤ now → IfSome (last_
 not_after now k None low = tt
 not_after now k (Some reply) low = low
 
-module _ (s : Setup) (n : ℕ) (done : List AnyMove) (w : World) (m : AnyMove) (me : ℕ) (a : Actor) (l : Line) (o : Outcome) (m' : Shared) (takes : numbered_by m ≡ me ∷ []) (led : run done (opening s n) ≡ Some w) (is : actor_of w me ≡ Some a) (at_line : a.line ≡ Some l) (h : EachLies done w) where
-  kept : StampsInvariant (Unit {0}) (makers done) w
-  kept = kept_after s n done w led
+module _ (s : Setup) (n : ℕ) (done : List AnyMove) (w : World) (m : AnyMove) (me : ℕ) (a : Actor) (l : Line) (o : Outcome) (m' : Shared)
+    (takes : numbered_by m ≡ me ∷ []) (led : run done (opening s n) ≡ Some w) (is : actor_of w me ≡ Some a) (at_line : a.line ≡ Some l) (h : EachLies done w)
+  where
+    kept : StampsInvariant (Unit {0}) (makers done) w
+    kept = kept_after s n done w led
 
-  it : Telling (makers done) w me a l o (after_outcome w me a m' o).operations
-  it = telling (makers done) w me a l o kept is at_line
+    it : Telling (makers done) w me a l o (after_outcome w me a m' o).operations
+    it = telling (makers done) w me a l o kept is at_line
 
-  -- the number of this move
-  new_lies : Lies (after_outcome w me a m' o).operations me (w.steps + 1)
-  new_lies =
-      record {
-        place = it.place;
-        operation = with_outcome (w.steps + 1) o it.was;
-        there = it.put.here;
-        own = it.own;
-        lies = (it.low, not_after (w.steps + 1) (w.steps + 1) o.reply (omega arith));
-        next = λ j p lt got own. next j p lt own (put_cases it.put j p got);
-      }
-    where
-      next : (j : ℕ) (p : Stamped) → it.place < j → p.actor ≡ me → ((j ≡ it.place) × (with_outcome (w.steps + 1) o it.was ≡ p)) ⊎ ((j ≢ it.place) × (slice_get w.operations j ≡ Some p)) → w.steps + 1 < p.first
-      next j p lt own (inl q) = absurd (let e : j ≡ it.place = q.0 in omega arith)
-      next j p lt own (inr q) = absurd (it.latest j p lt q.1 own)
-
-  -- a number taken before
-  module _ (k you : ℕ) (low : k ≤ w.steps) (y : Lies w.operations you k) where
-    -- a later operation of the actor begins after the number
-    later : (j : ℕ) (p : Stamped) → y.place < j → p.actor ≡ you → ((j ≡ it.place) × (with_outcome (w.steps + 1) o it.was ≡ p)) ⊎ ((j ≢ it.place) × (slice_get w.operations j ≡ Some p)) → k < p.first
-    later j p lt own (inl q) = subst (λ (z : Stamped). z.actor ≡ you → k < z.first) q.1 (λ mine. first it.from mine) own
+    -- the number of this move
+    new_lies : Lies (after_outcome w me a m' o).operations me (w.steps + 1)
+    new_lies =
+        record {
+          place = it.place;
+          operation = with_outcome (w.steps + 1) o it.was;
+          there = it.put.here;
+          own = it.own;
+          lies = (it.low, not_after (w.steps + 1) (w.steps + 1) o.reply (omega arith));
+          next = λ j p lt got own. next j p lt own (put_cases it.put j p got);
+        }
       where
-        first : ((a.entry ≡ None) × (it.place ≡ length w.operations) × (it.was ≡ new_operation me a.op (w.steps + 1))) ⊎ ((a.entry ≡ Some it.place) × (slice_get w.operations it.place ≡ Some it.was)) → it.was.actor ≡ you → k < it.was.first
-        first (inl new) mine = omega (arith, ap (λ (z : Stamped). z.first) new.2)
-        first (inr old) mine = y.next it.place it.was (let e : j ≡ it.place = q.0 in omega arith) old.1 mine
-    later j p lt own (inr q) = y.next j p lt q.1 own
+        next : (j : ℕ) (p : Stamped) → it.place < j → p.actor ≡ me
+            → ((j ≡ it.place) × (with_outcome (w.steps + 1) o it.was ≡ p)) ⊎ ((j ≢ it.place) × (slice_get w.operations j ≡ Some p)) → w.steps + 1 < p.first
+        next j p lt own (inl q) = absurd (let e : j ≡ it.place = q.0 in omega arith)
+        next j p lt own (inr q) = absurd (it.latest j p lt q.1 own)
 
-    old_lies : Lies (after_outcome w me a m' o).operations you k
-    old_lies = go (same_or_not y.place it.place)
+    -- a number taken before
+    module _ (k you : ℕ) (low : k ≤ w.steps) (y : Lies w.operations you k) where
+      -- a later operation of the actor begins after the number
+      later : (j : ℕ) (p : Stamped) → y.place < j → p.actor ≡ you → ((j ≡ it.place) × (with_outcome (w.steps + 1) o it.was ≡ p)) ⊎ ((j ≢ it.place) × (slice_get w.operations j ≡ Some p)) → k < p.first
+      later j p lt own (inl q) = subst (λ (z : Stamped). z.actor ≡ you → k < z.first) q.1 (λ mine. first it.from mine) own
+        where
+          first : ((a.entry ≡ None) × (it.place ≡ length w.operations) × (it.was ≡ new_operation me a.op (w.steps + 1))) ⊎ ((a.entry ≡ Some it.place) × (slice_get w.operations it.place ≡ Some it.was))
+              → it.was.actor ≡ you → k < it.was.first
+          first (inl new) mine = omega (arith, ap (λ (z : Stamped). z.first) new.2)
+          first (inr old) mine = y.next it.place it.was (let e : j ≡ it.place = q.0 in omega arith) old.1 mine
+      later j p lt own (inr q) = y.next j p lt q.1 own
+
+      old_lies : Lies (after_outcome w me a m' o).operations you k
+      old_lies = go (same_or_not y.place it.place)
+        where
+          go : (y.place ≡ it.place) ⊎ (y.place ≢ it.place) → Lies (after_outcome w me a m' o).operations you k
+          go (inr other) =
+              record {
+                place = y.place;
+                operation = y.operation;
+                there = it.put.others y.place other ∙ y.there;
+                own = y.own;
+                lies = y.lies;
+                next = λ j p lt got own. later j p lt own (put_cases it.put j p got);
+              }
+          go (inl same) =
+              let was : it.was ≡ y.operation = stood it y.place y.operation y.there same in
+              record {
+                place = it.place;
+                operation = with_outcome (w.steps + 1) o it.was;
+                there = it.put.here;
+                own = ap (λ (z : Stamped). z.actor) was ∙ y.own;
+                lies = (subst (λ (z : Stamped). z.first ≤ k) (sym was) y.lies.0, not_after (w.steps + 1) k o.reply (omega arith));
+                next = λ j p lt got own. later j p (omega arith) own (put_cases it.put j p got);
+              }
+
+    -- a numbered move
+    settled_lies : EachLies (done ++ m ∷ []) (after_outcome w me a m' o)
+    settled_lies k you b = go (by_last (makers done) me k you (subst (λ K. IsBy K k you) (makers_last done m ∙ ap (λ ks. makers done ++ ks) takes) b))
       where
-        go : (y.place ≡ it.place) ⊎ (y.place ≢ it.place) → Lies (after_outcome w me a m' o).operations you k
-        go (inr other) =
-            record {
-              place = y.place;
-              operation = y.operation;
-              there = it.put.others y.place other ∙ y.there;
-              own = y.own;
-              lies = y.lies;
-              next = λ j p lt got own. later j p lt own (put_cases it.put j p got);
-            }
-        go (inl same) =
-            let was : it.was ≡ y.operation = stood it y.place y.operation y.there same in
-            record {
-              place = it.place;
-              operation = with_outcome (w.steps + 1) o it.was;
-              there = it.put.here;
-              own = ap (λ (z : Stamped). z.actor) was ∙ y.own;
-              lies = (subst (λ (z : Stamped). z.first ≤ k) (sym was) y.lies.0, not_after (w.steps + 1) k o.reply (omega arith));
-              next = λ j p lt got own. later j p (omega arith) own (put_cases it.put j p got);
-            }
-
-  -- a numbered move
-  settled_lies : EachLies (done ++ m ∷ []) (after_outcome w me a m' o)
-  settled_lies k you b = go (by_last (makers done) me k you (subst (λ K. IsBy K k you) (makers_last done m ∙ ap (λ ks. makers done ++ ks) takes) b))
-    where
-      go : IsBy (makers done) k you ⊎ ((k ≡ length (makers done) + 1) × (me ≡ you)) → Lies (after_outcome w me a m' o).operations you k
-      go (inl old) = old_lies k you (omega (arith, by_within (makers done) k you old, kept.counted)) (h k you old)
-      go (inr new) =
-          let e : k ≡ w.steps + 1 = omega (arith, new.0, kept.counted) in
-          subst (λ j. Lies (after_outcome w me a m' o).operations you j) (sym e) (subst (λ j. Lies (after_outcome w me a m' o).operations j (w.steps + 1)) new.1 new_lies)
+        go : IsBy (makers done) k you ⊎ ((k ≡ length (makers done) + 1) × (me ≡ you)) → Lies (after_outcome w me a m' o).operations you k
+        go (inl old) = old_lies k you (omega (arith, by_within (makers done) k you old, kept.counted)) (h k you old)
+        go (inr new) =
+            let e : k ≡ w.steps + 1 = omega (arith, new.0, kept.counted) in
+            subst (λ j. Lies (after_outcome w me a m' o).operations you j) (sym e) (subst (λ j. Lies (after_outcome w me a m' o).operations j (w.steps + 1)) new.1 new_lies)
 
 -- each move keeps it
 each : (s : Setup) (n : ℕ) (done : List AnyMove) (w : World) → run done (opening s n) ≡ Some w → EachLies done w → AfterEach w (λ m v. EachLies (done ++ m ∷ []) v)
@@ -227,5 +232,6 @@ numbers_lie_in_one s n moves = on (run (map made moves) (opening s n)) refl (eac
     on : (o : Option World) → run (map made moves) (opening s n) ≡ o → IfSome o (EachLies (map made moves)) → IfSome o (λ w. NumbersLieInOne s n (map made moves) w.operations)
     on None e h = tt
     on (Some w) e h =
-        let kept : StampsInvariant ⊥ (makers (map made moves)) w = some_of (StampsInvariant ⊥ (makers (map made moves))) (run (map made moves) (opening s n)) w e (moves_kept ⊥ s n (map made moves) (calls_rest_never moves)) in
+        let kept : StampsInvariant ⊥ (makers (map made moves)) w = some_of (StampsInvariant ⊥ (makers (map made moves)))
+        (run (map made moves) (opening s n)) w e (moves_kept ⊥ s n (map made moves) (calls_rest_never moves)) in
         λ k me b. only_one (makers (map made moves)) w.operations me k kept.operations (h k me b)

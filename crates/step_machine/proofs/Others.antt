@@ -1,6 +1,7 @@
 -- What a step costs each other actor of the non-blocking queue at most, by what it does with the words.
 use Rattle.std.proofs.Common.{◌≡◌, ℕ, ◌+◌, ◌≤◌, Bool, true, false, nat_eq, nat_lt, List, Option, Some, None, refl, ap, arith}
-use Rattle.step_machine.specs.Below.{Line, N2, N3, N4, N5, F1, F2, F3, E6, E7, E9, E13, E17, D3, D4, D5, D10, D12, D13, S2, S3, S4, S5, Ref, same_ref, Reply, Setup, Actor, Node, Shared, node_at, put, Fresh, Free, Head, Tail, Next}
+use Rattle.step_machine.specs.Below.{Line, N2, N3, N4, N5, F1, F2, F3, E6, E7, E9, E13, E17, D3, D4, D5, D10, D12, D13, S2, S3, S4, S5, Ref, same_ref}
+use Rattle.step_machine.specs.Below.{Reply, Setup, Actor, Node, Shared, node_at, put, Fresh, Free, Head, Tail, Next}
 use Rattle.step_machine.specs.Prices.{Prices, turn_of, unless, if_so, by_due}
 use Rattle.step_machine.specs.Amounts.{tail_lags, misled, raced, next_rose, lost_at_free, own}
 use Rattle.step_machine.specs.Pairs.{freeing, stage, dues, Node as OfNode, Link, Pop}
@@ -129,7 +130,8 @@ module _ (p : Prices) where
         go _ l = omega (arith, l (turn_of p 4), l (turn_of p 5))
 
     -- a node that is not Tail's is written, and no count of a `next` changes
-    pub written_cost : (ns : List Node) (c : Actor) (j : Line) → tail_lags s (record m { nodes = ns }) ≡ tail_lags s m → ((n : ℕ) → (node_at (record m { nodes = ns }) n).next.count ≡ (node_at m n).next.count) → own p s (record m { nodes = ns }) c j ≤ own p s m c j
+    pub written_cost : (ns : List Node) (c : Actor) (j : Line) → tail_lags s (record m { nodes = ns }) ≡ tail_lags s m
+        → ((n : ℕ) → (node_at (record m { nodes = ns }) n).next.count ≡ (node_at m n).next.count) → own p s (record m { nodes = ns }) c j ≤ own p s m c j
     written_cost ns c j u same = go j u (ap (λ n. nat_lt c.next.count n) (same c.tail.node))
       where
         go : (j : Line) → tail_lags s (record m { nodes = ns }) ≡ tail_lags s m → next_rose (record m { nodes = ns }) c ≡ next_rose m c → own p s (record m { nodes = ns }) c j ≤ own p s m c j

@@ -1,7 +1,10 @@
 -- What a step makes of its actor is in range.
 use Rattle.std.proofs.Common.{◌≡◌, ℕ, ◌+◌, ◌≤◌, Bool, true, false, nat_eq, nat_lt, if◌then◌else◌, Option, Some, None, IfSome, arith}
 use Rattle.std.proofs.lemmas.Bool.{ltb-true}
-use Rattle.step_machine.specs.Below.{Ref, is_null, same_ref, Kind, TwoLock, NonBlocking, Line, N1, N2, N3, N4, N5, F1, F3, E3, E5, E6, E7, E9, E17, D2, D3, D4, D5, D12, D13, A3, A4, B1, B2, B3, B4, B5, B6, A5, A7, S1, S2, S3, S4, S6, S7, S8, S9, is_shut, null, left, left_with_node, Taken, Reply, Done, Refused, Setup, Actor, Outcome, word, Found, action, outcome, freed, unlocked, sets_aside, goes, ends, effect, empties_hand, to_pocket, with_node, fills_hand, busy_or, gives_up}
+use Rattle.step_machine.specs.Below.{Ref, is_null, same_ref, Kind, TwoLock, NonBlocking, Line, N1, N2, N3, N4, N5, F1, F3, E3, E5, E6, E7, E9, E17}
+use Rattle.step_machine.specs.Below.{D2, D3, D4, D5, D12, D13, A3, A4, B1, B2, B3, B4, B5, B6, A5, A7, S1, S2, S3, S4, S6, S7, S8, S9, is_shut, null}
+use Rattle.step_machine.specs.Below.{left, left_with_node, Taken, Reply, Done, Refused, Setup, Actor, Outcome, word, Found, action, outcome, freed}
+use Rattle.step_machine.specs.Below.{unlocked, sets_aside, goes, ends, effect, empties_hand, to_pocket, with_node, fills_hand, busy_or, gives_up}
 use Rattle.step_machine.specs.Range.{RefInRange, NextInRange, ValueInRange, HeldInRange, RegistersInRange, LineInRange}
 use Rattle.step_machine.proofs.Choices.{either, both}
 use Rattle.step_machine.proofs.Range.{ContentInRange}
@@ -68,7 +71,8 @@ module _ (s : Setup) (n k : ℕ) where
   Wins me a N5 c = nat_eq c a.f ≡ true → a.f + 1 ≤ n
   Wins me a _ c = Unit {0}
 
-  pub outcome_in_range : (now me : ℕ) (a : Actor) (l : Line) (c : Found (action s me a l)) → RegistersInRange s n k a → IfSome a.pocket (HeldInRange s.limit n) → Wins me a l c → ContentInRange s n k (word (action s me a l)) c → OutcomeInRange s n k (outcome s now me a l c)
+  pub outcome_in_range : (now me : ℕ) (a : Actor) (l : Line) (c : Found (action s me a l)) → RegistersInRange s n k a → IfSome a.pocket (HeldInRange s.limit n)
+      → Wins me a l c → ContentInRange s n k (word (action s me a l)) c → OutcomeInRange s n k (outcome s now me a l c)
   outcome_in_range now me a N1 c h p w g = record { registers = with_f a c h g; pocket = p; line = tt }
   outcome_in_range now me a N2 c h p w g =
       let r : RegistersInRange s n k (record a { top = c }) = with_top a c h g in
@@ -98,7 +102,11 @@ module _ (s : Setup) (n k : ℕ) where
       both (OutcomeInRange s n k) (same_ref c a.tail)
       (both (OutcomeInRange s n k) (is_null a.next) (record { registers = h; pocket = p; line = tt })
       (both (OutcomeInRange s n k) (is_shut s.bits a.next) (record { registers = h; pocket = record { node = h.node; mark = h.mark }; line = tt })
-      (both (OutcomeInRange s n k) (nat_eq a.tail.count s.limit) (record { registers = h; pocket = record { node = h.node; mark = h.mark }; line = tt }) (record { registers = h; pocket = p; line = tt }))))
+      (both (OutcomeInRange s n k) (nat_eq a.tail.count s.limit) (record {
+        registers = h;
+        pocket = record { node = h.node; mark = h.mark };
+        line = tt;
+      }) (record { registers = h; pocket = p; line = tt }))))
       (record { registers = h; pocket = p; line = tt })
   outcome_in_range now me a E9 c h p w g =
       both (OutcomeInRange s n k) (same_ref c a.next) (ended_or (nat_eq a.tail.count s.limit) now (empties_hand (record a { due = Some Done })) h p) (record { registers = h; pocket = p; line = tt })
@@ -117,7 +125,11 @@ module _ (s : Setup) (n k : ℕ) where
       let r : RegistersInRange s n k (record a { val = c }) = with_val a c h g in
       both (OutcomeInRange s n k) (nat_eq a.head.count s.limit) (record { registers = r; pocket = p; line = tt }) (record { registers = r; pocket = p; line = tt })
   outcome_in_range now me a D13 c h p w g =
-      both (OutcomeInRange s n k) (same_ref c a.head) (record { registers = with_held a a.head.node a.next.count h h.head.node h.next.count; pocket = p; line = tt }) (record { registers = h; pocket = p; line = tt })
+      both (OutcomeInRange s n k) (same_ref c a.head) (record {
+        registers = with_held a a.head.node a.next.count h h.head.node h.next.count;
+        pocket = p;
+        line = tt;
+      }) (record { registers = h; pocket = p; line = tt })
   outcome_in_range now me a A3 c h p w g = both (OutcomeInRange s n k) (nat_eq c 0) (record { registers = h; pocket = p; line = tt }) (record { registers = h; pocket = p; line = tt })
   outcome_in_range now me a A4 c h p w g = record { registers = with_tail a c h g; pocket = p; line = tt }
   outcome_in_range now me a B1 c h p w g = both (OutcomeInRange s n k) (nat_eq c 0) (record { registers = h; pocket = p; line = tt }) (record { registers = h; pocket = p; line = tt })

@@ -2,14 +2,14 @@
 use Rattle.std.proofs.Common.{◌≡◌, ◌≢◌, ℕ, zero, suc, ◌+◌, ◌*◌, ◌-◌, ◌≤◌, ◌<◌, Bool, true, false, nat_eq, nat_le, if◌then◌else◌, List, [], ◌∷◌, length, refl, sym, ap, ◌∙◌, subst, arith, ◌⊎◌, inl, inr}
 use Rattle.std.specs.Prelude.{Contains}
 use Rattle.std.proofs.lemmas.Bool.{leb-true, leb-false}
-use Rattle.step_machine.specs.Below.{reserved_node, Node}
+use Rattle.step_machine.specs.Below.{IsSplit, reserved_node, Node}
 use Rattle.step_machine.specs.declared.places.Place.TheVariants.{Untouched, Queue, Free, Held, SetAside}
 use Rattle.step_machine.specs.declared.places.Place.{Place}
 use Rattle.step_machine.specs.Machine.{World, IsReached, IsMade}
 use Rattle.step_machine.specs.Places.{IsEnd, IsQueueChain, one_if, times, held, set_aside, IsQueued, IsFree, Places}
 use Rattle.step_machine.specs.NodePlaces.{IsAt, TellsWhetherThere, TellsOfChain}
 use Rattle.step_machine.specs.EachQueue.{HasItsPlaces}
-use Rattle.step_machine.proofs.Reached.{made_reached}
+use Rattle.step_machine.proofs.Reached.{made_reached, made_in_range, few_nodes}
 use Rattle.step_machine.proofs.Chains.{next_in, one_if_tells, one_if_same, one_if_other, ends_apart, chain_same, chain_some, null_times}
 use Rattle.step_machine.proofs.Counting.{used, used_within, used_above}
 use Rattle.step_machine.proofs.EitherQueue.{contained, same_queue, same_free, have_their_places}
@@ -60,7 +60,8 @@ at_most zero (n ∷ ns) within once =
     absurd (let a : 1 ≤ n = in_range.0 in let b : n ≤ 0 = in_range.1 in omega arith)
 at_most (suc most) (n ∷ ns) within once =
     let fewer : length (without (suc most) (n ∷ ns)) ≤ most =
-    at_most most (without (suc most) (n ∷ ns)) below (λ k. let a : times k (n ∷ ns) ≤ 1 = once k in let b : times k (without (suc most) (n ∷ ns)) ≤ times k (n ∷ ns) = times-without_other k (suc most) (n ∷ ns) in omega arith) in
+    at_most most (without (suc most) (n ∷ ns)) below (λ k. let a : times k (n ∷ ns) ≤ 1 =
+    once k in let b : times k (without (suc most) (n ∷ ns)) ≤ times k (n ∷ ns) = times-without_other k (suc most) (n ∷ ns) in omega arith) in
     let a : times (suc most) (n ∷ ns) ≤ 1 = once (suc most) in
     let b : length (n ∷ ns) ≡ times (suc most) (n ∷ ns) + length (without (suc most) (n ∷ ns)) = length-without (suc most) (n ∷ ns) in
     omega arith
@@ -96,18 +97,21 @@ Walked bits nodes from at node most walked =
     (rest : List ℕ) × IsQueueChain bits nodes at rest × (length rest + walked ≤ most) × (times node rest ≡ times node ns)
 
 -- what is told in a split is told in one of as many bits
-pub told_in : (bits other : ℕ) → other ≡ bits → (is_there : Bool) (nodes : List Node) (from node most : ℕ) → TellsOfChain bits is_there nodes from node most → TellsOfChain other is_there nodes from node most
+told_in : (bits other : ℕ) → other ≡ bits → (is_there : Bool) (nodes : List Node) (from node most : ℕ) → TellsOfChain bits is_there nodes from node most
+    → TellsOfChain other is_there nodes from node most
 told_in bits other e is_there nodes from node most = subst (λ b. TellsOfChain b is_there nodes from node most) (sym e)
 
 -- at an end the node wasn't there
-pub walked_to_end : (bits : ℕ) (nodes : List Node) (from at node most walked : ℕ) → length nodes < reserved_node bits → IsEnd bits at → Walked bits nodes from at node most walked → TellsOfChain bits false nodes from node most
+pub walked_to_end : (bits : ℕ) (nodes : List Node) (from at node most walked : ℕ) → length nodes < reserved_node bits → IsEnd bits at
+    → Walked bits nodes from at node most walked → TellsOfChain bits false nodes from node most
 walked_to_end bits nodes from at node most walked few end h ns chain low = go (h ns chain low)
   where
     go : (rest : List ℕ) × IsQueueChain bits nodes at rest × (length rest + walked ≤ most) × (times node rest ≡ times node ns) → TellsWhetherThere false (times node ns)
     go x = (λ e. absurd (let f : false ≡ true = e in cc), λ e. sym x.3 ∙ ap (times node) (chain_same (IsEnd bits) nodes x.0 [] at (ends_apart bits nodes few) x.1 end))
 
 -- at the node it was
-pub walked_to_node : (bits : ℕ) (nodes : List Node) (from at node most walked : ℕ) → (IsEnd bits at → ⊥) → at ≡ node → Walked bits nodes from at node most walked → TellsOfChain bits true nodes from node most
+pub walked_to_node : (bits : ℕ) (nodes : List Node) (from at node most walked : ℕ) → (IsEnd bits at → ⊥) → at ≡ node
+    → Walked bits nodes from at node most walked → TellsOfChain bits true nodes from node most
 walked_to_node bits nodes from at node most walked some here h ns chain low = go (h ns chain low)
   where
     go : (rest : List ℕ) × IsQueueChain bits nodes at rest × (length rest + walked ≤ most) × (times node rest ≡ times node ns) → TellsWhetherThere true (times node ns)
@@ -119,10 +123,12 @@ walked_to_node bits nodes from at node most walked some here h ns chain low = go
         (λ e. omega arith, λ e. absurd (let f : true ≡ false = e in cc))
 
 -- at another node the chain goes on
-pub walked_on : (bits : ℕ) (nodes : List Node) (from at to node most walked : ℕ) → (IsEnd bits at → ⊥) → at ≢ node → to ≡ next_in nodes at → Walked bits nodes from at node most walked → Walked bits nodes from to node most (walked + 1)
+pub walked_on : (bits : ℕ) (nodes : List Node) (from at to node most walked : ℕ) → (IsEnd bits at → ⊥) → at ≢ node → to ≡ next_in nodes at
+    → Walked bits nodes from at node most walked → Walked bits nodes from to node most (walked + 1)
 walked_on bits nodes from at to node most walked some other leads h ns chain low = go (h ns chain low)
   where
-    go : (rest : List ℕ) × IsQueueChain bits nodes at rest × (length rest + walked ≤ most) × (times node rest ≡ times node ns) → (rest : List ℕ) × IsQueueChain bits nodes to rest × (length rest + (walked + 1) ≤ most) × (times node rest ≡ times node ns)
+    go : (rest : List ℕ) × IsQueueChain bits nodes at rest × (length rest + walked ≤ most) × (times node rest ≡ times node ns)
+        → (rest : List ℕ) × IsQueueChain bits nodes to rest × (length rest + (walked + 1) ≤ most) × (times node rest ≡ times node ns)
     go x =
         let first : (more : List ℕ) × (x.0 ≡ at ∷ more) = chain_some (IsEnd bits) nodes at x.0 some x.1 in
         let tail : IsQueueChain bits nodes at (at ∷ first.0) = subst (IsQueueChain bits nodes at) first.1 x.1 in
@@ -233,20 +239,36 @@ only_place w m n some p here q there =
     let x : HasItsPlaces w = have_their_places w r in
     one_place w x.0 x.1 x.2 n some r p q here there
 
+-- a node that is at a place of a made world is at no other place of it
+pub nowhere_else : (w v : World) → w ≡ v → IsMade w → (n : ℕ) → 1 ≤ n → (p : Place) → IsAt w n p → (q : Place) → IsAt v n q → q ≡ p
+nowhere_else w v same m n some p here = subst (λ u. (q : Place) → IsAt u n q → q ≡ p) same (only_place w m n some p here)
+
+-- a made world's chains can be walked by as many bits
+pub walkable : (w : World) (bits : ℕ) → w.setup.bits ≡ bits → IsMade w → IsSplit bits × (length w.shared.nodes < reserved_node bits)
+walkable w bits same m =
+    subst (λ b. IsSplit b × (length w.shared.nodes < reserved_node b)) same ((made_in_range w m).sized.split, few_nodes w (made_reached w m))
+
 -- what is told of the chain from Head is told of the queue
-told_of : (w : World) (queue free : List ℕ) → IsReached w → Places w queue free → (n : ℕ) → 1 ≤ n → (is_there : Bool) (from most : ℕ) → from ≡ w.shared.head.node → most ≡ w.shared.fresh → TellsOfChain w.setup.bits is_there w.shared.nodes from n most → TellsWhetherThere is_there (times n queue)
+told_of : (w : World) (queue free : List ℕ) → IsReached w → Places w queue free → (n : ℕ) → 1 ≤ n → (is_there : Bool) (from most : ℕ)
+    → from ≡ w.shared.head.node → most ≡ w.shared.fresh → TellsOfChain w.setup.bits is_there w.shared.nodes from n most
+    → TellsWhetherThere is_there (times n queue)
 told_of w queue free r h n some is_there from most head fresh tells =
     tells queue (subst (λ k. IsQueueChain w.setup.bits w.shared.nodes k queue) (sym head) h.queue_chain)
     (subst (λ k. length queue ≤ k) (sym fresh) (few w queue free h n some))
 
 -- a node that was found there is in the queue
-pub queue_place : (w : World) → IsMade w → (n : ℕ) → 1 ≤ n → (is_there : Bool) (from most : ℕ) → from ≡ w.shared.head.node → most ≡ w.shared.fresh → TellsOfChain w.setup.bits is_there w.shared.nodes from n most → is_there ≡ true → IsAt w n Queue
-queue_place w m n some is_there from most head fresh tells found =
+pub queue_place : (bits : ℕ) (w : World) → w.setup.bits ≡ bits → IsMade w → (n : ℕ) → 1 ≤ n → (is_there : Bool) (from most : ℕ)
+    → from ≡ w.shared.head.node → most ≡ w.shared.fresh → TellsOfChain bits is_there w.shared.nodes from n most → is_there ≡ true → IsAt w n Queue
+queue_place bits w same m n some is_there from most head fresh tells found =
     let x : HasItsPlaces w = have_their_places w (made_reached w m) in
-    is_queued w x.0 x.1 x.2 n some ((told_of w x.0 x.1 (made_reached w m) x.2 n some is_there from most head fresh tells).0 found)
+    let told = told_in bits w.setup.bits same is_there w.shared.nodes from n most tells in
+    is_queued w x.0 x.1 x.2 n some ((told_of w x.0 x.1 (made_reached w m) x.2 n some is_there from most head fresh told).0 found)
 
 -- one that was used and found nowhere is free
-pub free_place : (w : World) → IsMade w → (n : ℕ) → 1 ≤ n → n ≤ w.shared.fresh → (is_there : Bool) (from most : ℕ) → from ≡ w.shared.head.node → most ≡ w.shared.fresh → TellsOfChain w.setup.bits is_there w.shared.nodes from n most → is_there ≡ false → held n w.actors ≡ 0 → set_aside n w.aside ≡ 0 → IsAt w n Free
-free_place w m n some low is_there from most head fresh tells missed =
+pub free_place : (bits : ℕ) (w : World) → w.setup.bits ≡ bits → IsMade w → (n : ℕ) → 1 ≤ n → n ≤ w.shared.fresh → (is_there : Bool) (from most : ℕ)
+    → from ≡ w.shared.head.node → most ≡ w.shared.fresh → TellsOfChain bits is_there w.shared.nodes from n most → is_there ≡ false
+    → held n w.actors ≡ 0 → set_aside n w.aside ≡ 0 → IsAt w n Free
+free_place bits w same m n some low is_there from most head fresh tells missed =
     let x : HasItsPlaces w = have_their_places w (made_reached w m) in
-    is_free w x.0 x.1 x.2 n some low ((told_of w x.0 x.1 (made_reached w m) x.2 n some is_there from most head fresh tells).1 missed)
+    let told = told_in bits w.setup.bits same is_there w.shared.nodes from n most tells in
+    is_free w x.0 x.1 x.2 n some low ((told_of w x.0 x.1 (made_reached w m) x.2 n some is_there from most head fresh told).1 missed)

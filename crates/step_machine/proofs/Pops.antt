@@ -34,7 +34,9 @@ values_rise : (os : List Stamped) → AllByRecursion ValueHasPlace os → count 
 values_rise [] h = refl
 values_rise (o ∷ os) h = go (is_some o.at) (is_value o.reply) h.0 (values_inserted o (by_point os)) (values_rise os h.1)
   where
-    go : (b v : Bool) → (v ≡ true → b ≡ true) → count has_value (inserted o (by_point os)) ≡ one_more v (count has_value (by_point os)) → count has_value (by_point os) ≡ count has_value os → count has_value (if b then inserted o (by_point os) else by_point os) ≡ one_more v (count has_value os)
+    go : (b v : Bool) → (v ≡ true → b ≡ true) → count has_value (inserted o (by_point os)) ≡ one_more v (count has_value (by_point os))
+        → count has_value (by_point os) ≡ count has_value os
+        → count has_value (if b then inserted o (by_point os) else by_point os) ≡ one_more v (count has_value os)
     go true v placed more ih = more ∙ ap (one_more v) ih
     go false true placed more ih = let e : false ≡ true = placed refl in cc
     go false false placed more ih = ih

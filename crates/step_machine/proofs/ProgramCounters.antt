@@ -1,7 +1,13 @@
 -- Each actor stands before a line of its queue, and where no null follows Head, before nodes and not null.
 use Rattle.std.proofs.Common.{◌≡◌, ◌≢◌, ℕ, ◌+◌, ◌≤◌, Bool, true, false, nat_eq, nat_lt, if◌then◌else◌, Option, Some, None, IfSome, arith}
 use Rattle.std.proofs.lemmas.Bool.{eqb-false}
-use Rattle.step_machine.specs.Below.{Ref, ref, reserved_node, left, left_with_node, is_null, same_ref, Kind, TwoLock, NonBlocking, Line, N1, N2, N3, N4, N5, F1, F2, F3, E2, E3, E5, E6, E7, E9, E13, E17, D2, D3, D4, D5, D10, D12, D13, A1, A2, A3, A4, A5, A6, A7, B1, B2, B3, B4, B5, B6, S1, S2, S3, S4, S5, S6, S7, S8, S9, is_shut, null, section_of, Op, Enq, Deq, Shut, Reply, Done, Value, Refused, Setup, Held, Actor, Outcome, Shared, Word, Content, content, Action, word, Found, performed, same, load, store, clear, exchange, Head, Tail, Next, put, action, raised, outcome, freed, unlocked, sets_aside, goes, ends, effect, empties_hand, to_pocket, with_node, fills_hand, busy_or, gives_up, from_pocket, begun}
+use Rattle.step_machine.specs.Below.{Ref, ref, reserved_node, left, left_with_node, is_null, same_ref, Kind, TwoLock, NonBlocking, Line, N1, N2, N3}
+use Rattle.step_machine.specs.Below.{N4, N5, F1, F2, F3, E2, E3, E5, E6, E7, E9, E13, E17, D2, D3, D4, D5, D10, D12, D13, A1, A2, A3, A4, A5, A6, A7}
+use Rattle.step_machine.specs.Below.{B1, B2, B3, B4, B5, B6, S1, S2, S3, S4, S5, S6, S7, S8, S9, is_shut, null, section_of, Op, Enq, Deq, Shut, Reply}
+use Rattle.step_machine.specs.Below.{Done, Value, Refused, Setup, Held, Actor, Outcome, Shared, Word, Content, content, Action, word, Found}
+use Rattle.step_machine.specs.Below.{performed, same, load, store, clear, exchange, Head, Tail, Next, put, action, raised, outcome, freed, unlocked}
+use Rattle.step_machine.specs.Below.{sets_aside, goes, ends, effect, empties_hand, to_pocket, with_node, fills_hand, busy_or, gives_up, from_pocket}
+use Rattle.step_machine.specs.Below.{begun}
 use Rattle.step_machine.specs.Machine.{rested, may_rest}
 use Rattle.step_machine.specs.ProgramCounters.{IsRunBy, HasNodeToFree, HasNodeAfter, NonNullAt, IsAtLine, PcIsValid}
 use Rattle.step_machine.proofs.Choices.{either, both}
@@ -106,7 +112,8 @@ module _ (s : Setup) where
   with_node_placed TwoLock a p h = record { pocket = p; line = (tt, h) }
   with_node_placed NonBlocking a p h = record { pocket = p; line = (tt, h) }
 
-  ended_or : (b : Bool) (now : ℕ) (a : Actor) → IfSome a.pocket (λ held. 1 ≤ held.node) → IsAtLine s.bits s.kind a (Some E17) → Placed s.bits s.kind (effect now (if b then ends now Done a else goes E17 a))
+  ended_or : (b : Bool) (now : ℕ) (a : Actor) → IfSome a.pocket (λ held. 1 ≤ held.node) → IsAtLine s.bits s.kind a (Some E17)
+      → Placed s.bits s.kind (effect now (if b then ends now Done a else goes E17 a))
   ended_or true now a p h = record { pocket = p; line = tt }
   ended_or false now a p h = record { pocket = p; line = h }
 
@@ -118,7 +125,8 @@ module _ (s : Setup) where
   FoundANode me a D5 c = same_ref c a.head ≡ true → nat_eq a.head.node a.tail.node ≡ false → (1 ≤ a.next.node) × (a.next.node ≢ reserved_node s.bits)
   FoundANode me a _ c = Unit {0}
 
-  pub placed : (now me : ℕ) (a : Actor) (l : Line) (c : Found (action s me a l)) → IfSome a.pocket (λ held. 1 ≤ held.node) → IsRunBy (section_of l) s.kind → NonNullAt s.bits l a → ContentHolds (word (action s me a l)) c → FoundANode me a l c → Placed s.bits s.kind (outcome s now me a l c)
+  pub placed : (now me : ℕ) (a : Actor) (l : Line) (c : Found (action s me a l)) → IfSome a.pocket (λ held. 1 ≤ held.node) → IsRunBy (section_of l) s.kind
+      → NonNullAt s.bits l a → ContentHolds (word (action s me a l)) c → FoundANode me a l c → Placed s.bits s.kind (outcome s now me a l c)
   placed now me a N1 c p r h g f = record { pocket = p; line = (tt, tt) }
   placed now me a N2 c p r h g f =
       either (Placed s.bits s.kind) (is_null c)
@@ -141,7 +149,8 @@ module _ (s : Setup) where
       both (Placed s.bits s.kind) (same_ref c a.tail)
       (either (Placed s.bits s.kind) (is_null a.next) (λ e. record { pocket = p; line = (r, h) })
       (λ e. either (Placed s.bits s.kind) (is_shut s.bits a.next) (λ d. record { pocket = h.0; line = tt })
-      (λ d. both (Placed s.bits s.kind) (nat_eq a.tail.count s.limit) (record { pocket = h.0; line = tt }) (record { pocket = p; line = (r, (h.0, h.1, not_null a.next e, not_shut s.bits a.next d)) }))))
+      (λ d. both (Placed s.bits s.kind) (nat_eq a.tail.count s.limit) (record { pocket = h.0; line = tt })
+      (record { pocket = p; line = (r, (h.0, h.1, not_null a.next e, not_shut s.bits a.next d)) }))))
       (record { pocket = p; line = (r, h.0) })
   placed now me a E9 c p r h g f =
       both (Placed s.bits s.kind) (same_ref c a.next) (ended_or (nat_eq a.tail.count s.limit) now (empties_hand (record a { due = Some Done })) p (r, h)) (record { pocket = p; line = (r, h.0) })
@@ -211,7 +220,8 @@ module _ (s : Setup) where
   rested_stands a A1 e h = record { pocket = h; line = tt }
   rested_stands a _ e h = cc
 
-from_pocket_stands : (bits : ℕ) (kind : Kind) (l : Line) (p : Option Held) (a : Actor) → IfSome p (λ held. 1 ≤ held.node) → ((b : Actor) → 1 ≤ b.node → IsAtLine bits kind b (Some l)) → PcIsValid bits kind a → PcIsValid bits kind (from_pocket l p a)
+from_pocket_stands : (bits : ℕ) (kind : Kind) (l : Line) (p : Option Held) (a : Actor) → IfSome p (λ held. 1 ≤ held.node)
+    → ((b : Actor) → 1 ≤ b.node → IsAtLine bits kind b (Some l)) → PcIsValid bits kind a → PcIsValid bits kind (from_pocket l p a)
 from_pocket_stands bits kind l None a p each g = g
 from_pocket_stands bits kind l (Some held) a p each g = record { pocket = tt; line = each (record (fills_hand held.node held.mark a) { line = Some l; pocket = None }) p }
 

@@ -4,7 +4,10 @@ use Rattle.std.proofs.Math.ListN.{length-set}
 use Rattle.std.proofs.lemmas.Bool.{eqb-false, eqb-true}
 use Rattle.std.proofs.lemmas.List.Elements.{All-set}
 use Rattle.std.specs.List.{All}
-use Rattle.step_machine.specs.Below.{reserved_node, Ref, ref, shut_ref, Line, N4, N5, F2, F3, E2, E9, E13, E17, D10, D13, A1, A3, A5, A6, A7, B1, B5, B6, S4, S5, S6, S8, S9, Setup, Node, Held, Actor, blank, Shared, Word, Content, Action, performed, content, same, load, store, clear, exchange, Fresh, Free, Head, Tail, Tail_lock, Head_lock, Next, Value_of, put, raised, raised_end, action}
+use Rattle.step_machine.specs.Below.{reserved_node, Ref, ref, shut_ref, Line, N4, N5, F2, F3, E2, E9, E13, E17, D10, D13, A1, A3, A5, A6, A7, B1, B5}
+use Rattle.step_machine.specs.Below.{B6, S4, S5, S6, S8, S9, Setup, Node, Held, Actor, blank, Shared, Word, Content, Action, performed, content, same}
+use Rattle.step_machine.specs.Below.{load, store, clear, exchange, Fresh, Free, Head, Tail, Tail_lock, Head_lock, Next, Value_of, put, raised}
+use Rattle.step_machine.specs.Below.{raised_end, action}
 use Rattle.step_machine.specs.Range.{RefInRange, NextInRange, ValueInRange, NodeInRange, SharedInRange, HeldInRange, RegistersInRange, LineInRange, ActorInRange}
 use Rattle.step_machine.proofs.Choices.{either}
 
@@ -98,7 +101,8 @@ raised_in_range s n r to h t = closed (nat_eq to (reserved_node s.bits)) refl t
         let le : r.count ≤ s.limit = h.count in
         record { node = low; count = omega arith }
 
-    closed : (b : Bool) → nat_eq to (reserved_node s.bits) ≡ b → (to ≤ n) ⊎ (to ≡ reserved_node s.bits) → RefInRange s.limit n (if b then r else if nat_eq r.count s.limit then r else ref to (r.count + 1))
+    closed : (b : Bool) → nat_eq to (reserved_node s.bits) ≡ b → (to ≤ n) ⊎ (to ≡ reserved_node s.bits)
+        → RefInRange s.limit n (if b then r else if nat_eq r.count s.limit then r else ref to (r.count + 1))
     closed true e t = h
     closed false e (inl low) = go (nat_eq r.count s.limit) refl low
     closed false e (inr is) = absurd (eqb-false to (reserved_node s.bits) e is)
@@ -178,7 +182,9 @@ found_in_range s k m (Next i) h = (node_in_range s.bits s.limit m.fresh k m.node
 found_in_range s k m (Value_of i) h = (node_in_range s.bits s.limit m.fresh k m.nodes (i - 1) h.nodes).value
 
 -- the shared words with other words before the nodes
-shared_with : (s : Setup) (k : ℕ) (m : Shared) (free head tail : Ref) (t h : ℕ) → SharedInRange s k m → RefInRange s.limit m.fresh free → RefInRange s.limit m.fresh head → RefInRange s.limit m.fresh tail → t ≤ k → h ≤ k → SharedInRange s k (record m { free = free; head = head; tail = tail; tail_lock = t; head_lock = h })
+shared_with : (s : Setup) (k : ℕ) (m : Shared) (free head tail : Ref) (t h : ℕ) → SharedInRange s k m → RefInRange s.limit m.fresh free
+    → RefInRange s.limit m.fresh head → RefInRange s.limit m.fresh tail → t ≤ k → h ≤ k
+    → SharedInRange s k (record m { free = free; head = head; tail = tail; tail_lock = t; head_lock = h })
 shared_with s k m free head tail t h g f hd tl lt lh =
     record {
       some_fresh = g.some_fresh;

@@ -1,12 +1,15 @@
 -- Every world that is reached has its numbers in range.
-use Rattle.std.proofs.Common.{◌≡◌, ◌≢◌, ℕ, ◌+◌, ◌-◌, ◌^◌, ◌<◌, ◌≤◌, Bool, true, false, nat_eq, if◌then◌else◌, Option, Some, None, IfSome, List, [], ◌∷◌, ◌++◌, map, length, slice_get, get_or, refl, sym, subst, ap, ◌∙◌, arith}
+use Rattle.std.proofs.Common.{◌≡◌, ◌≢◌, ℕ, ◌+◌, ◌-◌, ◌^◌, ◌<◌, ◌≤◌, Bool, true, false, nat_eq, if◌then◌else◌, Option, Some, None, IfSome, List, []}
+use Rattle.std.proofs.Common.{◌∷◌, ◌++◌, map, length, slice_get, get_or, refl, sym, subst, ap, ◌∙◌, arith}
 use Rattle.std.proofs.Math.ListN.{length-set, length-replicate}
 use Rattle.std.proofs.lemmas.Bool.{eqb-false, ltb-true}
 use Rattle.std.proofs.lemmas.List.{map-append}
 use Rattle.std.proofs.lemmas.List.Elements.{All-set, All-replicate}
 use Rattle.std.proofs.lemmas.Option.{none-some, slice_get_within, get_or_from_slice_get}
 use Rattle.std.specs.List.{All}
-use Rattle.step_machine.specs.Below.{reserved_node, null, Kind, TwoLock, NonBlocking, Line, N1, N5, F1, E2, A1, Op, Enq, Deq, Shut, shuts, Setup, Held, Actor, Outcome, blank, Shared, word, found, performed, action, dequeues, gives_up, is_call, from_pocket, begun, aside_after}
+use Rattle.step_machine.specs.Below.{reserved_node, null, Kind, TwoLock, NonBlocking, Line, N1, N5, F1, E2, A1, Op, Enq, Deq, Shut, shuts, Setup}
+use Rattle.step_machine.specs.Below.{Held, Actor, Outcome, blank, Shared, word, found, performed, action, dequeues, gives_up, is_call, from_pocket}
+use Rattle.step_machine.specs.Below.{begun, aside_after}
 use Rattle.step_machine.specs.declared.actors.Move.{Move}
 use Rattle.step_machine.specs.Machine.{World, idle, opening, actor_of, rested, with_actor, after_outcome, stepped, next, AnyMove, made, next_any, run_on, run, IsSized, IsReached, IsMade}
 use Rattle.step_machine.specs.Range.{RefInRange, NodeInRange, SharedInRange, HeldInRange, RegistersInRange, LineInRange, ActorInRange, WorldInRange}
@@ -82,7 +85,8 @@ flags_kept : (flags : List Bool) (node : Option ℕ) → length (aside_after fla
 flags_kept flags None = refl
 flags_kept flags (Some n) = length-set flags (n - 1) true
 
-settled_holds : (k : ℕ) (w : World) (me : ℕ) (a : Actor) (m : Shared) (o : Outcome) → Holds k w → SharedInRange w.setup k m → w.shared.fresh ≤ m.fresh → OutcomeInRange w.setup m.fresh k o → Holds k (after_outcome w me a m o)
+settled_holds : (k : ℕ) (w : World) (me : ℕ) (a : Actor) (m : Shared) (o : Outcome) → Holds k w → SharedInRange w.setup k m → w.shared.fresh ≤ m.fresh
+    → OutcomeInRange w.setup m.fresh k o → Holds k (after_outcome w me a m o)
 settled_holds k w me a m o h g rises c =
     record {
       number = length-set w.actors (me - 1) _ ∙ h.number;
@@ -124,13 +128,15 @@ with_actor_holds k w me a h g =
       all_flags = h.all_flags;
     }
 
-from_pocket_in_range : (s : Setup) (n k : ℕ) (l : Line) (p : Option Held) (a : Actor) → ((f : ℕ) → LineInRange s.size f (Some l)) → IfSome p (HeldInRange s.limit n) → ActorInRange s n k a → ActorInRange s n k (from_pocket l p a)
+from_pocket_in_range : (s : Setup) (n k : ℕ) (l : Line) (p : Option Held) (a : Actor) → ((f : ℕ) → LineInRange s.size f (Some l))
+    → IfSome p (HeldInRange s.limit n) → ActorInRange s n k a → ActorInRange s n k (from_pocket l p a)
 from_pocket_in_range s n k l None a free p g = g
 from_pocket_in_range s n k l (Some held) a free p g =
     record { registers = with_held s n k a held.node held.mark g.registers p.node p.mark; pocket = tt; line = free a.f }
 
 -- an actor that begins an enqueue with an empty pocket, and one that begins a dequeue
-enqueue_begun : (s : Setup) (n k me body : ℕ) (a : Actor) → me ≤ k → body < 2 ^ 48 → ActorInRange s n k a → ActorInRange s n k (record a { line = Some N1; op = Enq body; val = record { from = me; body = body }; due = None; entry = None })
+enqueue_begun : (s : Setup) (n k me body : ℕ) (a : Actor) → me ≤ k → body < 2 ^ 48 → ActorInRange s n k a
+    → ActorInRange s n k (record a { line = Some N1; op = Enq body; val = record { from = me; body = body }; due = None; entry = None })
 enqueue_begun s n k me body a i b g =
     let r : RegistersInRange s n k a = g.registers in
     record {
@@ -187,7 +193,8 @@ next_any_holds k w m h =
       step = λ me a l is at. stepped_holds k w me a l h (low me a is) (actor me a is) (subst (LineInRange w.setup.size a.f) at (actor me a is).line);
       gave_up = λ me a l o is at given.
           settled_holds k w me a w.shared o h h.shared (omega arith)
-          (some_of (OutcomeInRange w.setup w.shared.fresh k) (gives_up (w.steps + 1) a l) o given (given_up_kept w.setup w.shared.fresh k (w.steps + 1) a l (actor me a is).registers (actor me a is).pocket));
+          (some_of (OutcomeInRange w.setup w.shared.fresh k) (gives_up (w.steps + 1) a l) o given
+          (given_up_kept w.setup w.shared.fresh k (w.steps + 1) a l (actor me a is).registers (actor me a is).pocket));
       at_rest = λ me a l is at may.
           with_actor_holds k w me (rested a) h
           (record { registers = (actor me a is).registers; pocket = record { node = (actor me a is).registers.node; mark = (actor me a is).registers.mark }; line = tt });
@@ -212,7 +219,17 @@ idle_in_range : (s : Setup) (n k : ℕ) → ActorInRange s n k idle
 idle_in_range s n k =
     let z : RefInRange s.limit n null = record { node = omega arith; count = omega arith } in
     record {
-      registers = record { op = tt; f = omega arith; top = z; node = omega arith; mark = omega arith; tail = z; head = z; next = as_next s.bits s.limit n null z; val = record { from = omega arith; body = omega arith } };
+      registers = record {
+        op = tt;
+        f = omega arith;
+        top = z;
+        node = omega arith;
+        mark = omega arith;
+        tail = z;
+        head = z;
+        next = as_next s.bits s.limit n null z;
+        val = record { from = omega arith; body = omega arith };
+      };
       pocket = tt;
       line = tt;
     }

@@ -9,8 +9,10 @@ use Rattle.step_machine.proofs.Reached.{if_some, some_of, setup-next_any, run_on
 -- each move of an actor keeps a fact of the worlds of a queue
 pub record EachMoveKeeps (kind : Kind) (P : World → Type 0) : Type 0 where
   pub step : (w : World) (me : ℕ) (a : Actor) (l : Line) → IsReached w → w.setup.kind ≡ kind → actor_of w me ≡ Some a → a.line ≡ Some l → P w → P (stepped w me a l)
-  pub gave_up : (w : World) (me : ℕ) (a : Actor) (l : Line) (o : Outcome) → IsReached w → w.setup.kind ≡ kind → actor_of w me ≡ Some a → a.line ≡ Some l → gives_up (w.steps + 1) a l ≡ Some o → P w → P (after_outcome w me a w.shared o)
-  pub began : (w : World) (me : ℕ) (op : Op) (a : Actor) → IsReached w → w.setup.kind ≡ kind → actor_of w me ≡ Some a → a.line ≡ None → is_call op ≡ true → P w → P (with_actor w me (begun w.setup.kind me op a))
+  pub gave_up : (w : World) (me : ℕ) (a : Actor) (l : Line) (o : Outcome) → IsReached w → w.setup.kind ≡ kind → actor_of w me ≡ Some a → a.line ≡ Some l
+      → gives_up (w.steps + 1) a l ≡ Some o → P w → P (after_outcome w me a w.shared o)
+  pub began : (w : World) (me : ℕ) (op : Op) (a : Actor) → IsReached w → w.setup.kind ≡ kind → actor_of w me ≡ Some a → a.line ≡ None → is_call op ≡ true → P w
+      → P (with_actor w me (begun w.setup.kind me op a))
   pub at_rest : (w : World) (me : ℕ) (a : Actor) (l : Line) → IsReached w → w.setup.kind ≡ kind → actor_of w me ≡ Some a → a.line ≡ Some l → may_rest l ≡ true → P w → P (with_actor w me (rested a))
 
 module _ (kind : Kind) (P : World → Type 0) (keeps : EachMoveKeeps kind P) where

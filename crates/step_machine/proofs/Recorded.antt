@@ -51,13 +51,15 @@ said_ended l None = refl
 said_ended l (Some reply) = refl
 
 -- what a step and a giving up are told
-step_is_told : (w : World) (me : ℕ) (a : Actor) (l : Line) → actor_of w me ≡ Some a → a.line ≡ Some l → move_answer w (Step me) ≡ Some (stepped_at l (outcome w.setup (w.steps + 1) me a l (found (action w.setup me a l) w.shared)).reply)
+step_is_told : (w : World) (me : ℕ) (a : Actor) (l : Line) → actor_of w me ≡ Some a → a.line ≡ Some l
+    → move_answer w (Step me) ≡ Some (stepped_at l (outcome w.setup (w.steps + 1) me a l (found (action w.setup me a l) w.shared)).reply)
 step_is_told w me a l is at =
     ap (step_answer w me) is
     ∙ ap (λ x. step_answer w me (Some (record a { line = x }))) at
     ∙ sym (ap (λ x. Some (stepped_at l (outcome w.setup (w.steps + 1) me (record a { line = x }) l (found (action w.setup me (record a { line = x }) l) w.shared)).reply)) at)
 
-give_is_told : (w : World) (me : ℕ) (a : Actor) (l : Line) (o : Outcome) → actor_of w me ≡ Some a → a.line ≡ Some l → gives_up (w.steps + 1) a l ≡ Some o → move_answer w (Give me) ≡ ended_at (Some l) o.reply
+give_is_told : (w : World) (me : ℕ) (a : Actor) (l : Line) (o : Outcome) → actor_of w me ≡ Some a → a.line ≡ Some l → gives_up (w.steps + 1) a l ≡ Some o
+    → move_answer w (Give me) ≡ ended_at (Some l) o.reply
 give_is_told w me a l o is at given =
     let line : line_of (actor_of w me) ≡ Some l = ap line_of is ∙ at in
     let reply : reply_of (giving_up w (actor_of w me)) ≡ o.reply = ap (λ x. reply_of (giving_up w x)) is ∙ ap (λ x. reply_of (giving_up_at w a x)) at ∙ ap reply_of given in
@@ -127,10 +129,12 @@ module _ (s : Setup) (n : ℕ) where
       }
 
   -- an end was one before the last move, or is that move
-  end_last : (done : List AnyMove) (w : World) (m : AnyMove) (me k : ℕ) (reply : Reply) → run done (opening s n) ≡ Some w → IsEnd s n (done ++ m ∷ []) me k reply → IsEnd s n done me k reply ⊎ ((maker m ≡ me) × (k ≡ w.steps + 1) × (heard w m ≡ Some reply))
+  end_last : (done : List AnyMove) (w : World) (m : AnyMove) (me k : ℕ) (reply : Reply) → run done (opening s n) ≡ Some w
+      → IsEnd s n (done ++ m ∷ []) me k reply → IsEnd s n done me k reply ⊎ ((maker m ≡ me) × (k ≡ w.steps + 1) × (heard w m ≡ Some reply))
   end_last done w m me k reply led e = go (split_last done e.before e.after m (made e.move) e.moves_are)
     where
-      go : ((e.before ≡ done) × (m ≡ made e.move)) ⊎ ((more : List AnyMove) × (done ≡ e.before ++ made e.move ∷ more)) → IsEnd s n done me k reply ⊎ ((maker m ≡ me) × (k ≡ w.steps + 1) × (heard w m ≡ Some reply))
+      go : ((e.before ≡ done) × (m ≡ made e.move)) ⊎ ((more : List AnyMove) × (done ≡ e.before ++ made e.move ∷ more))
+          → IsEnd s n done me k reply ⊎ ((maker m ≡ me) × (k ≡ w.steps + 1) × (heard w m ≡ Some reply))
       go (inl p) =
           let same : e.world ≡ w = same_Some e.world w (sym e.led ∙ ap (λ ms. run ms (opening s n)) p.0 ∙ led) in
           inr (
@@ -160,7 +164,8 @@ module _ (s : Setup) (n : ℕ) where
     each_end : (me k : ℕ) (reply : Reply) → IsEnd s n done me k reply → Ending w.operations me k reply
 
   -- a move that is told nothing
-  still : (done : List AnyMove) (w : World) (m : AnyMove) (me : ℕ) (a b : Actor) → maker m ≡ me → heard w m ≡ None → run done (opening s n) ≡ Some w → actor_of w me ≡ Some a → ((l : Line) → b.line ≡ Some l → Begun (done ++ m ∷ []) me b.op) → Records done w → Records (done ++ m ∷ []) (with_actor w me b)
+  still : (done : List AnyMove) (w : World) (m : AnyMove) (me : ℕ) (a b : Actor) → maker m ≡ me → heard w m ≡ None → run done (opening s n) ≡ Some w
+      → actor_of w me ≡ Some a → ((l : Line) → b.line ≡ Some l → Begun (done ++ m ∷ []) me b.op) → Records done w → Records (done ++ m ∷ []) (with_actor w me b)
   still done w m me a b own none led is mine h =
       record {
         firsts = λ i o got. first_more done m o.actor o.first o.op (h.firsts i o got);
@@ -171,7 +176,10 @@ module _ (s : Setup) (n : ℕ) where
         each_end = λ you k reply e. elim (end_last done w m you k reply led e) [ inl old ↦ h.each_end you k reply old | inr new ↦ absurd (none-some reply (sym none ∙ new.2)) ];
       }
 
-  module _ (done : List AnyMove) (w : World) (move : Move) (me : ℕ) (a : Actor) (l : Line) (o : Outcome) (m' : Shared) (takes : numbered_by (made move) ≡ me ∷ []) (own : mover move ≡ me) (led : run done (opening s n) ≡ Some w) (is : actor_of w me ≡ Some a) (at_line : a.line ≡ Some l) (tells : heard w (made move) ≡ o.reply) (as_told : (reply : Reply) → o.reply ≡ Some reply → move_answer w move ≡ Some (Ended l reply)) (h : Records done w) where
+  module _ (done : List AnyMove) (w : World) (move : Move) (me : ℕ) (a : Actor) (l : Line) (o : Outcome) (m' : Shared)
+      (takes : numbered_by (made move) ≡ me ∷ []) (own : mover move ≡ me) (led : run done (opening s n) ≡ Some w) (is : actor_of w me ≡ Some a)
+      (at_line : a.line ≡ Some l) (tells : heard w (made move) ≡ o.reply)
+      (as_told : (reply : Reply) → o.reply ≡ Some reply → move_answer w move ≡ Some (Ended l reply)) (h : Records done w) where
     it : Telling (makers done) w me a l o (after_outcome w me a m' o).operations
     it = telling (makers done) w me a l o (kept_after s n done w led) is at_line
 
@@ -179,7 +187,8 @@ module _ (s : Setup) (n : ℕ) where
     first : IsFirstOfCall s n (done ++ made move ∷ []) it.was.actor it.was.first it.was.op
     first = go it.from
       where
-        go : ((a.entry ≡ None) × (it.place ≡ length w.operations) × (it.was ≡ new_operation me a.op (w.steps + 1))) ⊎ ((a.entry ≡ Some it.place) × (slice_get w.operations it.place ≡ Some it.was)) → IsFirstOfCall s n (done ++ made move ∷ []) it.was.actor it.was.first it.was.op
+        go : ((a.entry ≡ None) × (it.place ≡ length w.operations) × (it.was ≡ new_operation me a.op (w.steps + 1))) ⊎ ((a.entry ≡ Some it.place) × (slice_get w.operations it.place ≡ Some it.was))
+            → IsFirstOfCall s n (done ++ made move ∷ []) it.was.actor it.was.first it.was.op
         go (inl new) =
             let b : Begun done me a.op = h.begins me a l is at_line new.0 in
             subst (λ (x : Stamped). IsFirstOfCall s n (done ++ made move ∷ []) x.actor x.first x.op) (sym new.2)
@@ -234,7 +243,8 @@ module _ (s : Setup) (n : ℕ) where
           each_end = λ you k reply e. each_end you k reply (end_last done w (made move) you k reply led e);
         }
       where
-        each_end : (you k : ℕ) (reply : Reply) → IsEnd s n done you k reply ⊎ ((mover move ≡ you) × (k ≡ w.steps + 1) × (heard w (made move) ≡ Some reply)) → Ending (after_outcome w me a m' o).operations you k reply
+        each_end : (you k : ℕ) (reply : Reply) → IsEnd s n done you k reply ⊎ ((mover move ≡ you) × (k ≡ w.steps + 1) × (heard w (made move) ≡ Some reply))
+            → Ending (after_outcome w me a m' o).operations you k reply
         each_end you k reply (inl old) =
             let x : Ending w.operations you k reply = h.each_end you k reply old in
             record {
@@ -287,7 +297,8 @@ module _ (s : Setup) (n : ℕ) where
         firsts = λ i o got. absurd (none-some o got);
         begins = λ me a l got at e. absurd (idle_line me a l got at);
         ends = λ i last reply o got l r. absurd (none-some o got);
-        each_end = λ me k reply e. absurd (let short : length {A = AnyMove} [] ≡ length (e.before ++ made e.move ∷ e.after) = ap length e.moves_are in omega (arith, length-append e.before (made e.move ∷ e.after)));
+        each_end = λ me k reply e. absurd (let short : length {A = AnyMove} [] ≡ length (e.before ++ made e.move ∷ e.after) =
+            ap length e.moves_are in omega (arith, length-append e.before (made e.move ∷ e.after)));
       }
     where
       idle_line : (me : ℕ) (a : Actor) (l : Line) → actor_of (opening s n) me ≡ Some a → a.line ≡ Some l → ⊥

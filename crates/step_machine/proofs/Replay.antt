@@ -37,7 +37,8 @@ pub inserted_split : (o : Stamped) (ps : List Stamped) → inserted o ps ≡ bef
 inserted_split o [] = refl
 inserted_split o (p ∷ ps) = go (nat_le (place o) (place p)) (inserted_split o ps)
   where
-    go : (b : Bool) → inserted o ps ≡ before (place o) ps ++ o ∷ from (place o) ps → (if b then o ∷ p ∷ ps else p ∷ inserted o ps) ≡ (if b then [] else p ∷ before (place o) ps) ++ o ∷ (if b then p ∷ ps else from (place o) ps)
+    go : (b : Bool) → inserted o ps ≡ before (place o) ps ++ o ∷ from (place o) ps
+        → (if b then o ∷ p ∷ ps else p ∷ inserted o ps) ≡ (if b then [] else p ∷ before (place o) ps) ++ o ∷ (if b then p ∷ ps else from (place o) ps)
     go true ih = refl
     go false ih = ap (λ x. p ∷ x) ih
 
@@ -66,7 +67,8 @@ rising_all P (o ∷ os) h = go (is_some o.at) refl (rising_all P os (λ i p got.
     go false e ih = ih
 
 -- an operation before others whose order one more is inserted into
-behind : (p o : Stamped) (n : ℕ) (xs ys : List Stamped) → o.at ≡ Some n → p.at ≢ Some n → xs ≡ inserted o ys → (if is_some p.at then inserted p xs else xs) ≡ inserted o (if is_some p.at then inserted p ys else ys)
+behind : (p o : Stamped) (n : ℕ) (xs ys : List Stamped) → o.at ≡ Some n → p.at ≢ Some n → xs ≡ inserted o ys
+    → (if is_some p.at then inserted p xs else xs) ≡ inserted o (if is_some p.at then inserted p ys else ys)
 behind p o n xs ys e d same = go p.at refl
   where
     go : (at : Option ℕ) → p.at ≡ at → (if is_some at then inserted p xs else xs) ≡ inserted o (if is_some at then inserted p ys else ys)
@@ -76,7 +78,8 @@ behind p o n xs ys e d same = go p.at refl
         ∙ commute p o ys (λ q. d (f ∙ ap Some (sym (ap point_or_zero f) ∙ q ∙ ap point_or_zero e)))
 
 -- an operation that gets a place is inserted
-pub place_given : (n : ℕ) (ops : List Stamped) (i : ℕ) (p o : Stamped) → o.at ≡ Some n → slice_get ops i ≡ Some p → p.at ≡ None → ((j : ℕ) (q : Stamped) → slice_get ops j ≡ Some q → q.at ≢ Some n) → by_point (set ops i o) ≡ inserted o (by_point ops)
+pub place_given : (n : ℕ) (ops : List Stamped) (i : ℕ) (p o : Stamped) → o.at ≡ Some n → slice_get ops i ≡ Some p → p.at ≡ None
+    → ((j : ℕ) (q : Stamped) → slice_get ops j ≡ Some q → q.at ≢ Some n) → by_point (set ops i o) ≡ inserted o (by_point ops)
 place_given n [] i p o e got none other = absurd (none-some p got)
 place_given n (q ∷ qs) zero p o e got none other =
     ap (λ (b : Option ℕ). if is_some b then inserted o (by_point qs) else by_point qs) e
@@ -180,7 +183,8 @@ pub before_above : (k : ℕ) (o : Stamped) (ps : List Stamped) → place o < k �
 before_above k o [] low = ap (λ b. if b then [] else o ∷ []) (lt-leb k (place o) low)
 before_above k o (p ∷ ps) low = go (nat_le (place o) (place p)) refl (nat_le k (place p)) refl (before_above k o ps low)
   where
-    go : (b : Bool) → nat_le (place o) (place p) ≡ b → (c : Bool) → nat_le k (place p) ≡ c → before k (inserted o ps) ≡ inserted o (before k ps) → before k (if b then o ∷ p ∷ ps else p ∷ inserted o ps) ≡ inserted o (if c then [] else p ∷ before k ps)
+    go : (b : Bool) → nat_le (place o) (place p) ≡ b → (c : Bool) → nat_le k (place p) ≡ c → before k (inserted o ps) ≡ inserted o (before k ps)
+        → before k (if b then o ∷ p ∷ ps else p ∷ inserted o ps) ≡ inserted o (if c then [] else p ∷ before k ps)
     go true e true f ih =
         ap (λ b. if b then [] else o ∷ before k (p ∷ ps)) (lt-leb k (place o) low)
         ∙ ap (λ b. o ∷ (if b then [] else p ∷ before k ps)) f
@@ -209,7 +213,8 @@ pub still_empty_below : (k : ℕ) (o : Stamped) (ps : List Stamped) → k ≤ pl
 still_empty_below k o ps low none = ap (queue_after empty) (before_below k o ps low) ∙ none
 
 -- and once an empty reply gets its place
-pub still_empty : (k : ℕ) (o : Stamped) (ps : List Stamped) → IsEmptyReply o → queue_after empty (before (place o) ps) ≡ empty → queue_after empty (before k ps) ≡ empty → queue_after empty (before k (inserted o ps)) ≡ empty
+pub still_empty : (k : ℕ) (o : Stamped) (ps : List Stamped) → IsEmptyReply o → queue_after empty (before (place o) ps) ≡ empty
+    → queue_after empty (before k ps) ≡ empty → queue_after empty (before k (inserted o ps)) ≡ empty
 still_empty k o ps e here none = go (nat_le k (place o)) refl
   where
     go : (b : Bool) → nat_le k (place o) ≡ b → queue_after empty (before k (inserted o ps)) ≡ empty

@@ -1,5 +1,6 @@
 -- Where the operations that were refused, or told that the queue is empty, have their places.
-use Rattle.std.proofs.Common.{◌≡◌, ◌≢◌, ℕ, ◌+◌, ◌-◌, ◌≤◌, ◌⊎◌, inl, inr, Bool, true, false, List, [], ◌∷◌, ◌++◌, length, Option, Some, None, IfSome, refl, sym, subst, ap, ◌∙◌, append_assoc, length-append, arith}
+use Rattle.std.proofs.Common.{◌≡◌, ◌≢◌, ℕ, ◌+◌, ◌-◌, ◌≤◌, ◌⊎◌, inl, inr, Bool, true, false, List, [], ◌∷◌, ◌++◌, length, Option, Some, None, IfSome}
+use Rattle.std.proofs.Common.{refl, sym, subst, ap, ◌∙◌, append_assoc, length-append, arith}
 use Rattle.std.specs.Prelude.{slice_get, IsTrue}
 use Rattle.std.specs.List.{AllByRecursion}
 use Rattle.std.proofs.lemmas.Option.{none-some, same_Some, IfSome_then}
@@ -122,14 +123,17 @@ module _ (s : Setup) (n : ℕ) where
   or_look done m me k (inr look) = inr (look_more done m me k look)
 
   -- a move that looks for no node and is told nothing
-  still : (done : List AnyMove) (w : World) (m : AnyMove) (me : ℕ) (a b : Actor) → is_step m ≡ false → run done (opening s n) ≡ Some w → actor_of w me ≡ Some a → b.empty_at ≡ a.empty_at → Placed done w → Placed (done ++ m ∷ []) (with_actor w me b)
+  still : (done : List AnyMove) (w : World) (m : AnyMove) (me : ℕ) (a b : Actor) → is_step m ≡ false → run done (opening s n) ≡ Some w → actor_of w me ≡ Some a
+      → b.empty_at ≡ a.empty_at → Placed done w → Placed (done ++ m ∷ []) (with_actor w me b)
   still done w m me a b none led is same h =
       record {
         refused = h.refused;
         empty = λ i k o got e at.
             let x : LastOf done o k = h.empty i k o got e at in
             (or_look done m o.actor k x.0, λ j last l t low. x.1 j last l (old o.actor j t) low);
-        empty_at = each_actor w me a b (λ you c. LastLook (done ++ m ∷ []) you c.empty_at) is (subst (λ k. LastLook (done ++ m ∷ []) me k) (sym same) (lasts me a.empty_at (h.empty_at me a is))) (λ you c other there. lasts you c.empty_at (h.empty_at you c there));
+        empty_at = each_actor w me a b (λ you c. LastLook (done ++ m ∷ []) you c.empty_at) is
+            (subst (λ k. LastLook (done ++ m ∷ []) me k) (sym same) (lasts me a.empty_at (h.empty_at me a is)))
+            (λ you c other there. lasts you c.empty_at (h.empty_at you c there));
         within = λ you j t. h.within you j (old you j t);
       }
     where
@@ -139,7 +143,10 @@ module _ (s : Setup) (n : ℕ) where
       lasts : (you k : ℕ) → LastLook done you k → LastLook (done ++ m ∷ []) you k
       lasts you k x = (or_look done m you k x.0, λ j t. x.1 j (old you j t))
 
-  module _ (done : List AnyMove) (w : World) (m : AnyMove) (me : ℕ) (a : Actor) (l : Line) (o : Outcome) (m' : Shared) (looked : Bool) (led : run done (opening s n) ≡ Some w) (is : actor_of w me ≡ Some a) (at_line : a.line ≡ Some l) (h : Placed done w) (t : Tells l looked (w.steps + 1) a o) (yes : looked ≡ true → Look (done ++ m ∷ []) me (w.steps + 1)) (only : (you j : ℕ) → m ≡ made (Step you) → Now w you j → (you ≡ me) × (j ≡ w.steps + 1) × (looked ≡ true)) where
+  module _ (done : List AnyMove) (w : World) (m : AnyMove) (me : ℕ) (a : Actor) (l : Line) (o : Outcome) (m' : Shared) (looked : Bool)
+      (led : run done (opening s n) ≡ Some w) (is : actor_of w me ≡ Some a) (at_line : a.line ≡ Some l) (h : Placed done w)
+      (t : Tells l looked (w.steps + 1) a o) (yes : looked ≡ true → Look (done ++ m ∷ []) me (w.steps + 1))
+      (only : (you j : ℕ) → m ≡ made (Step you) → Now w you j → (you ≡ me) × (j ≡ w.steps + 1) × (looked ≡ true)) where
     kept : StampsInvariant (Unit {0}) (makers done) w
     kept = kept_after s n done w led
 
@@ -252,7 +259,8 @@ module _ (s : Setup) (n : ℕ) where
         at_rest = λ me a l is at may. still done w (Rest me) me a (rested a) refl led is refl h;
       }
     where
-      one : (me : ℕ) (a : Actor) (l : Line) → actor_of w me ≡ Some a → a.line ≡ Some l → (you j : ℕ) → made (Step me) ≡ made (Step you) → Now w you j → (you ≡ me) × (j ≡ w.steps + 1) × (looks l ≡ true)
+      one : (me : ℕ) (a : Actor) (l : Line) → actor_of w me ≡ Some a → a.line ≡ Some l → (you j : ℕ) → made (Step me) ≡ made (Step you) → Now w you j
+          → (you ≡ me) × (j ≡ w.steps + 1) × (looks l ≡ true)
       one me a l is at you j e now =
           let same : you ≡ me = sym (ap stepper e) in
           let actor : now.0 ≡ a = same_Some now.0 a (sym now.3 ∙ ap (actor_of w) same ∙ is) in
@@ -273,7 +281,8 @@ module _ (s : Setup) (n : ℕ) where
       }
     where
       never : (me j : ℕ) → Look [] me j → ⊥
-      never me j look = let short : length {A = AnyMove} [] ≡ length (look.before ++ made (Step me) ∷ look.after) = ap length look.moves_are in omega (arith, length-append look.before (made (Step me) ∷ look.after))
+      never me j look = let short : length {A = AnyMove} [] ≡ length (look.before ++ made (Step me) ∷ look.after) =
+          ap length look.moves_are in omega (arith, length-append look.before (made (Step me) ∷ look.after))
 
 pub refused_at_the_end : AfterMoves (λ moves w. AllByRecursion IsRefusedAtItsEnd w.operations)
 refused_at_the_end s n moves =
@@ -282,7 +291,8 @@ refused_at_the_end s n moves =
 pub empty_at_the_last_look : OfOperations AreEmptyAtTheirLastLook
 empty_at_the_last_look s n moves = on (run moves (opening s n)) refl (walked s n (Placed s n) (each s n) (starts s n) moves)
   where
-    one : (w : World) → Placed s n moves w → StampsInvariant (Unit {0}) (makers moves) w → (i : ℕ) (o : Stamped) → slice_get w.operations i ≡ Some o → o.reply ≡ Some Empty → (k : ℕ) → o.at ≡ Some k → IsLastLook s n moves o k
+    one : (w : World) → Placed s n moves w → StampsInvariant (Unit {0}) (makers moves) w → (i : ℕ) (o : Stamped) → slice_get w.operations i ≡ Some o
+        → o.reply ≡ Some Empty → (k : ℕ) → o.at ≡ Some k → IsLastLook s n moves o k
     one w h kept i o got e k at =
         let x : ((k ≡ 0) ⊎ IsLook s n moves o.actor k) × ((j last : ℕ) → o.last ≡ Some last → IsLook s n moves o.actor j → j ≤ last → j ≤ k) = h.empty i k o got e at in
         let by : IsBy (makers moves) k o.actor = subst (λ z. IfSome z (λ j. IsBy (makers moves) j o.actor)) at (kept.operations.each i o got).at_own in

@@ -1,5 +1,6 @@
 -- The room that a world keeps for nodes and entries, over a begin and over a step.
-use Rattle.std.proofs.Common.{◌≡◌, ℕ, zero, suc, ◌+◌, ◌<◌, ◌≤◌, ◌⊎◌, inl, inr, Bool, true, false, ◌&&◌, nat_lt, if◌then◌else◌, Option, Some, None, List, [], ◌∷◌, length, get_or, set, slice_get, refl, sym, ap, subst, ◌∙◌, arith, length-append, IfSome}
+use Rattle.std.proofs.Common.{◌≡◌, ℕ, zero, suc, ◌+◌, ◌<◌, ◌≤◌, ◌⊎◌, inl, inr, Bool, true, false, ◌&&◌, nat_lt, if◌then◌else◌, Option, Some, None}
+use Rattle.std.proofs.Common.{List, [], ◌∷◌, length, get_or, set, slice_get, refl, sym, ap, subst, ◌∙◌, arith, length-append, IfSome}
 use Rattle.std.proofs.Math.ListN.{length-set}
 use Rattle.std.proofs.lemmas.Bool.{ltb-true, ltb-false}
 use Rattle.std.proofs.lemmas.List.Sums.{sum_by-set, sum_by-le, get_or-le-sum_by}
@@ -47,7 +48,8 @@ recorded_none None e = refl
 recorded_none (Some l) e = refl
 
 -- after a begin there is room for the nodes that its actor and the others may look for
-pub begin_nodes : (size fresh room enough : ℕ) (xs : List Actor) (i : ℕ) (a b : Actor) → room ≤ size → slice_get xs i ≡ Some a → wants_node a.line ≡ 0 → (wants_node b.line ≡ 0) ⊎ (enough ≡ fresh + length xs) → HasNodes size fresh room xs → HasNodes size fresh (room_after size enough room) (set xs i b)
+pub begin_nodes : (size fresh room enough : ℕ) (xs : List Actor) (i : ℕ) (a b : Actor) → room ≤ size → slice_get xs i ≡ Some a → wants_node a.line ≡ 0
+    → (wants_node b.line ≡ 0) ⊎ (enough ≡ fresh + length xs) → HasNodes size fresh room xs → HasNodes size fresh (room_after size enough room) (set xs i b)
 begin_nodes size fresh room enough xs i a b within at none why (inl full) = go (nat_lt room enough) (nat_lt room size) refl
   where
     go : (c d : Bool) → nat_lt room size ≡ d → HasNodes size fresh (if c && d then room + 1 else room) (set xs i b)
@@ -72,7 +74,8 @@ begin_nodes size fresh room enough xs i a b within at none why (inr some) = go (
     go false d e f = let h : enough ≤ room = ltb-false room enough e in inr (enough_room why h)
 
 -- after a step the room for nodes still serves
-pub step_nodes : (size fresh more room : ℕ) (xs : List Actor) (i : ℕ) (a b : Actor) → slice_get xs i ≡ Some a → more + wants_node b.line ≤ fresh + wants_node a.line → HasNodes size fresh room xs → HasNodes size more room (set xs i b)
+pub step_nodes : (size fresh more room : ℕ) (xs : List Actor) (i : ℕ) (a b : Actor) → slice_get xs i ≡ Some a
+    → more + wants_node b.line ≤ fresh + wants_node a.line → HasNodes size fresh room xs → HasNodes size more room (set xs i b)
 step_nodes size fresh more room xs i a b at h (inl full) = inl full
 step_nodes size fresh more room xs i a b at h (inr some) =
     let sums : wanting_node (set xs i b) + wants_node a.line ≡ wanting_node xs + wants_node b.line = sum_set (λ c. wants_node c.line) xs i a b at in
@@ -85,7 +88,8 @@ begin_entries len capacity xs i b h =
     omega (arith, length-set xs i b)
 
 -- a call that has no number yet has room for its entry
-pub has_entry : (len capacity : ℕ) (xs : List Actor) (i : ℕ) (a : Actor) (l : Line) → slice_get xs i ≡ Some a → a.line ≡ Some l → IfSome a.entry (λ e. e < len) → len + unrecorded xs ≤ capacity → HasEntry a.entry len capacity
+pub has_entry : (len capacity : ℕ) (xs : List Actor) (i : ℕ) (a : Actor) (l : Line) → slice_get xs i ≡ Some a → a.line ≡ Some l → IfSome a.entry (λ e. e < len)
+    → len + unrecorded xs ≤ capacity → HasEntry a.entry len capacity
 has_entry len capacity xs i a l at here stands h =
     go a.entry stands (subst (λ n. n ≤ unrecorded xs) (ap (λ o. is_unrecorded o a.entry) here) (item_most (λ c. is_unrecorded c.line c.entry) xs i a at))
   where
@@ -94,7 +98,9 @@ has_entry len capacity xs i a l at here stands h =
     go (Some e) k g = k
 
 -- after a step the room for entries still serves
-pub step_entries : (ops : List Stamped) (new : Stamped) (change : Stamped → Stamped) (capacity more : ℕ) (xs : List Actor) (i : ℕ) (a b : Actor) (l : Line) (e : ℕ) → slice_get xs i ≡ Some a → a.line ≡ Some l → b.entry ≡ Some e → length ops + unrecorded xs ≤ capacity → capacity ≤ more → length (with_operation a.entry new change ops) + unrecorded (set xs i b) ≤ more
+pub step_entries : (ops : List Stamped) (new : Stamped) (change : Stamped → Stamped) (capacity more : ℕ) (xs : List Actor) (i : ℕ) (a b : Actor) (l : Line) (e : ℕ)
+    → slice_get xs i ≡ Some a → a.line ≡ Some l → b.entry ≡ Some e → length ops + unrecorded xs ≤ capacity → capacity ≤ more
+    → length (with_operation a.entry new change ops) + unrecorded (set xs i b) ≤ more
 step_entries ops new change capacity more xs i a b l e at here after h g =
     go a.entry sums
   where

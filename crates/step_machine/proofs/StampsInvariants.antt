@@ -1,5 +1,6 @@
 -- What holds of the operations and of each actor after some moves, and that a numbered move keeps it.
-use Rattle.std.proofs.Common.{◌≡◌, ◌≢◌, ℕ, ◌+◌, ◌-◌, ◌<◌, ◌≤◌, ◌⊎◌, inl, inr, Bool, true, false, nat_eq, if◌then◌else◌, List, [], ◌∷◌, ◌++◌, length, Option, Some, None, IfSome, set, refl, sym, subst, ap, ◌∙◌, length-append, arith}
+use Rattle.std.proofs.Common.{◌≡◌, ◌≢◌, ℕ, ◌+◌, ◌-◌, ◌<◌, ◌≤◌, ◌⊎◌, inl, inr, Bool, true, false, nat_eq, if◌then◌else◌, List, [], ◌∷◌, ◌++◌, length}
+use Rattle.std.proofs.Common.{Option, Some, None, IfSome, set, refl, sym, subst, ap, ◌∙◌, length-append, arith}
 use Rattle.std.proofs.lemmas.Bool.{eqb-false}
 use Rattle.std.proofs.lemmas.Option.{none-some, same_Some, slice_get_within, get_or_from_slice_get, IfSome_then}
 use Rattle.std.specs.Prelude.{slice_get, IsSome, IsSomeAnd}
@@ -65,7 +66,9 @@ stamped_more K L o h =
     }
 
 -- what an actor knows stays so when another one takes a number and its operation changes
-knows_on : (Rests : Type 0) (K L : List ℕ) (ops opz : List Stamped) (me e : ℕ) (x : Stamped) → PutAt ops opz e x → x.actor ≢ me → ((s : Stamped) → slice_get ops e ≡ Some s → s.actor ≢ me) → (line : Option Line) (entry : Option ℕ) (due : Option Reply) (empty_at : ℕ) → OperationAt Rests K ops me line entry due empty_at → OperationAt Rests (K ++ L) opz me line entry due empty_at
+knows_on : (Rests : Type 0) (K L : List ℕ) (ops opz : List Stamped) (me e : ℕ) (x : Stamped) → PutAt ops opz e x → x.actor ≢ me
+    → ((s : Stamped) → slice_get ops e ≡ Some s → s.actor ≢ me) → (line : Option Line) (entry : Option ℕ) (due : Option Reply) (empty_at : ℕ)
+    → OperationAt Rests K ops me line entry due empty_at → OperationAt Rests (K ++ L) opz me line entry due empty_at
 knows_on Rests K L ops opz me e x put other before = go
   where
     idle : Idle Rests ops me → Idle Rests opz me
@@ -110,7 +113,9 @@ record Told (Rests : Type 0) (K : List ℕ) (ops opz : List Stamped) (me e : ℕ
   knows : OperationAt Rests K opz me b.line (Some e) b.due b.empty_at
 
 -- the operations stay as they have to when one that fits is put at a place
-operations_put : (Rests : Type 0) (K L : List ℕ) (ops opz : List Stamped) (e : ℕ) (x : Stamped) → Operations Rests K ops → PutAt ops opz e x → IsStamped (K ++ L) x → ((i : ℕ) (o : Stamped) → i < e → slice_get ops i ≡ Some o → Precedes Rests o x) → ((j : ℕ) (p : Stamped) → e < j → slice_get ops j ≡ Some p → Precedes Rests x p) → Operations Rests (K ++ L) opz
+operations_put : (Rests : Type 0) (K L : List ℕ) (ops opz : List Stamped) (e : ℕ) (x : Stamped) → Operations Rests K ops → PutAt ops opz e x
+    → IsStamped (K ++ L) x → ((i : ℕ) (o : Stamped) → i < e → slice_get ops i ≡ Some o → Precedes Rests o x)
+    → ((j : ℕ) (p : Stamped) → e < j → slice_get ops j ≡ Some p → Precedes Rests x p) → Operations Rests (K ++ L) opz
 operations_put Rests K L ops opz e x h put fits before after =
     record {
       each = λ i o got. one i o (put_cases put i o got);
@@ -128,18 +133,33 @@ operations_put Rests K L ops opz e x h put fits before after =
     two i j o p lt (inr q) (inr r) = h.pairs i j o p lt q.1 r.1
 
 -- what the mover knows, by whether its call goes on
-mover_knows : (Rests : Type 0) (K : List ℕ) (ops opz : List Stamped) (me e now : ℕ) (x : Stamped) → PutAt ops opz e x → x.actor ≡ me → ((i : ℕ) (p : Stamped) → i ≢ e → slice_get ops i ≡ Some p → p.actor ≡ me → Over Rests p) → ((j : ℕ) (p : Stamped) → e < j → slice_get ops j ≡ Some p → p.actor ≢ me) → (line : Option Line) (reply due : Option Reply) (empty_at : ℕ) → x.last ≡ last_of now reply → x.reply ≡ reply → GoesOn line reply due x.at (Own K me x.first empty_at) → OperationAt Rests K opz me line (Some e) due empty_at
+mover_knows : (Rests : Type 0) (K : List ℕ) (ops opz : List Stamped) (me e now : ℕ) (x : Stamped) → PutAt ops opz e x → x.actor ≡ me
+    → ((i : ℕ) (p : Stamped) → i ≢ e → slice_get ops i ≡ Some p → p.actor ≡ me → Over Rests p)
+    → ((j : ℕ) (p : Stamped) → e < j → slice_get ops j ≡ Some p → p.actor ≢ me) → (line : Option Line) (reply due : Option Reply) (empty_at : ℕ)
+    → x.last ≡ last_of now reply → x.reply ≡ reply → GoesOn line reply due x.at (Own K me x.first empty_at)
+    → OperationAt Rests K opz me line (Some e) due empty_at
 mover_knows Rests K ops opz me e now x put own others latest = go
   where
-    go : (line : Option Line) (reply due : Option Reply) (empty_at : ℕ) → x.last ≡ last_of now reply → x.reply ≡ reply → GoesOn line reply due x.at (Own K me x.first empty_at) → OperationAt Rests K opz me line (Some e) due empty_at
+    go : (line : Option Line) (reply due : Option Reply) (empty_at : ℕ) → x.last ≡ last_of now reply → x.reply ≡ reply
+        → GoesOn line reply due x.at (Own K me x.first empty_at) → OperationAt Rests K opz me line (Some e) due empty_at
     go None None due empty_at last with_outcome g = absurd g
     go None (Some reply) due empty_at last with_outcome g = λ i p got mine. pick i p mine (put_cases put i p got)
       where
         pick : (i : ℕ) (p : Stamped) → p.actor ≡ me → ((i ≡ e) × (x ≡ p)) ⊎ ((i ≢ e) × (slice_get ops i ≡ Some p)) → Over Rests p
         pick i p mine (inl q) = subst (λ z. Over Rests z) q.1 (inl (subst (λ z. IsSome z) (sym last) refl))
         pick i p mine (inr q) = others i p q.0 q.1 mine
-    go (Some l) None due empty_at last with_outcome g =
-        (x, record { here = put.here; own = own; no_last = last; no_reply = with_outcome; others = λ i p n got mine. rest i p n mine (put_cases put i p got); latest = λ j p lt got. late j p lt (put_cases put j p got) }, g)
+    go (Some l) None due empty_at last with_outcome g = (
+      x,
+      record {
+        here = put.here;
+        own = own;
+        no_last = last;
+        no_reply = with_outcome;
+        others = λ i p n got mine. rest i p n mine (put_cases put i p got);
+        latest = λ j p lt got. late j p lt (put_cases put j p got);
+      },
+      g,
+    )
       where
         rest : (i : ℕ) (p : Stamped) → i ≢ e → p.actor ≡ me → ((i ≡ e) × (x ≡ p)) ⊎ ((i ≢ e) × (slice_get ops i ≡ Some p)) → Over Rests p
         rest i p n mine (inl q) = absurd (n q.0)
@@ -156,7 +176,8 @@ last_if P now None h = tt
 last_if P now (Some reply) h = h
 
 -- an operation that is told an outcome is stamped
-told_stamped : (K : List ℕ) (now me : ℕ) (s : Stamped) (o : Outcome) → now ≡ length K → IsBy K now me → s.actor ≡ me → IsBy K s.first me → s.first ≤ now → Turns (Own K me s.first) s.at o → IsStamped K (with_outcome now o s)
+told_stamped : (K : List ℕ) (now me : ℕ) (s : Stamped) (o : Outcome) → now ≡ length K → IsBy K now me → s.actor ≡ me → IsBy K s.first me → s.first ≤ now
+    → Turns (Own K me s.first) s.at o → IsStamped K (with_outcome now o s)
 told_stamped K now me s o e n own first low t =
     record {
       first_own = by s.first first;
@@ -205,7 +226,9 @@ ended_before Rests K o now low h (inl ended) = inl (go o.last ended h.last_own)
     go (Some k) e g = let within : k ≤ length K = by_within K k o.actor g in omega arith
 
 -- the first numbered move of a call adds its operation
-told_first : (Rests : Type 0) (K : List ℕ) (ops : List Stamped) (me now : ℕ) (a : Actor) (l : Line) (o : Outcome) → now ≡ length K + 1 → Operations Rests K ops → Does now l a.due a.empty_at o → Idle Rests ops me → PointAt l a.due None ⊥ → Told Rests (K ++ me ∷ []) ops (with_operation None (new_operation me a.op now) (with_outcome now o) ops) me (length ops) o.actor
+told_first : (Rests : Type 0) (K : List ℕ) (ops : List Stamped) (me now : ℕ) (a : Actor) (l : Line) (o : Outcome) → now ≡ length K + 1 → Operations Rests K ops
+    → Does now l a.due a.empty_at o → Idle Rests ops me → PointAt l a.due None ⊥
+    → Told Rests (K ++ me ∷ []) ops (with_operation None (new_operation me a.op now) (with_outcome now o) ops) me (length ops) o.actor
 told_first Rests K ops me now a l o e h does idle stands =
     record {
       x = x;
@@ -243,7 +266,9 @@ told_first Rests K ops me now a l o e h does idle stands =
     )
 
 -- a later one changes it
-told_later : (Rests : Type 0) (K : List ℕ) (ops : List Stamped) (me now entry : ℕ) (a : Actor) (l : Line) (o : Outcome) (s : Stamped) → now ≡ length K + 1 → Operations Rests K ops → Does now l a.due a.empty_at o → Busy Rests ops me entry s → PointAt l a.due s.at (Own K me s.first a.empty_at) → Told Rests (K ++ me ∷ []) ops (set ops entry (with_outcome now o s)) me entry o.actor
+told_later : (Rests : Type 0) (K : List ℕ) (ops : List Stamped) (me now entry : ℕ) (a : Actor) (l : Line) (o : Outcome) (s : Stamped) → now ≡ length K + 1
+    → Operations Rests K ops → Does now l a.due a.empty_at o → Busy Rests ops me entry s → PointAt l a.due s.at (Own K me s.first a.empty_at)
+    → Told Rests (K ++ me ∷ []) ops (set ops entry (with_outcome now o s)) me entry o.actor
 told_later Rests K ops me now entry a l o s e h does b stands =
     record {
       x = with_outcome now o s;
@@ -285,7 +310,9 @@ told_later Rests K ops me now entry a l o s e h does b stands =
         (point_at_while l a.due s.at (λ g. (by_more K (me ∷ []) a.empty_at me g.0, g.1)) stands)
 
 -- either of them
-told_move : (Rests : Type 0) (K : List ℕ) (ops : List Stamped) (me now : ℕ) (a : Actor) (l : Line) (o : Outcome) → now ≡ length K + 1 → Operations Rests K ops → Does now l a.due a.empty_at o → (entry : Option ℕ) → OperationAt Rests K ops me (Some l) entry a.due a.empty_at → Told Rests (K ++ me ∷ []) ops (with_operation entry (new_operation me a.op now) (with_outcome now o) ops) me (entry_or entry (length ops)) o.actor
+told_move : (Rests : Type 0) (K : List ℕ) (ops : List Stamped) (me now : ℕ) (a : Actor) (l : Line) (o : Outcome) → now ≡ length K + 1 → Operations Rests K ops
+    → Does now l a.due a.empty_at o → (entry : Option ℕ) → OperationAt Rests K ops me (Some l) entry a.due a.empty_at
+    → Told Rests (K ++ me ∷ []) ops (with_operation entry (new_operation me a.op now) (with_outcome now o) ops) me (entry_or entry (length ops)) o.actor
 told_move Rests K ops me now a l o e h does None k = told_first Rests K ops me now a l o e h does k.0 k.1
 told_move Rests K ops me now a l o e h does (Some entry) k =
     subst (λ s. Told Rests (K ++ me ∷ []) ops (set ops entry (with_outcome now o s)) me entry o.actor)
@@ -293,7 +320,8 @@ told_move Rests K ops me now a l o e h does (Some entry) k =
     (told_later Rests K ops me now entry a l o k.0 e h does k.1 k.2)
 
 -- the actors after one was set: it, or another one as it was
-pub actor_cases : (w : World) (me : ℕ) (a b : Actor) → actor_of w me ≡ Some a → (you : ℕ) (c : Actor) → actor_of (record w { actors = set w.actors (me - 1) b }) you ≡ Some c → ((you ≡ me) × (b ≡ c)) ⊎ ((you ≢ me) × (actor_of w you ≡ Some c))
+pub actor_cases : (w : World) (me : ℕ) (a b : Actor) → actor_of w me ≡ Some a → (you : ℕ) (c : Actor)
+    → actor_of (record w { actors = set w.actors (me - 1) b }) you ≡ Some c → ((you ≡ me) × (b ≡ c)) ⊎ ((you ≢ me) × (actor_of w you ≡ Some c))
 actor_cases w me a b is you c got = go (nat_eq you 0) refl got
   where
     at : (1 ≤ me) × (slice_get w.actors (me - 1) ≡ Some a)
@@ -306,12 +334,15 @@ actor_cases w me a b is you c got = go (nat_eq you 0) refl got
     pick one (inl q) = inl (let i : you - 1 ≡ me - 1 = q.0 in let j : 1 ≤ me = at.0 in omega arith, q.1)
     pick one (inr q) = inr (λ same. q.0 (ap (λ k. k - 1) same), q.1)
 
-    go : (z : Bool) → nat_eq you 0 ≡ z → (if z then None else slice_get (set w.actors (me - 1) b) (you - 1)) ≡ Some c → ((you ≡ me) × (b ≡ c)) ⊎ ((you ≢ me) × ((if z then None else slice_get w.actors (you - 1)) ≡ Some c))
+    go : (z : Bool) → nat_eq you 0 ≡ z → (if z then None else slice_get (set w.actors (me - 1) b) (you - 1)) ≡ Some c
+        → ((you ≡ me) × (b ≡ c)) ⊎ ((you ≢ me) × ((if z then None else slice_get w.actors (you - 1)) ≡ Some c))
     go true e g = absurd (none-some c g)
     go false e g = pick (let other : ¬ (you ≡ 0) = eqb-false you 0 e in omega arith) (put_cases set_at (you - 1) c g)
 
 -- a numbered move keeps what holds
-pub settled_kept : (Rests : Type 0) (K : List ℕ) (w : World) (me : ℕ) (a : Actor) (shared : Shared) (l : Line) (o : Outcome) → StampsInvariant Rests K w → actor_of w me ≡ Some a → OperationAt Rests K w.operations me (Some l) a.entry a.due a.empty_at → Does (w.steps + 1) l a.due a.empty_at o → StampsInvariant Rests (K ++ me ∷ []) (after_outcome w me a shared o)
+pub settled_kept : (Rests : Type 0) (K : List ℕ) (w : World) (me : ℕ) (a : Actor) (shared : Shared) (l : Line) (o : Outcome) → StampsInvariant Rests K w
+    → actor_of w me ≡ Some a → OperationAt Rests K w.operations me (Some l) a.entry a.due a.empty_at → Does (w.steps + 1) l a.due a.empty_at o
+    → StampsInvariant Rests (K ++ me ∷ []) (after_outcome w me a shared o)
 settled_kept Rests K w me a shared l o h is k does =
     record {
       counted = now ∙ sym (length-append K (me ∷ []));
@@ -328,7 +359,9 @@ settled_kept Rests K w me a shared l o h is k does =
     it : Told Rests (K ++ me ∷ []) w.operations opz me (entry_or a.entry (length w.operations)) o.actor
     it = told_move Rests K w.operations me (w.steps + 1) a l o now h.operations does a.entry k
 
-    pick : (you : ℕ) (c : Actor) → ((you ≡ me) × (record o.actor { entry = Some (entry_or a.entry (length w.operations)) } ≡ c)) ⊎ ((you ≢ me) × (actor_of w you ≡ Some c)) → OperationAt Rests (K ++ me ∷ []) opz you c.line c.entry c.due c.empty_at
+    pick : (you : ℕ) (c : Actor)
+        → ((you ≡ me) × (record o.actor { entry = Some (entry_or a.entry (length w.operations)) } ≡ c)) ⊎ ((you ≢ me) × (actor_of w you ≡ Some c))
+        → OperationAt Rests (K ++ me ∷ []) opz you c.line c.entry c.due c.empty_at
     pick you c (inl q) =
         subst (λ m. OperationAt Rests (K ++ me ∷ []) opz m c.line c.entry c.due c.empty_at) (sym q.0)
         (subst (λ z. OperationAt Rests (K ++ me ∷ []) opz me z.line z.entry z.due z.empty_at) q.1 it.knows)

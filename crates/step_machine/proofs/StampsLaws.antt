@@ -78,7 +78,8 @@ apart K o p h g pre n e f = go (pre.1 (by_one K n o.actor p.actor (subst (λ z. 
     go (inr left) = none-some n (sym left.1.no_place ∙ e)
 
 -- so no two operations of a list share one
-all_apart : (K : List ℕ) (ops : List Stamped) → ((i : ℕ) (o : Stamped) → slice_get ops i ≡ Some o → IsStamped K o) → ((i j : ℕ) (o p : Stamped) → i < j → slice_get ops i ≡ Some o → slice_get ops j ≡ Some p → Precedes (Unit {0}) o p) → AreApart ops
+all_apart : (K : List ℕ) (ops : List Stamped) → ((i : ℕ) (o : Stamped) → slice_get ops i ≡ Some o → IsStamped K o)
+    → ((i j : ℕ) (o p : Stamped) → i < j → slice_get ops i ≡ Some o → slice_get ops j ≡ Some p → Precedes (Unit {0}) o p) → AreApart ops
 all_apart K [] each pairs = tt
 all_apart K (o ∷ os) each pairs =
     (go o.at refl, all_apart K os (λ i p got. each (suc i) p got) (λ i j p q lt got more. pairs (suc i) (suc j) p q (omega arith) got more))

@@ -1,7 +1,10 @@
 -- What each line knows of its operation, and that each step and each giving up keeps it.
 use Rattle.std.proofs.Common.{◌≡◌, ℕ, ◌+◌, Bool, true, false, nat_eq, nat_lt, if◌then◌else◌, Option, Some, None, IfSome, refl}
 use Rattle.std.specs.Prelude.{IsSome}
-use Rattle.step_machine.specs.Below.{is_null, same_ref, Kind, TwoLock, NonBlocking, Line, N1, N2, N4, N5, F1, F2, F3, E3, E5, E7, E9, E17, D2, D4, D5, D12, D13, A3, A5, A6, A7, B1, B3, B4, B5, B6, S1, S3, S4, S6, S8, S9, is_shut, null, left, left_with_node, Reply, Done, Value, Empty, Refused, Setup, Actor, Outcome, Found, action, outcome, goes, ends, effect, sets_aside, fills_hand, empties_hand, to_pocket, with_node, freed, unlocked, busy_or, gives_up}
+use Rattle.step_machine.specs.Below.{is_null, same_ref, Kind, TwoLock, NonBlocking, Line, N1, N2, N4, N5, F1, F2, F3, E3, E5, E7, E9, E17, D2, D4, D5}
+use Rattle.step_machine.specs.Below.{D12, D13, A3, A5, A6, A7, B1, B3, B4, B5, B6, S1, S3, S4, S6, S8, S9, is_shut, null, left, left_with_node, Reply}
+use Rattle.step_machine.specs.Below.{Done, Value, Empty, Refused, Setup, Actor, Outcome, Found, action, outcome, goes, ends, effect, sets_aside}
+use Rattle.step_machine.specs.Below.{fills_hand, empties_hand, to_pocket, with_node, freed, unlocked, busy_or, gives_up}
 use Rattle.step_machine.specs.Machine.{latest_point}
 use Rattle.step_machine.proofs.Choices.{both}
 
@@ -87,7 +90,8 @@ freed_turned Q k now (Some reply) a at n p h = ends_turned Q now reply a at n p 
 aside_turned : {Q : ℕ → Type 0} {at : Option ℕ} (o : Outcome) → Turns Q at o → Turns Q at (sets_aside o)
 aside_turned o t = record { place = t.place; goes_on = t.goes_on }
 
-unlocked_turned : (Q : ℕ → Type 0) (now : ℕ) (due : Option Reply) (a : Actor) (at : Option ℕ) → Q now → IfSome at Q → PointFits due at (Q a.empty_at) → PointFits a.due at (Q a.empty_at) → Turns Q at (unlocked now due a)
+unlocked_turned : (Q : ℕ → Type 0) (now : ℕ) (due : Option Reply) (a : Actor) (at : Option ℕ) → Q now → IfSome at Q → PointFits due at (Q a.empty_at)
+    → PointFits a.due at (Q a.empty_at) → Turns Q at (unlocked now due a)
 unlocked_turned Q now None a at n p h g = record { place = p; goes_on = g }
 unlocked_turned Q now (Some (Value v)) a at n p h g = record { place = p; goes_on = g }
 unlocked_turned Q now (Some Done) a at n p h g = ends_turned Q now Done a at n p h
@@ -103,7 +107,8 @@ pushed_turned Q true now a at n = record { place = n; goes_on = refl }
 pushed_turned Q false now a at n = record { place = n; goes_on = refl }
 
 -- the outcome of each line
-pub turned : (Q : ℕ → Type 0) (s : Setup) (now me : ℕ) (a : Actor) (l : Line) (c : Found (action s me a l)) (at : Option ℕ) → Q now → IfSome at Q → PointAt l a.due at (Q a.empty_at) → Turns Q at (outcome s now me a l c)
+pub turned : (Q : ℕ → Type 0) (s : Setup) (now me : ℕ) (a : Actor) (l : Line) (c : Found (action s me a l)) (at : Option ℕ) → Q now → IfSome at Q
+    → PointAt l a.due at (Q a.empty_at) → Turns Q at (outcome s now me a l c)
 turned Q s now me a N2 c at n p h =
     both (Turns Q at) (is_null c)
     (both (Turns Q at) (nat_lt a.f s.size) record { place = p; goes_on = h } record { place = n; goes_on = refl })
@@ -122,7 +127,9 @@ turned Q s now me a E3 c at n p h =
     both (Turns Q at) (nat_eq c.count s.limit) record { place = n; goes_on = refl } record { place = p; goes_on = h }
 turned Q s now me a E7 c at n p h =
     both (Turns Q at) (same_ref c a.tail)
-    (both (Turns Q at) (is_null a.next) record { place = p; goes_on = h } (both (Turns Q at) (is_shut s.bits a.next) record { place = n; goes_on = refl } (both (Turns Q at) (nat_eq a.tail.count s.limit) record { place = n; goes_on = refl } record { place = p; goes_on = h })))
+    (both (Turns Q at) (is_null a.next) record { place = p; goes_on = h } (both (Turns Q at) (is_shut s.bits a.next) record
+    { place = n; goes_on = refl } (both (Turns Q at) (nat_eq a.tail.count s.limit) record { place = n; goes_on = refl } record
+    { place = p; goes_on = h })))
     record { place = p; goes_on = h }
 turned Q s now me a E9 c at n p h =
     both (Turns Q at) (same_ref c a.next)
@@ -132,7 +139,9 @@ turned Q s now me a D4 c at n p h = record { place = p; goes_on = (h, n) }
 turned Q s now me a D5 c at n p h =
     both (Turns Q at) (same_ref c a.head)
     (both (Turns Q at) (nat_eq a.head.node a.tail.node)
-    (both (Turns Q at) (is_null a.next) record { place = h.1; goes_on = refl } (both (Turns Q at) (is_shut s.bits a.next) record { place = n; goes_on = refl } (both (Turns Q at) (nat_eq a.tail.count s.limit) record { place = n; goes_on = refl } record { place = p; goes_on = h.0 })))
+    (both (Turns Q at) (is_null a.next) record { place = h.1; goes_on = refl }
+    (both (Turns Q at) (is_shut s.bits a.next) record { place = n; goes_on = refl }
+    (both (Turns Q at) (nat_eq a.tail.count s.limit) record { place = n; goes_on = refl } record { place = p; goes_on = h.0 })))
     record { place = p; goes_on = h.0 })
     record { place = p; goes_on = h.0 }
 turned Q s now me a D12 c at n p h =
@@ -144,14 +153,17 @@ turned Q s now me a A5 c at n p h = both (Turns Q at) (same_ref c null) record {
 turned Q s now me a A7 c at n p h = left_with_node_turned Q now a.due a at n p h
 turned Q s now me a S3 c at n p h =
     both (Turns Q at) (same_ref c a.tail)
-    (both (Turns Q at) (is_null a.next) record { place = p; goes_on = h } (both (Turns Q at) (is_shut s.bits a.next) record { place = n; goes_on = refl } (both (Turns Q at) (nat_eq a.tail.count s.limit) record { place = n; goes_on = refl } record { place = p; goes_on = h })))
+    (both (Turns Q at) (is_null a.next) record { place = p; goes_on = h } (both (Turns Q at) (is_shut s.bits a.next) record
+    { place = n; goes_on = refl } (both (Turns Q at) (nat_eq a.tail.count s.limit) record { place = n; goes_on = refl } record
+    { place = p; goes_on = h })))
     record { place = p; goes_on = h }
 turned Q s now me a S4 c at n p h = both (Turns Q at) (same_ref c a.next) record { place = n; goes_on = refl } record { place = p; goes_on = h }
 turned Q s now me a S6 c at n p h = both (Turns Q at) (nat_eq c 0) record { place = p; goes_on = h } record { place = p; goes_on = h }
 turned Q s now me a S8 c at n p h = both (Turns Q at) (same_ref c null) record { place = n; goes_on = refl } record { place = p; goes_on = h }
 turned Q s now me a S9 c at n p h = left_turned Q now a.due a at n p h
 turned Q s now me a B1 c at n p h = both (Turns Q at) (nat_eq c 0) record { place = p; goes_on = h } record { place = p; goes_on = h }
-turned Q s now me a B3 c at n p h = both (Turns Q at) (is_null c) record { place = p; goes_on = (h, n) } (both (Turns Q at) (is_shut s.bits c) record { place = p; goes_on = h } record { place = p; goes_on = h })
+turned Q s now me a B3 c at n p h = both (Turns Q at) (is_null c) record { place = p; goes_on = (h, n) }
+    (both (Turns Q at) (is_shut s.bits c) record { place = p; goes_on = h } record { place = p; goes_on = h })
 turned Q s now me a B4 c at n p h =
     both (Turns Q at) (nat_eq a.head.count s.limit) record { place = p; goes_on = h } record { place = p; goes_on = h }
 turned Q s now me a B5 c at n p h = record { place = n; goes_on = refl }

@@ -1,5 +1,6 @@
 -- Each move keeps what holds of the operations and of the actors, and so does each list of moves.
-use Rattle.std.proofs.Common.{◌≡◌, ◌≢◌, ℕ, zero, suc, ◌+◌, ◌-◌, ◌⊎◌, inl, inr, true, List, [], ◌∷◌, ◌++◌, map, replicate, Option, Some, None, IfSome, refl, sym, subst, ap, ◌∙◌, append_assoc, append-nil}
+use Rattle.std.proofs.Common.{◌≡◌, ◌≢◌, ℕ, zero, suc, ◌+◌, ◌-◌, ◌⊎◌, inl, inr, true, List, [], ◌∷◌, ◌++◌, map, replicate, Option, Some, None, IfSome}
+use Rattle.std.proofs.Common.{refl, sym, subst, ap, ◌∙◌, append_assoc, append-nil}
 use Rattle.std.specs.Prelude.{slice_get}
 use Rattle.std.specs.List.{AllByRecursion}
 use Rattle.std.proofs.lemmas.Option.{none-some, same_Some, IfSome_then}
@@ -27,7 +28,8 @@ May Rests (made m) = Unit {0}
 May Rests (Rest me) = Rests
 
 -- a move without a number, of one actor, keeps what holds
-with_actor_kept : (Rests : Type 0) (K : List ℕ) (w : World) (me : ℕ) (a b : Actor) → StampsInvariant Rests K w → actor_of w me ≡ Some a → OperationAt Rests K w.operations me b.line b.entry b.due b.empty_at → StampsInvariant Rests K (with_actor w me b)
+with_actor_kept : (Rests : Type 0) (K : List ℕ) (w : World) (me : ℕ) (a b : Actor) → StampsInvariant Rests K w → actor_of w me ≡ Some a
+    → OperationAt Rests K w.operations me b.line b.entry b.due b.empty_at → StampsInvariant Rests K (with_actor w me b)
 with_actor_kept Rests K w me a b h is k =
     record { counted = h.counted; operations = h.operations; actors = λ you c got. pick you c (actor_cases w me a b is you c got) }
   where
@@ -42,7 +44,8 @@ abbrev KnowsOf : (Rests : Type 0) (K : List ℕ) (ops : List Stamped) (me : ℕ)
 KnowsOf Rests K ops me a = OperationAt Rests K ops me a.line a.entry a.due a.empty_at
 
 -- an actor that begins a call has no operation for it yet
-from_pocket_knows : (Rests : Type 0) (K : List ℕ) (ops : List Stamped) (me : ℕ) (l : Line) (held : Option Held) (a : Actor) → KnowsOf Rests K ops me a → ((h : Held) → KnowsOf Rests K ops me (from_pocket l (Some h) a)) → KnowsOf Rests K ops me (from_pocket l held a)
+from_pocket_knows : (Rests : Type 0) (K : List ℕ) (ops : List Stamped) (me : ℕ) (l : Line) (held : Option Held) (a : Actor) → KnowsOf Rests K ops me a
+    → ((h : Held) → KnowsOf Rests K ops me (from_pocket l (Some h) a)) → KnowsOf Rests K ops me (from_pocket l held a)
 from_pocket_knows Rests K ops me l None a k each = k
 from_pocket_knows Rests K ops me l (Some h) a k each = each h
 
@@ -55,7 +58,9 @@ begun_knows Rests K ops me TwoLock Shut a over = (over, refl)
 begun_knows Rests K ops me NonBlocking Shut a over = (over, refl)
 
 -- an operation that its actor leaves before its node is used has no place
-left_over : (Rests : Type 0) (K : List ℕ) (ops : List Stamped) (me : ℕ) (due : Option Reply) (empty_at : ℕ) → Rests → (l : Line) → ((at : Option ℕ) (Noted : Type 0) → PointAt l due at Noted → at ≡ None) → (entry : Option ℕ) → OperationAt Rests K ops me (Some l) entry due empty_at → Idle Rests ops me
+left_over : (Rests : Type 0) (K : List ℕ) (ops : List Stamped) (me : ℕ) (due : Option Reply) (empty_at : ℕ) → Rests → (l : Line)
+    → ((at : Option ℕ) (Noted : Type 0) → PointAt l due at Noted → at ≡ None) → (entry : Option ℕ) → OperationAt Rests K ops me (Some l) entry due empty_at
+    → Idle Rests ops me
 left_over Rests K ops me due empty_at rest l none None k = k.0
 left_over Rests K ops me due empty_at rest l none (Some e) k = λ i p got own. pick i p got own (same_or_not i e)
   where
@@ -67,7 +72,8 @@ left_over Rests K ops me due empty_at rest l none (Some e) k = λ i p got own. p
         subst (λ z. Over Rests z) (same_Some k.0 p (sym k.1.here ∙ ap (λ j. slice_get ops j) (sym q) ∙ got)) (inr (rest, left))
     pick i p got own (inr n) = k.1.others i p n got own
 
-rested_kept : (Rests : Type 0) (K : List ℕ) (w : World) (me : ℕ) (a : Actor) (l : Line) → Rests → StampsInvariant Rests K w → actor_of w me ≡ Some a → may_rest l ≡ true → OperationAt Rests K w.operations me (Some l) a.entry a.due a.empty_at → StampsInvariant Rests K (with_actor w me (rested a))
+rested_kept : (Rests : Type 0) (K : List ℕ) (w : World) (me : ℕ) (a : Actor) (l : Line) → Rests → StampsInvariant Rests K w → actor_of w me ≡ Some a
+    → may_rest l ≡ true → OperationAt Rests K w.operations me (Some l) a.entry a.due a.empty_at → StampsInvariant Rests K (with_actor w me (rested a))
 rested_kept Rests K w me a E2 rest h is may k =
     with_actor_kept Rests K w me a (rested a) h is
     (left_over Rests K w.operations me a.due a.empty_at rest E2 (λ at Noted stands. stands) a.entry k)
@@ -96,7 +102,8 @@ next_kept Rests K w m may h =
     knows : (me : ℕ) (a : Actor) (l : Option Line) → actor_of w me ≡ Some a → a.line ≡ l → OperationAt Rests K w.operations me l a.entry a.due a.empty_at
     knows me a l is at = subst (λ x. OperationAt Rests K w.operations me x a.entry a.due a.empty_at) at (h.actors me a is)
 
-run_on_kept : (Rests : Type 0) (K L : List ℕ) (more : World → Option World) (o : Option World) → IfSome o (StampsInvariant Rests K) → ((v : World) → StampsInvariant Rests K v → IfSome (more v) (StampsInvariant Rests L)) → IfSome (run_on more o) (StampsInvariant Rests L)
+run_on_kept : (Rests : Type 0) (K L : List ℕ) (more : World → Option World) (o : Option World) → IfSome o (StampsInvariant Rests K)
+    → ((v : World) → StampsInvariant Rests K v → IfSome (more v) (StampsInvariant Rests L)) → IfSome (run_on more o) (StampsInvariant Rests L)
 run_on_kept Rests K L more None h each = tt
 run_on_kept Rests K L more (Some v) h each = each v h
 

@@ -2,7 +2,10 @@
 -- steps of the free list's lines, and each giving up.
 use Rattle.std.proofs.Common.{◌≡◌, ◌≢◌, ℕ, zero, suc, ◌+◌, ◌≤◌, true, false, nat_eq, nat_lt, List, [], ◌∷◌, ◌++◌, length, Option, Some, None, IfSome, refl, sym, ap, ◌∙◌, subst, arith, ◌⊎◌, inl, inr}
 use Rattle.std.proofs.lemmas.Bool.{eqb-true, true≢false}
-use Rattle.step_machine.specs.Below.{Ref, ref, is_null, same_ref, Kind, TwoLock, NonBlocking, Line, N1, N2, N3, N4, N5, F1, F2, F3, E5, D2, A3, B1, S1, S6, OfFree, Refusal, NoNode, WornOut, Busy, Closed, Deq, Shut, Reply, Done, Value, Refused, leaves, Node, Actor, Outcome, Setup, Shared, node_at, put, performed, found, Fresh, Free, Head, Next, action, outcome, raised, reserved_node, goes, freed, sets_aside, fills_hand, empties_hand, to_pocket, with_node, busy_or, gives_up}
+use Rattle.step_machine.specs.Below.{Ref, ref, is_null, same_ref, Kind, TwoLock, NonBlocking, Line, N1, N2, N3, N4, N5, F1, F2, F3, E5, D2, A3, B1}
+use Rattle.step_machine.specs.Below.{S1, S6, OfFree, Refusal, NoNode, WornOut, Busy, Closed, Deq, Shut, Reply, Done, Value, Refused, leaves, Node}
+use Rattle.step_machine.specs.Below.{Actor, Outcome, Setup, Shared, node_at, put, performed, found, Fresh, Free, Head, Next, action, outcome, raised}
+use Rattle.step_machine.specs.Below.{reserved_node, goes, freed, sets_aside, fills_hand, empties_hand, to_pocket, with_node, busy_or, gives_up}
 use Rattle.counted_ref.proofs.Words.{same_ref-true}
 use Rattle.step_machine.specs.Completion.{decided_reply, completed_reply}
 use Rattle.step_machine.specs.Places.{IsEnd, one_if, times}
@@ -10,7 +13,8 @@ use Rattle.step_machine.specs.Chains.{last_node, queue_values, is_shut_chain}
 use Rattle.step_machine.proofs.Choices.{either, tried}
 use Rattle.step_machine.proofs.Chains.{last_within, last_times, last_linked, null_times, free_goes_on, null_open, closed_shut}
 use Rattle.step_machine.proofs.Counting.{holds, asides, holds_hand, holds_none, holds_own}
-use Rattle.step_machine.proofs.Effects.{Shape, Turn, Took, others_stay, written, next_keeps_value, not_linked, last_there, turn_words, turn_aside, turn_claim, turn_take, turn_giveback, turn_node, turn_link, turn_shut, turn_pop, with_node as with_new}
+use Rattle.step_machine.proofs.Effects.{Shape, Turn, Took, others_stay, written, next_keeps_value, not_linked, last_there, turn_words, turn_aside}
+use Rattle.step_machine.proofs.Effects.{turn_claim, turn_take, turn_giveback, turn_node, turn_link, turn_shut, turn_pop, with_node as with_new}
 use Rattle.step_machine.proofs.Fixed.{FixedAt, Pushes, DecidedFreeing}
 use Rattle.step_machine.proofs.LinearizationSteps.{LinearizationStep, KeepsReply, stutters, refused, closed, pushed, popped, shut, raised_node, raised_count}
 use Rattle.step_machine.proofs.StaleReferences.{Rises}
@@ -45,7 +49,9 @@ module _ (q : Queue) (b : Before q) where
   Means m' o = LinearizationStep s.bits Z me now m m' (front ∷ rest) (front ∷ rest) a o
 
   -- no word of the queue changes
-  leaves_queue : (m' : Shared) (o : Outcome) (free' : List ℕ) → QueueStays m m' (front ∷ rest) → Turn s.bits m m' (front ∷ rest) free (front ∷ rest) free' a o.actor o.aside → IfSome o.aside (λ k. (1 ≤ k) × (1 ≤ holds k a)) → Rises m.free m'.free → Marked m' o.actor → Learns m' o → OwnsAt m' me o.actor.line → Means m' o → Goes m' o
+  leaves_queue : (m' : Shared) (o : Outcome) (free' : List ℕ) → QueueStays m m' (front ∷ rest)
+      → Turn s.bits m m' (front ∷ rest) free (front ∷ rest) free' a o.actor o.aside → IfSome o.aside (λ k. (1 ≤ k) × (1 ≤ holds k a)) → Rises m.free m'.free
+      → Marked m' o.actor → Learns m' o → OwnsAt m' me o.actor.line → Means m' o → Goes m' o
   leaves_queue m' o free' stays turn own up marks knows owns account =
       record {
         front' = front;
@@ -66,7 +72,9 @@ module _ (q : Queue) (b : Before q) where
   none_aside : (o : Outcome) → o.aside ≡ None → IfSome o.aside (λ k. (1 ≤ k) × (1 ≤ holds k a))
   none_aside o none = subst (λ x. IfSome x (λ k. (1 ≤ k) × (1 ≤ holds k a))) (sym none) tt
 
-  turn_none : (m' : Shared) (o : Outcome) (front' : ℕ) (rest' free' : List ℕ) → o.aside ≡ None → Turn s.bits m m' (front ∷ rest) free (front' ∷ rest') free' a o.actor None → Turn s.bits m m' (front ∷ rest) free (front' ∷ rest') free' a o.actor o.aside
+  turn_none : (m' : Shared) (o : Outcome) (front' : ℕ) (rest' free' : List ℕ) → o.aside ≡ None
+      → Turn s.bits m m' (front ∷ rest) free (front' ∷ rest') free' a o.actor None
+      → Turn s.bits m m' (front ∷ rest) free (front' ∷ rest') free' a o.actor o.aside
   turn_none m' o front' rest' free' none = subst (λ x. Turn s.bits m m' (front ∷ rest) free (front' ∷ rest') free' a o.actor x) (sym none)
 
   -- Free and Fresh are no words of the queue
@@ -76,21 +84,27 @@ module _ (q : Queue) (b : Before q) where
   -- an outcome in which the actor holds what it held, and no word is written
   pub still : (o : Outcome) → ((n : ℕ) → holds n o.actor ≡ holds n a) → o.aside ≡ None → Marked m o.actor → Learns m o → OwnsAt m me o.actor.line → Means m o → Goes m o
   still o same none =
-      leaves_queue m o free (queue_stays m.free m.fresh) (turn_none m o front rest free none (turn_words s.bits m m E (front ∷ rest) free a o.actor shape refl refl refl refl same)) (none_aside o none) (inl refl)
+      leaves_queue m o free (queue_stays m.free m.fresh) (turn_none m o front rest free none
+      (turn_words s.bits m m E (front ∷ rest) free a o.actor shape refl refl refl refl same)) (none_aside o none) (inl refl)
 
   -- the call goes on, and has earned nothing
   pub on : (o : Outcome) → decided_reply a.due ≡ None → o.at ≡ None → ((n : ℕ) → holds n o.actor ≡ holds n a) → o.aside ≡ None → Marked m o.actor → Learns m o → OwnsAt m me o.actor.line → Goes m o
   on o u at same none marks knows owns = still o same none marks knows owns (stutters refl refl refl at (inl u))
 
   -- the call ends with a refusal
-  pub refuses : (o : Outcome) (refusal : Refusal) → decided_reply a.due ≡ None → o.at ≡ Some now → o.reply ≡ Some (Refused refusal) → leaves refusal ≡ true → ((n : ℕ) → holds n o.actor ≡ holds n a) → o.aside ≡ None → Marked m o.actor → o.actor.line ≡ None → OwnsAt m me None → Goes m o
+  pub refuses : (o : Outcome) (refusal : Refusal) → decided_reply a.due ≡ None → o.at ≡ Some now → o.reply ≡ Some (Refused refusal) → leaves refusal ≡ true
+      → ((n : ℕ) → holds n o.actor ≡ holds n a) → o.aside ≡ None → Marked m o.actor → o.actor.line ≡ None → OwnsAt m me None → Goes m o
   refuses o refusal u at reply ok same none marks over owns =
-      still o same none marks (subst (Knows q (Found s.bits m (front ∷ rest) now) s m (last_node (front ∷ rest)) o.actor) (sym over) tt) (subst (OwnsAt m me) (sym over) owns) (refused refusal refl refl refl at reply ok u)
+      still o same none marks (subst (Knows q (Found s.bits m (front ∷ rest) now) s m (last_node (front ∷ rest)) o.actor) (sym over) tt)
+      (subst (OwnsAt m me) (sym over) owns) (refused refusal refl refl refl at reply ok u)
 
   -- so it does since the queue is shut, to a pop where it has no value
-  pub finds_shut : (o : Outcome) → decided_reply a.due ≡ None → o.at ≡ Some now → o.reply ≡ Some (Refused Closed) → is_shut_chain s.bits m (front ∷ rest) ≡ true → (a.op ≡ Deq → queue_values m (front ∷ rest) ≡ []) → ((n : ℕ) → holds n o.actor ≡ holds n a) → o.aside ≡ None → Marked m o.actor → o.actor.line ≡ None → OwnsAt m me None → Goes m o
+  pub finds_shut : (o : Outcome) → decided_reply a.due ≡ None → o.at ≡ Some now → o.reply ≡ Some (Refused Closed) → is_shut_chain s.bits m (front ∷ rest) ≡ true
+      → (a.op ≡ Deq → queue_values m (front ∷ rest) ≡ []) → ((n : ℕ) → holds n o.actor ≡ holds n a) → o.aside ≡ None → Marked m o.actor → o.actor.line ≡ None
+      → OwnsAt m me None → Goes m o
   finds_shut o u at reply is_shut no_values same none marks over owns =
-      still o same none marks (subst (Knows q (Found s.bits m (front ∷ rest) now) s m (last_node (front ∷ rest)) o.actor) (sym over) tt) (subst (OwnsAt m me) (sym over) owns) (closed refl refl refl at reply is_shut no_values u)
+      still o same none marks (subst (Knows q (Found s.bits m (front ∷ rest) now) s m (last_node (front ∷ rest)) o.actor) (sym over) tt)
+      (subst (OwnsAt m me) (sym over) owns) (closed refl refl refl at reply is_shut no_values u)
 
   -- the node in hand is in the hand once
   own : a.holds ≡ true → a.pocket ≡ None → 1 ≤ holds a.node a
@@ -107,27 +121,35 @@ module _ (q : Queue) (b : Before q) where
       omega (arith, holds_hand n c g r, holds_none n a h p, at)
 
   -- the node in hand is set aside
-  aside : (o : Outcome) → a.holds ≡ true → a.pocket ≡ None → 1 ≤ a.node → o.actor.holds ≡ false → o.actor.pocket ≡ None → o.aside ≡ Some a.node → Learns m o → OwnsAt m me o.actor.line → o.at ≡ None → KeepsReply a o → Goes m o
+  aside : (o : Outcome) → a.holds ≡ true → a.pocket ≡ None → 1 ≤ a.node → o.actor.holds ≡ false → o.actor.pocket ≡ None → o.aside ≡ Some a.node → Learns m o
+      → OwnsAt m me o.actor.line → o.at ≡ None → KeepsReply a o → Goes m o
   aside o h p some g r e knows owns at keeps =
       leaves_queue m o free (queue_stays m.free m.fresh)
       (subst (λ x. Turn s.bits m m (front ∷ rest) free (front ∷ rest) free a o.actor x) (sym e) (turn_aside s.bits m E (front ∷ rest) free a o.actor a.node shape (let_go o.actor h p g r)))
       (subst (λ x. IfSome x (λ k. (1 ≤ k) × (1 ≤ holds k a))) (sym e) (some, own h p)) (inl refl) (no_marks m o.actor g r) knows owns (stutters refl refl refl at keeps)
 
-  aside_freed : (kind : Kind) (due : Option Reply) (top : Ref) → a.due ≡ due → DecidedFreeing due → a.holds ≡ true → a.pocket ≡ None → 1 ≤ a.node → OwnsAt m me None → Goes m (sets_aside (freed kind now due (record a { top = top })))
+  aside_freed : (kind : Kind) (due : Option Reply) (top : Ref) → a.due ≡ due → DecidedFreeing due → a.holds ≡ true → a.pocket ≡ None → 1 ≤ a.node
+      → OwnsAt m me None → Goes m (sets_aside (freed kind now due (record a { top = top })))
   aside_freed TwoLock None top d f h p some g = aside _ h p some refl p refl tt g refl (inr (λ n. refl))
   aside_freed NonBlocking None top d f h p some g = aside _ h p some refl p refl tt g refl (inr (λ n. refl))
   aside_freed kind (Some (Value v)) top d f h p some g = aside _ h p some refl p refl tt g refl (inr (λ n. sym (ap decided_reply d)))
   aside_freed kind _ top d f h p some g = absurd f
 
   -- the node in hand goes before the free ones
-  gives_back : (o : Outcome) → a.holds ≡ true → a.pocket ≡ None → 1 ≤ a.node → m.free ≡ a.top → a.top.count ≢ s.limit → next_of m a.node ≡ ref a.top.node a.mark → o.actor.holds ≡ false → o.actor.pocket ≡ None → o.aside ≡ None → Learns (put Free (raised s a.top a.node) m) o → OwnsAt m me o.actor.line → o.at ≡ None → KeepsReply a o → Goes (put Free (raised s a.top a.node) m) o
+  gives_back : (o : Outcome) → a.holds ≡ true → a.pocket ≡ None → 1 ≤ a.node → m.free ≡ a.top → a.top.count ≢ s.limit → next_of m a.node ≡ ref a.top.node a.mark
+      → o.actor.holds ≡ false → o.actor.pocket ≡ None → o.aside ≡ None → Learns (put Free (raised s a.top a.node) m) o → OwnsAt m me o.actor.line → o.at ≡ None
+      → KeepsReply a o → Goes (put Free (raised s a.top a.node) m) o
   gives_back o h p some was room leads g r none knows owns no_at keeps =
       leaves_queue (put Free (raised s a.top a.node) m) o (a.node ∷ free) (queue_stays (raised s a.top a.node) m.fresh)
       (turn_none (put Free (raised s a.top a.node) m) o front rest (a.node ∷ free) none
-      (turn_giveback s.bits m E (front ∷ rest) free a o.actor (raised s a.top a.node) a.node shape some low (ap (λ (x : Ref). x.node) leads ∙ sym (ap (λ (x : Ref). x.node) was)) (raised_node s a.top a.node hand_no_end room) (let_go o.actor h p g r)))
+      (turn_giveback s.bits m E (front ∷ rest) free a o.actor (raised s a.top a.node) a.node shape some low
+      (ap (λ (x : Ref). x.node) leads ∙ sym (ap (λ (x : Ref). x.node) was)) (raised_node s a.top a.node hand_no_end room)
+      (let_go o.actor h p g r)))
       (none_aside o none) (raised_rises s m.free a.top a.node hand_no_end was room) (no_marks (put Free (raised s a.top a.node) m) o.actor g r) knows owns (stutters refl refl refl no_at keeps)
 
-  gives_back_freed : (kind : Kind) (due : Option Reply) → a.due ≡ due → DecidedFreeing due → a.holds ≡ true → a.pocket ≡ None → 1 ≤ a.node → m.free ≡ a.top → a.top.count ≢ s.limit → next_of m a.node ≡ ref a.top.node a.mark → OwnsAt m me None → Goes (put Free (raised s a.top a.node) m) (freed kind now due (empties_hand a))
+  gives_back_freed : (kind : Kind) (due : Option Reply) → a.due ≡ due → DecidedFreeing due → a.holds ≡ true → a.pocket ≡ None → 1 ≤ a.node → m.free ≡ a.top
+      → a.top.count ≢ s.limit → next_of m a.node ≡ ref a.top.node a.mark → OwnsAt m me None
+      → Goes (put Free (raised s a.top a.node) m) (freed kind now due (empties_hand a))
   gives_back_freed TwoLock None d f h p some was room leads g = gives_back _ h p some was room leads refl p refl tt g refl (inr (λ n. refl))
   gives_back_freed NonBlocking None d f h p some was room leads g = gives_back _ h p some was room leads refl p refl tt g refl (inr (λ n. refl))
   gives_back_freed kind (Some (Value v)) d f h p some was room leads g = gives_back _ h p some was room leads refl p refl tt g refl (inr (λ n. sym (ap decided_reply d)))
@@ -158,12 +180,15 @@ module _ (q : Queue) (b : Before q) where
       go n one (inr d) = ap (λ (y : Node). y.next.count) (others_stay m.nodes k n x some one d)
 
   -- so the queue's chain keeps its end where the node in hand is written
-  pub hand_flag : (x : Node) → a.holds ≡ true → a.pocket ≡ None → 1 ≤ a.node → x.next.count ≡ (next_of m a.node).count → is_shut_chain s.bits (with_new m a.node x) (front ∷ rest) ≡ is_shut_chain s.bits m (front ∷ rest)
+  pub hand_flag : (x : Node) → a.holds ≡ true → a.pocket ≡ None → 1 ≤ a.node → x.next.count ≡ (next_of m a.node).count
+      → is_shut_chain s.bits (with_new m a.node x) (front ∷ rest) ≡ is_shut_chain s.bits m (front ∷ rest)
   hand_flag x h p some count =
       ap (λ (n : Node). nat_eq n.next.node (reserved_node s.bits)) ((node_stays a.node x some low (own h p) count).nodes (last_node (front ∷ rest)) (last_times front rest))
 
   -- the node in hand is written, and its count stays; it may be set aside
-  writes_any : (o : Outcome) (x : Node) → a.holds ≡ true → a.pocket ≡ None → 1 ≤ a.node → x.next.count ≡ (next_of m a.node).count → ((n : ℕ) → holds n o.actor + asides n o.aside ≡ holds n a) → IfSome o.aside (λ k. (1 ≤ k) × (1 ≤ holds k a)) → Marked (with_new m a.node x) o.actor → Learns (with_new m a.node x) o → OwnsAt m me o.actor.line → Means (with_new m a.node x) o → Goes (with_new m a.node x) o
+  writes_any : (o : Outcome) (x : Node) → a.holds ≡ true → a.pocket ≡ None → 1 ≤ a.node → x.next.count ≡ (next_of m a.node).count
+      → ((n : ℕ) → holds n o.actor + asides n o.aside ≡ holds n a) → IfSome o.aside (λ k. (1 ≤ k) × (1 ≤ holds k a)) → Marked (with_new m a.node x) o.actor
+      → Learns (with_new m a.node x) o → OwnsAt m me o.actor.line → Means (with_new m a.node x) o → Goes (with_new m a.node x) o
   writes_any o x h p some count away kept =
       leaves_queue (with_new m a.node x) o free (node_stays a.node x some low (own h p) count)
       (record {
@@ -178,10 +203,17 @@ module _ (q : Queue) (b : Before q) where
       t = turn_node s.bits m E (front ∷ rest) free a a a.node x shape mine some (own h p) (λ n. refl)
 
   -- it stays in the hand
-  pub writes : (o : Outcome) (x : Node) → a.holds ≡ true → a.pocket ≡ None → 1 ≤ a.node → x.next.count ≡ (next_of m a.node).count → o.actor.holds ≡ true → o.actor.pocket ≡ None → o.actor.node ≡ a.node → o.actor.mark ≡ x.next.count → o.aside ≡ None → Learns (with_new m a.node x) o → OwnsAt m me o.actor.line → o.at ≡ None → KeepsReply a o → Goes (with_new m a.node x) o
+  pub writes : (o : Outcome) (x : Node) → a.holds ≡ true → a.pocket ≡ None → 1 ≤ a.node → x.next.count ≡ (next_of m a.node).count → o.actor.holds ≡ true
+      → o.actor.pocket ≡ None → o.actor.node ≡ a.node → o.actor.mark ≡ x.next.count → o.aside ≡ None → Learns (with_new m a.node x) o → OwnsAt m me o.actor.line
+      → o.at ≡ None → KeepsReply a o → Goes (with_new m a.node x) o
   writes o x h p some count g r at mark none knows owns no_at keeps =
       writes_any o x h p some count same (none_aside o none)
-      (one_mark (with_new m a.node x) o.actor r (subst (λ k. 1 ≤ k) (sym at) some, ap (λ k. (next_of (with_new m a.node x) k).count) at ∙ ap (λ (y : Node). y.next.count) (written m.nodes a.node x some low) ∙ sym mark)) knows owns (stutters refl refl (hand_flag x h p some count) no_at keeps)
+      (one_mark (with_new m a.node x) o.actor r (
+        subst (λ k. 1 ≤ k) (sym at) some,
+        ap (λ k. (next_of (with_new m a.node x) k).count) at ∙ ap
+            (λ (y : Node). y.next.count) (written m.nodes a.node x some low) ∙ sym mark,
+      )) knows owns
+      (stutters refl refl (hand_flag x h p some count) no_at keeps)
     where
       same : (n : ℕ) → holds n o.actor + asides n o.aside ≡ holds n a
       same n =
@@ -190,7 +222,9 @@ module _ (q : Queue) (b : Before q) where
           omega (arith, holds_hand n o.actor g r, holds_hand n a h p)
 
   -- it is set aside
-  pub writes_aside : (o : Outcome) (x : Node) → a.holds ≡ true → a.pocket ≡ None → 1 ≤ a.node → x.next.count ≡ (next_of m a.node).count → o.actor.holds ≡ false → o.actor.pocket ≡ None → o.aside ≡ Some a.node → Learns (with_new m a.node x) o → OwnsAt m me o.actor.line → Means (with_new m a.node x) o → Goes (with_new m a.node x) o
+  pub writes_aside : (o : Outcome) (x : Node) → a.holds ≡ true → a.pocket ≡ None → 1 ≤ a.node → x.next.count ≡ (next_of m a.node).count → o.actor.holds ≡ false
+      → o.actor.pocket ≡ None → o.aside ≡ Some a.node → Learns (with_new m a.node x) o → OwnsAt m me o.actor.line → Means (with_new m a.node x) o
+      → Goes (with_new m a.node x) o
   writes_aside o x h p some count g r put_there =
       writes_any o x h p some count same (subst (λ y. IfSome y (λ j. (1 ≤ j) × (1 ≤ holds j a))) (sym put_there) (some, own h p))
       (no_marks (with_new m a.node x) o.actor g r)
@@ -201,9 +235,12 @@ module _ (q : Queue) (b : Before q) where
           omega (arith, let_go o.actor h p g r n)
 
   -- the first free node comes into the hand
-  takes_node : (to : Line) → a.holds ≡ false → a.pocket ≡ None → 1 ≤ a.top.node → m.free ≡ a.top → a.top.count ≢ s.limit → next_of m a.top.node ≡ a.next → decided_reply a.due ≡ None → Learns (put Free (raised s a.top a.next.node) m) (goes to (fills_hand a.top.node a.next.count a)) → OwnsAt m me (Some to) → Goes (put Free (raised s a.top a.next.node) m) (goes to (fills_hand a.top.node a.next.count a))
+  takes_node : (to : Line) → a.holds ≡ false → a.pocket ≡ None → 1 ≤ a.top.node → m.free ≡ a.top → a.top.count ≢ s.limit → next_of m a.top.node ≡ a.next
+      → decided_reply a.due ≡ None → Learns (put Free (raised s a.top a.next.node) m) (goes to (fills_hand a.top.node a.next.count a)) → OwnsAt m me (Some to)
+      → Goes (put Free (raised s a.top a.next.node) m) (goes to (fills_hand a.top.node a.next.count a))
   takes_node to h p some was room next u knows owns =
-      leaves_queue (put Free (raised s a.top a.next.node) m) (goes to c) free_nodes.rest (queue_stays (raised s a.top a.next.node) m.fresh) free_nodes.turn tt (raised_rises s m.free a.top a.next.node goes_on was room)
+      leaves_queue (put Free (raised s a.top a.next.node) m) (goes to c) free_nodes.rest (queue_stays (raised s a.top a.next.node) m.fresh)
+      free_nodes.turn tt (raised_rises s m.free a.top a.next.node goes_on was room)
       (one_mark (put Free (raised s a.top a.next.node) m) (goes to c).actor p (some, ap (λ (r : Ref). r.count) next)) knows owns (stutters refl refl refl refl (inl u))
     where
       c : Actor
@@ -221,24 +258,32 @@ module _ (q : Queue) (b : Before q) where
           (raised_node s a.top a.next.node goes_on room ∙ sym (ap (λ (r : Ref). r.node) (ap (λ (r : Ref). next_of m r.node) was ∙ next)))
           (took (goes to c).actor m.free.node h p refl p (sym (ap (λ (r : Ref). r.node) was)))
 
-  takes_to : (kind : Kind) → a.holds ≡ false → a.pocket ≡ None → 1 ≤ a.top.node → m.free ≡ a.top → a.top.count ≢ s.limit → next_of m a.top.node ≡ a.next → decided_reply a.due ≡ None → OwnsAt m me None → Goes (put Free (raised s a.top a.next.node) m) (goes (with_node kind) (fills_hand a.top.node a.next.count a))
+  takes_to : (kind : Kind) → a.holds ≡ false → a.pocket ≡ None → 1 ≤ a.top.node → m.free ≡ a.top → a.top.count ≢ s.limit → next_of m a.top.node ≡ a.next
+      → decided_reply a.due ≡ None → OwnsAt m me None
+      → Goes (put Free (raised s a.top a.next.node) m) (goes (with_node kind) (fills_hand a.top.node a.next.count a))
   takes_to TwoLock h p some was room next u g = takes_node (with_node TwoLock) h p some was room next u tt g
   takes_to NonBlocking h p some was room next u g = takes_node (with_node NonBlocking) h p some was room next u tt g
 
   -- a node never used comes into the hand
-  claims_node : (to : Line) → a.holds ≡ false → a.pocket ≡ None → m.fresh ≡ a.f → decided_reply a.due ≡ None → Learns (put Fresh (a.f + 1) m) (goes to (fills_hand (a.f + 1) 0 a)) → OwnsAt m me (Some to) → Goes (put Fresh (a.f + 1) m) (goes to (fills_hand (a.f + 1) 0 a))
+  claims_node : (to : Line) → a.holds ≡ false → a.pocket ≡ None → m.fresh ≡ a.f → decided_reply a.due ≡ None
+      → Learns (put Fresh (a.f + 1) m) (goes to (fills_hand (a.f + 1) 0 a)) → OwnsAt m me (Some to)
+      → Goes (put Fresh (a.f + 1) m) (goes to (fills_hand (a.f + 1) 0 a))
   claims_node to h p was u knows owns =
       let c : Actor = (goes to (fills_hand (a.f + 1) 0 a)).actor in
       leaves_queue (put Fresh (a.f + 1) m) (goes to (fills_hand (a.f + 1) 0 a)) free (queue_stays m.free (a.f + 1))
       (turn_claim s.bits m E (front ∷ rest) free a c (a.f + 1) shape (ap (λ k. k + 1) (sym was)) (took c (m.fresh + 1) h p refl p (ap (λ k. k + 1) (sym was)))) tt (inl refl)
       (one_mark (put Fresh (a.f + 1) m) c p (omega arith, unused (a.f + 1) (omega (arith, was)))) knows owns (stutters refl refl refl refl (inl u))
 
-  claims_to : (kind : Kind) → a.holds ≡ false → a.pocket ≡ None → m.fresh ≡ a.f → decided_reply a.due ≡ None → OwnsAt m me None → Goes (put Fresh (a.f + 1) m) (goes (with_node kind) (fills_hand (a.f + 1) 0 a))
+  claims_to : (kind : Kind) → a.holds ≡ false → a.pocket ≡ None → m.fresh ≡ a.f → decided_reply a.due ≡ None → OwnsAt m me None
+      → Goes (put Fresh (a.f + 1) m) (goes (with_node kind) (fills_hand (a.f + 1) 0 a))
   claims_to TwoLock h p was u g = claims_node (with_node TwoLock) h p was u tt g
   claims_to NonBlocking h p was u g = claims_node (with_node NonBlocking) h p was u tt g
 
   -- a word is written that starts no chain and is no node
-  pub writes_word : (m' : Shared) (o : Outcome) → m'.nodes ≡ m.nodes → m'.head ≡ m.head → m'.free ≡ m.free → m'.fresh ≡ m.fresh → ((n : ℕ) → holds n o.actor ≡ holds n a) → o.aside ≡ None → ((you : ℕ) → 1 ≤ you → you ≢ me → q.Rely m m' (last_node (front ∷ rest)) (last_node (front ∷ rest)) you) → q.Words s m' (front ∷ rest) → Marked m' o.actor → Learns m' o → OwnsAt m' me o.actor.line → Means m' o → Goes m' o
+  pub writes_word : (m' : Shared) (o : Outcome) → m'.nodes ≡ m.nodes → m'.head ≡ m.head → m'.free ≡ m.free → m'.fresh ≡ m.fresh
+      → ((n : ℕ) → holds n o.actor ≡ holds n a) → o.aside ≡ None
+      → ((you : ℕ) → 1 ≤ you → you ≢ me → q.Rely m m' (last_node (front ∷ rest)) (last_node (front ∷ rest)) you) → q.Words s m' (front ∷ rest)
+      → Marked m' o.actor → Learns m' o → OwnsAt m' me o.actor.line → Means m' o → Goes m' o
   writes_word m' o nodes head top fresh same none relies wordz marks knows owns account =
       record {
         front' = front;
@@ -284,7 +329,8 @@ module _ (q : Queue) (b : Before q) where
         free' = free;
         turn =
             turn_none (put (Next k) r m) o front (rest ++ a.node ∷ []) free h.no_aside
-            (turn_link s.bits m E front rest free a o.actor k a.node r shape mine h.last h.unlinked h.some_node low (own h.hand h.pocket) h.ready.1 h.names (let_go o.actor h.hand h.pocket h.let_go h.empty));
+            (turn_link s.bits m E front rest free a o.actor k a.node r shape mine h.last h.unlinked h.some_node low (own h.hand h.pocket) h.ready.1
+            h.names (let_go o.actor h.hand h.pocket h.let_go h.empty));
         own_aside = none_aside o h.no_aside;
         rises = inl refl;
         relies = h.relies;
@@ -303,7 +349,13 @@ module _ (q : Queue) (b : Before q) where
       open_before = ap (λ n. nat_eq n (reserved_node s.bits)) (ap (λ j. (next_of m j).node) (sym h.last) ∙ h.unlinked) ∙ null_open s.bits (length m.nodes) few_nodes
 
       other : a.node ≢ k
-      other e = omega (arith, (not_linked s.bits m E (front ∷ rest) free shape a.node h.some_node (let here : holds a.node a ≤ E a.node = mine a.node in omega (arith, own h.hand h.pocket))).0, ap (λ j. times j (front ∷ rest)) (e ∙ h.last), last_times front rest)
+      other e = omega (
+        arith,
+        (not_linked s.bits m E (front ∷ rest) free shape a.node h.some_node
+            (let here : holds a.node a ≤ E a.node = mine a.node in omega (arith, own h.hand h.pocket))).0,
+        ap (λ j. times j (front ∷ rest)) (e ∙ h.last),
+        last_times front rest,
+      )
 
       open_after : is_shut_chain s.bits (put (Next k) r m) (front ∷ rest ++ a.node ∷ []) ≡ false
       open_after =
@@ -445,7 +497,8 @@ module _ (q : Queue) (steps : Steps q) (b : Before q) where
   does N3 t = on q b _ (ap decided_reply t.fixed.earned) refl (λ n. refl) refl marked (t.knows, λ e. refl) t.owns
   does N4 t =
       tried (After q b) (same_ref m.free a.top)
-      (λ e. let was : m.free ≡ a.top = same_ref-true m.free a.top e in takes_to q b s.kind t.fixed.hand t.fixed.pocket t.nodes was t.fixed.room (t.knows.1 was) (ap decided_reply t.fixed.earned) t.owns)
+      (λ e. let was : m.free ≡ a.top = same_ref-true m.free a.top e in takes_to q b s.kind t.fixed.hand t.fixed.pocket t.nodes was t.fixed.room
+      (t.knows.1 was) (ap decided_reply t.fixed.earned) t.owns)
       (λ e. on q b _ (ap decided_reply t.fixed.earned) refl (λ n. refl) refl marked tt t.owns)
   does N5 t =
       tried (After q b) (nat_eq m.fresh a.f) (λ e. claims_to q b s.kind t.fixed.hand t.fixed.pocket (eqb-true m.fresh a.f e) (ap decided_reply t.fixed.earned) t.owns)

@@ -61,7 +61,8 @@ looks_on l now a o none empty_at =
     }
 
 -- one that ends
-ends_with : (l : Line) (now : ℕ) (a : Actor) (reply : Reply) (b : Actor) → b.empty_at ≡ a.empty_at → ((at : Option ℕ) → PointAt l a.due at (Unit {0}) → IsByEffect (Some reply) ⊎ (at ≡ None)) → Tells l false now a (ends now reply b)
+ends_with : (l : Line) (now : ℕ) (a : Actor) (reply : Reply) (b : Actor) → b.empty_at ≡ a.empty_at
+    → ((at : Option ℕ) → PointAt l a.due at (Unit {0}) → IsByEffect (Some reply) ⊎ (at ≡ None)) → Tells l false now a (ends now reply b)
 ends_with l now a Done b same place =
     record { refused = λ refusal e. cc; empty = λ e. cc; passes = λ e. same; notes = λ e. false_true e; unplaced = place }
 ends_with l now a (Value v) b same place =
@@ -80,12 +81,14 @@ earned_or (Refused refusal) at h = inr h
 aside_tells : {l : Line} {looked : Bool} {now : ℕ} {a : Actor} (o : Outcome) → Tells l looked now a o → Tells l looked now a (sets_aside o)
 aside_tells o t = record { refused = t.refused; empty = t.empty; passes = t.passes; notes = t.notes; unplaced = t.unplaced }
 
-freed_tells : (l : Line) (kind : Kind) (now : ℕ) (a : Actor) (due : Option Reply) (b : Actor) → b.empty_at ≡ a.empty_at → ((at : Option ℕ) → PointAt l a.due at (Unit {0}) → PointFits due at (Unit {0})) → Tells l false now a (freed kind now due b)
+freed_tells : (l : Line) (kind : Kind) (now : ℕ) (a : Actor) (due : Option Reply) (b : Actor) → b.empty_at ≡ a.empty_at
+    → ((at : Option ℕ) → PointAt l a.due at (Unit {0}) → PointFits due at (Unit {0})) → Tells l false now a (freed kind now due b)
 freed_tells l kind now a None b same earns = goes_on l now a (freed kind now None b) refl same
 freed_tells l kind now a (Some reply) b same earns =
     ends_with l now a reply b same (λ at stands. earned_or reply at (earns at stands))
 
-unlocked_tells : (now : ℕ) (a : Actor) (due : Option Reply) (b : Actor) → b.empty_at ≡ a.empty_at → ((at : Option ℕ) → PointAt B6 a.due at (Unit {0}) → PointFits due at (Unit {0})) → Tells B6 false now a (unlocked now due b)
+unlocked_tells : (now : ℕ) (a : Actor) (due : Option Reply) (b : Actor) → b.empty_at ≡ a.empty_at
+    → ((at : Option ℕ) → PointAt B6 a.due at (Unit {0}) → PointFits due at (Unit {0})) → Tells B6 false now a (unlocked now due b)
 unlocked_tells now a None b same earns = goes_on B6 now a _ refl same
 unlocked_tells now a (Some (Value v)) b same earns = goes_on B6 now a _ refl same
 unlocked_tells now a (Some Done) b same earns = ends_with B6 now a Done b same (λ at stands. inl tt)
@@ -98,17 +101,20 @@ pushed_tells true now a c same =
 pushed_tells false now a c same = goes_on E9 now a _ refl same
 
 -- a refusal before a line at which the call has no place
-refuses : (l : Line) (now : ℕ) (a : Actor) (refusal : Refusal) (b : Actor) → b.empty_at ≡ a.empty_at → ((at : Option ℕ) → PointAt l a.due at (Unit {0}) → at ≡ None) → Tells l false now a (ends now (Refused refusal) b)
+refuses : (l : Line) (now : ℕ) (a : Actor) (refusal : Refusal) (b : Actor) → b.empty_at ≡ a.empty_at
+    → ((at : Option ℕ) → PointAt l a.due at (Unit {0}) → at ≡ None) → Tells l false now a (ends now (Refused refusal) b)
 refuses l now a refusal b same none = ends_with l now a (Refused refusal) b same (λ at stands. inr (none at stands))
 
-left_tells : (now : ℕ) (a : Actor) (due : Option Reply) (b : Actor) → b.empty_at ≡ a.empty_at → ((at : Option ℕ) → PointAt S9 a.due at (Unit {0}) → PointLeft due at) → Tells S9 false now a (left now due b)
+left_tells : (now : ℕ) (a : Actor) (due : Option Reply) (b : Actor) → b.empty_at ≡ a.empty_at
+    → ((at : Option ℕ) → PointAt S9 a.due at (Unit {0}) → PointLeft due at) → Tells S9 false now a (left now due b)
 left_tells now a (Some (Refused refusal)) b same earns = ends_with S9 now a (Refused refusal) b same (λ at stands. inr (earns at stands))
 left_tells now a None b same earns = ends_with S9 now a Done b same (λ at stands. inl tt)
 left_tells now a (Some Done) b same earns = ends_with S9 now a Done b same (λ at stands. inl tt)
 left_tells now a (Some (Value v)) b same earns = ends_with S9 now a Done b same (λ at stands. inl tt)
 left_tells now a (Some Empty) b same earns = ends_with S9 now a Done b same (λ at stands. inl tt)
 
-left_with_node_tells : (now : ℕ) (a : Actor) (due : Option Reply) (b : Actor) → b.empty_at ≡ a.empty_at → ((at : Option ℕ) → PointAt A7 a.due at (Unit {0}) → PointLeft due at) → Tells A7 false now a (left_with_node now due b)
+left_with_node_tells : (now : ℕ) (a : Actor) (due : Option Reply) (b : Actor) → b.empty_at ≡ a.empty_at
+    → ((at : Option ℕ) → PointAt A7 a.due at (Unit {0}) → PointLeft due at) → Tells A7 false now a (left_with_node now due b)
 left_with_node_tells now a (Some (Refused refusal)) b same earns = ends_with A7 now a (Refused refusal) (to_pocket b) same (λ at stands. inr (earns at stands))
 left_with_node_tells now a None b same earns = ends_with A7 now a Done b same (λ at stands. inl tt)
 left_with_node_tells now a (Some Done) b same earns = ends_with A7 now a Done b same (λ at stands. inl tt)
@@ -176,7 +182,8 @@ tells s now me a B4 c = both (nat_eq a.head.count s.limit) _ _ (goes_on B4 now a
 tells s now me a B6 c = unlocked_tells now a a.due a refl (λ at h. h)
 tells s now me a _ c = goes_on _ now a _ refl refl
 
-busy_or_tells : (now : ℕ) (a : Actor) (due : Option Reply) → ((at : Option ℕ) → PointAt F1 a.due at (Unit {0}) → PointFits due at (Unit {0})) → IfSome (busy_or now due (to_pocket a)) (Tells F1 false now a)
+busy_or_tells : (now : ℕ) (a : Actor) (due : Option Reply) → ((at : Option ℕ) → PointAt F1 a.due at (Unit {0}) → PointFits due at (Unit {0}))
+    → IfSome (busy_or now due (to_pocket a)) (Tells F1 false now a)
 busy_or_tells now a None earns = refuses F1 now a Busy (to_pocket a) refl (λ at stands. earns at stands)
 busy_or_tells now a (Some reply) earns =
     ends_with F1 now a reply (to_pocket a) refl (λ at stands. earned_or reply at (earns at stands))

@@ -8,7 +8,7 @@ use Rattle.line_steps.specs.Steps.{outcome_on}
 use Rattle.step_machine.specs.Below.{Line, Reply, Stamped, Setup, Actor, Outcome, performed, action, memory_after}
 use Rattle.step_machine.specs.declared.actors.Move.TheVariants.{Step}
 use Rattle.step_machine.specs.Machine.{World, actor_of, entry_or, new_operation, with_operation, with_outcome, next, stepped}
-use Rattle.step_machine.specs.Views.{wants_node, HasNodes, unrecorded, entered, led, listed, TookStep}
+use Rattle.step_machine.specs.Views.{wants_node, HasNodes, unrecorded, entered, led, listed, reply_in, TookStep}
 use Rattle.step_machine.specs.Stored.{world}
 use Rattle.step_machine.specs.declared.world.WorldOf.TheInside.{Inside}
 use Rattle.step_machine.proofs.Growth.{grows}
@@ -16,7 +16,9 @@ use Rattle.step_machine.proofs.Giving.{step_move, same_world}
 use Rattle.step_machine.proofs.Making.{Rooms, settled_rooms}
 
 -- an operation that is changed where it stands, once it is in the list
-pub changed_where_listed : (entry : Option ℕ) (place : ℕ) (new was : Stamped) (change : Stamped → Stamped) (ops : List Stamped) → place ≡ entry_or entry (length ops) → place < length (listed entry new ops) → was ≡ get_or (listed entry new ops) place was → slice_set (listed entry new ops) place (change was) ≡ with_operation entry new change ops
+pub changed_where_listed : (entry : Option ℕ) (place : ℕ) (new was : Stamped) (change : Stamped → Stamped) (ops : List Stamped)
+    → place ≡ entry_or entry (length ops) → place < length (listed entry new ops) → was ≡ get_or (listed entry new ops) place was
+    → slice_set (listed entry new ops) place (change was) ≡ with_operation entry new change ops
 changed_where_listed None place new was change ops at there is =
     let same : was ≡ new = is ∙ ap (λ n. get_or (ops ++ new ∷ []) n was) at ∙ get_or-append_seam ops new [] was in
     ap (λ n. slice_set (ops ++ new ∷ []) n (change was)) at ∙ ap (λ s. slice_set (ops ++ new ∷ []) (length ops) (change s)) same ∙ set-append_seam ops new [] (change new)
@@ -30,6 +32,12 @@ pub written_there : (ops : List Stamped) (place : ℕ) (new : Stamped) → place
 written_there ops place new there =
     slice_get-get_or (slice_set ops place new) place new (subst (λ n. place < n) (sym (length-set ops place new)) there) ∙
     ap Some (get_or-set_same ops place new new there)
+
+-- the reply of an operation that a look at the operations answered
+pub looked_up : (ops seen : List Stamped) (place : ℕ) (is : Stamped) → seen ≡ ops → place < length seen → is ≡ get_or seen place is
+    → reply_in (slice_get ops place) ≡ is.reply
+looked_up ops seen place is same there here =
+    sym (ap (λ xs. reply_in (slice_get xs place)) same) ∙ ap reply_in (slice_get-get_or seen place is there ∙ ap Some (sym here))
 
 -- the outcome that a step had is the one that it leads to
 led_on : (s : Setup) (now me : ℕ) (a : Actor) (l : Line) (m : Memory) → outcome_on s now me a l m.words ≡ led s now me a l m
@@ -45,7 +53,9 @@ module _ (s : Setup) (now me : ℕ) (l : Line) (old : Memory) (a : Actor) (ops :
   entries = listed a.entry (new_operation me a.op now) ops
 
   -- what the step makes of its actor and its operation, and where they stand
-  pub took : (new : Memory) (b : Actor) (was is : Stamped) (place : ℕ) (r : Option Reply) → b ≡ led_to.actor → is ≡ with_outcome now led_to was → r ≡ led_to.reply → new ≡ memory_after (action s me a l) led_to old → place ≡ entry_or a.entry (length ops) → place < length entries → was ≡ get_or entries place was → TookStep s now me l old ops a new (slice_set entries place is) (record b { entry = Some place }) r
+  pub took : (new : Memory) (b : Actor) (was is : Stamped) (place : ℕ) (r : Option Reply) → b ≡ led_to.actor → is ≡ with_outcome now led_to was
+      → r ≡ led_to.reply → new ≡ memory_after (action s me a l) led_to old → place ≡ entry_or a.entry (length ops) → place < length entries
+      → was ≡ get_or entries place was → TookStep s now me l old ops a new (slice_set entries place is) (record b { entry = Some place }) r
   took new b was is place r actor operation reply memory at there here =
       let o : Outcome = led s now me a l old in
       let same : led_to ≡ o = led_on s now me a l old in
@@ -65,7 +75,11 @@ module _ (s : Setup) (now me : ℕ) (l : Line) (old : Memory) (a : Actor) (ops :
 
 -- the room that the world keeps serves what the step put down
 module _ (bits : ℕ) (i : Inside bits) (more me : ℕ) (a b : Actor) (l : Line) (after : Memory) (listed : List Stamped) (reply : Option Reply) where
-  pub took_rooms : actor_of (world bits i) me ≡ Some a → a.line ≡ Some l → TookStep i.setup (i.steps + 1) me l i.memory i.operations.items a after listed b reply → HasNodes i.setup.size i.memory.words.fresh i.memory.room i.actors.items → length i.operations.items + unrecorded i.actors.items ≤ vec_capacity i.operations → vec_capacity i.operations ≤ more → Rooms i.setup.size after.words.fresh after.room more (slice_set i.actors.items (me - 1) b) listed
+  pub took_rooms : actor_of (world bits i) me ≡ Some a → a.line ≡ Some l
+      → TookStep i.setup (i.steps + 1) me l i.memory i.operations.items a after listed b reply
+      → HasNodes i.setup.size i.memory.words.fresh i.memory.room i.actors.items
+      → length i.operations.items + unrecorded i.actors.items ≤ vec_capacity i.operations → vec_capacity i.operations ≤ more
+      → Rooms i.setup.size after.words.fresh after.room more (slice_set i.actors.items (me - 1) b) listed
   took_rooms at here took nodes entries enough =
       let w = world bits i in
       let o : Outcome = led w.setup (w.steps + 1) me a l i.memory in
@@ -89,7 +103,8 @@ module _ (bits : ℕ) (i : Inside bits) (me : ℕ) (a b : Actor) (l : Line) (aft
         operations = listed;
       }
 
-  pub took_move : actor_of (world bits i) me ≡ Some a → a.line ≡ Some l → TookStep i.setup (i.steps + 1) me l i.memory i.operations.items a after listed b reply → next (world bits i) (Step me) ≡ Some stepped_to
+  pub took_move : actor_of (world bits i) me ≡ Some a → a.line ≡ Some l → TookStep i.setup (i.steps + 1) me l i.memory i.operations.items a after listed b reply
+      → next (world bits i) (Step me) ≡ Some stepped_to
   took_move at here took =
       let w = world bits i in
       step_move w me a l at here ∙

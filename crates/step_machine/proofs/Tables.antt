@@ -3,7 +3,8 @@ use Rattle.std.proofs.Common.{◌≡◌, ℕ, zero, suc, ◌-◌, ◌^◌, ◌<�
 use Rattle.std.proofs.lemmas.Bool.{eq-eqb, eqb-true}
 use Rattle.std.proofs.lemmas.Bool.Decides.{eqb_tells}
 use Rattle.std.specs.List.{All}
-use Rattle.step_machine.specs.Below.{IsSplit, IsRef, count_mask, Taken, Node, blank, Shared, Word, Fresh, Free, Head, Tail, Tail_lock, Head_lock, Next, Value_of, Content, content, put, same, Action, load, store, clear, exchange, word, found}
+use Rattle.step_machine.specs.Below.{IsSplit, IsRef, count_mask, Taken, Node, blank, Shared, Word, Fresh, Free, Head, Tail, Tail_lock, Head_lock}
+use Rattle.step_machine.specs.Below.{Next, Value_of, Content, content, put, same, Action, load, store, clear, exchange, word, found}
 use Rattle.counted_ref.proofs.Words.{refs_apart, same_word, cleared_word}
 use Rattle.step_machine.specs.Words.{value_word, encoded, node_words, memory_words, index, IsWord}
 use Rattle.step_machine.specs.Tables.{word_index, word_step, ValueFits, ContentFits, SharedFits, ActionFits, IsOneStep}

@@ -103,7 +103,8 @@ module _ (Z : ℕ → Type 0) (s : Setup) (m m' : Shared) (last last' you : ℕ)
       (leads, ap (λ (x : Node). x.next) (subst (λ (r : Ref). node_at m' r.node ≡ node_at m r.node) h.0 (n.dummy leads)) ∙ h.1)
 
   -- an actor still knows what it knew
-  pub own_kept : (l : Line) → LocksRely m m' last last' you → NodesRely m m' c → FixedAt s.limit you c (Some l) → NonNullAt s.bits l c → OwnsAt m you (Some l) → OwnAt Z s m last c (Some l) → OwnAt Z s m' last' c (Some l)
+  pub own_kept : (l : Line) → LocksRely m m' last last' you → NodesRely m m' c → FixedAt s.limit you c (Some l) → NonNullAt s.bits l c → OwnsAt m you (Some l)
+      → OwnAt Z s m last c (Some l) → OwnAt Z s m' last' c (Some l)
   own_kept A2 k n f p o h = ap (λ (x : Node). x.value) (hand_stays n f.hand f.pocket p) ∙ h
   own_kept A3 k n f p o h = ready_kept (hand_stays n f.hand f.pocket p) h
   own_kept A4 k n f p o h = (ready_kept (hand_stays n f.hand f.pocket p) h.0, tail_kept k o.0 h.1)
@@ -125,7 +126,8 @@ module _ (Z : ℕ → Type 0) (s : Setup) (m m' : Shared) (last last' you : ℕ)
       unlocks : (due : Option Reply) → Unlocks s.bits Z s.limit m c.empty_at due → Unlocks s.bits Z s.limit m' c.empty_at due
       unlocks (Some Empty) g = g
       unlocks (Some (Refused Closed)) g =
-          let same : (node_at m' m'.head.node).next.node ≡ (node_at m m.head.node).next.node = ap (λ (r : Ref). (node_at m' r.node).next.node) (k.head o.1).1 ∙ ap (λ (x : Node). x.next.node) (n.dummy g.0) in
+          let same : (node_at m' m'.head.node).next.node ≡ (node_at m m.head.node).next.node = ap (λ (r : Ref). (node_at m' r.node).next.node)
+          (k.head o.1).1 ∙ ap (λ (x : Node). x.next.node) (n.dummy g.0) in
           (omega (arith, same, g.0), same ∙ g.1)
       unlocks (Some (Refused refusal)) g = ap (λ (r : Ref). r.count) (k.head o.1).1 ∙ g
       unlocks _ g = tt
@@ -151,7 +153,10 @@ two_lock =
       own_more = own_more;
       own_kept = own_kept;
       locks_kept = locks_kept;
-      words_stay = λ s m m' front rest k h. record { tail_last = λ e. h.tail_last (sym k.tail_lock ∙ e) ∙ sym (ap (λ (r : Ref). r.node) k.tail); no_counts = λ n some. k.counts n some ∙ h.no_counts n some };
+      words_stay = λ s m m' front rest k h. record {
+        tail_last = λ e. h.tail_last (sym k.tail_lock ∙ e) ∙ sym (ap (λ (r : Ref). r.node) k.tail);
+        no_counts = λ n some. k.counts n some ∙ h.no_counts n some;
+      };
       relies = λ s m m' front rest k h you.
           record {
             tail = λ e. (k.tail_lock ∙ e, k.tail, refl, ap (λ (x : Node). x.next) (k.nodes (last_node (front ∷ rest)) (last_times front rest)));

@@ -2,7 +2,8 @@
 use Rattle.std.proofs.Common.{◌≡◌, ℕ, zero, suc, ◌-◌, nat_eq, List, [], ◌∷◌, get_or, set, Some, refl, sym, ◌∙◌, arith}
 use Rattle.std.specs.List.{All}
 use Rattle.std.proofs.lemmas.List.Elements.{All-set, All-replicate}
-use Rattle.step_machine.specs.Below.{same_ref, TwoLock, Line, N1, N2, N3, N4, N5, F1, F2, F3, A1, A2, A3, A4, A5, A6, A7, B1, B2, B3, B4, B5, B6, S6, S7, S8, S9, null, section_of, Setup, Node, Actor, blank, Shared, node_at, performed, action}
+use Rattle.step_machine.specs.Below.{same_ref, TwoLock, Line, N1, N2, N3, N4, N5, F1, F2, F3, A1, A2, A3, A4, A5, A6, A7, B1, B2, B3, B4, B5, B6, S6}
+use Rattle.step_machine.specs.Below.{S7, S8, S9, null, section_of, Setup, Node, Actor, blank, Shared, node_at, performed, action}
 use Rattle.step_machine.specs.ProgramCounters.{IsRunBy}
 use Rattle.step_machine.specs.TwoLock.{OfTwoLockWorlds, CountsNothing}
 use Rattle.step_machine.proofs.Choices.{both}

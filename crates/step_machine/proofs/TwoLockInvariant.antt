@@ -18,6 +18,7 @@ pub reached_invariant : (w : World) → IsReached w → w.setup.kind ≡ TwoLock
 reached_invariant = reached_with two_lock two_lock_steps (λ w q. Unit {0}) (λ w k. Unit {0}) nothing
 
 -- each actor's registers hold nodes where its line uses them so
-pub nodes_at : (w : World) → IsReached w → w.setup.kind ≡ TwoLock → (me : ℕ) (a : Actor) (l : Line) → actor_of w me ≡ Some a → a.line ≡ Some l → IsRunBy (section_of l) TwoLock × NonNullAt w.setup.bits l a
+pub nodes_at : (w : World) → IsReached w → w.setup.kind ≡ TwoLock → (me : ℕ) (a : Actor) (l : Line) → actor_of w me ≡ Some a → a.line ≡ Some l
+    → IsRunBy (section_of l) TwoLock × NonNullAt w.setup.bits l a
 nodes_at w r e me a l is at =
     let q : IsRunBy (section_of l) w.setup.kind × NonNullAt w.setup.bits l a = stands_at w r me a l is at in (subst (IsRunBy (section_of l)) e q.0, q.1)

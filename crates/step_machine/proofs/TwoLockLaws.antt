@@ -3,7 +3,9 @@ use Rattle.std.proofs.Common.{◌≡◌, ◌≢◌, ℕ, ◌+◌, ◌-◌, ◌�
 use Rattle.std.specs.Prelude.{slice_get}
 use Rattle.std.proofs.lemmas.Bool.{ne_eqb}
 use Rattle.std.proofs.lemmas.Option.{slice_get-get_or}
-use Rattle.step_machine.specs.Below.{reserved_node, null, is_null, is_shut, same_ref, TwoLock, Line, E9, A1, A2, A3, A4, A5, A6, A7, B1, B2, B3, B4, B5, B6, S4, S6, S7, S8, S9, section_of, WornWord, OfFree, OfNext, OfTail, OfHead, NoNode, WornOut, Closed, Reply, Done, Value, Empty, Refused, Actor, node_at, found, action, outcome, unlocked, left, left_with_node}
+use Rattle.step_machine.specs.Below.{reserved_node, null, is_null, is_shut, same_ref, TwoLock, Line, E9, A1, A2, A3, A4, A5, A6, A7, B1, B2, B3, B4}
+use Rattle.step_machine.specs.Below.{B5, B6, S4, S6, S7, S8, S9, section_of, WornWord, OfFree, OfNext, OfTail, OfHead, NoNode, WornOut, Closed, Reply}
+use Rattle.step_machine.specs.Below.{Done, Value, Empty, Refused, Actor, node_at, found, action, outcome, unlocked, left, left_with_node}
 use Rattle.step_machine.specs.Machine.{World, idle, actor_of, IsReached}
 use Rattle.step_machine.specs.Range.{ActorInRange, WorldInRange}
 use Rattle.step_machine.specs.ProgramCounters.{IsRunBy}
@@ -28,7 +30,8 @@ abbrev Invariant : World → Type 0
 Invariant w = ReachedInvariant (λ w q. Unit {0}) (λ w k. Unit {0}) w
 
 -- an actor that has the tail lock and hasn't linked finds that Tail names the last node
-holder_knows : (w : World) (last t : ℕ) (c : Actor) (l : Option Line) → c.line ≡ l → l ≢ Some A6 → w.shared.tail_lock ≡ t → Owns w.shared.tail_lock t (has_tail l) → InvariantAt (λ k. Unit {0}) w.setup w.shared last c l → w.shared.tail.node ≡ last
+holder_knows : (w : World) (last t : ℕ) (c : Actor) (l : Option Line) → c.line ≡ l → l ≢ Some A6 → w.shared.tail_lock ≡ t
+    → Owns w.shared.tail_lock t (has_tail l) → InvariantAt (λ k. Unit {0}) w.setup w.shared last c l → w.shared.tail.node ≡ last
 holder_knows w last t c (Some A4) at moved lock owns knows = sym knows.1
 holder_knows w last t c (Some A5) at moved lock owns knows = sym knows.1
 holder_knows w last t c (Some A6) at moved lock owns knows = absurd (moved refl)
@@ -89,7 +92,8 @@ shut_last : (w : World) (p : Invariant w) → (node_at w.shared (last_node (p.fr
 shut_last w p end = (p.front ∷ p.rest, p.sound.shape.queue_chain, ap (λ n. nat_eq n (reserved_node w.setup.bits)) end ∙ closed_shut w.setup.bits)
 
 module _ (w : World) (r : IsReached w) (p : Invariant w) where
-  unlocked_caused : (now : ℕ) (empty_at : ℕ) (due : Option Reply) (a : Actor) → DecidedUnlocking due → Unlocks w.setup.bits (λ k. Unit {0}) w.setup.limit w.shared empty_at due → Caused (Own w) w (unlocked now due a)
+  unlocked_caused : (now : ℕ) (empty_at : ℕ) (due : Option Reply) (a : Actor) → DecidedUnlocking due
+      → Unlocks w.setup.bits (λ k. Unit {0}) w.setup.limit w.shared empty_at due → Caused (Own w) w (unlocked now due a)
   unlocked_caused now empty_at None a h k = absurd h
   unlocked_caused now empty_at (Some Done) a h k = absurd h
   unlocked_caused now empty_at (Some (Value v)) a h k = record { cause = tt }
@@ -104,12 +108,15 @@ module _ (w : World) (r : IsReached w) (p : Invariant w) where
   left_caused now (Some (Refused refusal)) a h k = record { cause = subst (CauseOf (Own w) w) (sym h) (shut_last w p k) }
   left_caused now _ a h k = absurd h
 
-  left_with_node_caused : (now : ℕ) (due : Option Reply) (a : Actor) → DecidedLeaving due → Leaves w.setup.bits w.shared (last_node (p.front ∷ p.rest)) due → Caused (Own w) w (left_with_node now due a)
+  left_with_node_caused : (now : ℕ) (due : Option Reply) (a : Actor) → DecidedLeaving due → Leaves w.setup.bits w.shared (last_node (p.front ∷ p.rest)) due
+      → Caused (Own w) w (left_with_node now due a)
   left_with_node_caused now (Some Done) a h k = record { cause = tt }
   left_with_node_caused now (Some (Refused refusal)) a h k = record { cause = subst (CauseOf (Own w) w) (sym h) (shut_last w p k) }
   left_with_node_caused now _ a h k = absurd h
 
-  own_caused : (now me : ℕ) (a : Actor) (l : Line) → FixedAt w.setup.limit me a (Some l) → InvariantAt (λ k. Unit {0}) w.setup w.shared (last_node (p.front ∷ p.rest)) a (Some l) → IsOwnOf (section_of l) TwoLock → Caused (Own w) w (outcome w.setup now me a l (found (action w.setup me a l) w.shared))
+  own_caused : (now me : ℕ) (a : Actor) (l : Line) → FixedAt w.setup.limit me a (Some l)
+      → InvariantAt (λ k. Unit {0}) w.setup w.shared (last_node (p.front ∷ p.rest)) a (Some l) → IsOwnOf (section_of l) TwoLock
+      → Caused (Own w) w (outcome w.setup now me a l (found (action w.setup me a l) w.shared))
   own_caused now me a A1 f k i = record { cause = tt }
   own_caused now me a A2 f k i = record { cause = tt }
   own_caused now me a A3 f k i = either (Caused (Own w) w) (nat_eq w.shared.tail_lock 0) (λ e. record { cause = tt }) (λ e. record { cause = tt })
@@ -131,7 +138,8 @@ module _ (w : World) (r : IsReached w) (p : Invariant w) where
   own_caused now me a S9 f k i = left_caused now a.due a f.earned k.1
   own_caused now me a l f k i = absurd i
 
-why_of : (w : World) → IsReached w → w.setup.kind ≡ TwoLock → (me : ℕ) (a : Actor) (l : Line) → actor_of w me ≡ Some a → a.line ≡ Some l → CauseOfReply (Own w) w (outcome w.setup (w.steps + 1) me a l (found (action w.setup me a l) w.shared)).reply
+why_of : (w : World) → IsReached w → w.setup.kind ≡ TwoLock → (me : ℕ) (a : Actor) (l : Line) → actor_of w me ≡ Some a → a.line ≡ Some l
+    → CauseOfReply (Own w) w (outcome w.setup (w.steps + 1) me a l (found (action w.setup me a l) w.shared)).reply
 why_of w r e me a l is at =
     let g : WorldInRange w = reached_in_range w r in
     let p : Invariant w = reached_invariant w r e in

@@ -1,7 +1,10 @@
 -- The step of each line of its own in the two-lock queue: which effect it has, and what its actor knows then.
 use Rattle.std.proofs.Common.{◌≡◌, ◌≢◌, ℕ, ◌+◌, ◌-◌, ◌≤◌, true, false, nat_eq, List, ◌∷◌, length, set, Option, Some, None, refl, sym, ap, ◌∙◌, subst, arith, ◌⊎◌, inl, inr}
 use Rattle.std.proofs.lemmas.Bool.{eqb-true, true≢false}
-use Rattle.step_machine.specs.Below.{reserved_node, Ref, ref, null, shut_ref, is_null, is_shut, same_ref, TwoLock, Line, D5, A1, A2, A3, A4, A5, A6, A7, B1, B2, B3, B4, B5, B6, S6, S7, S8, S9, section_of, Reply, Done, Value, Empty, Refused, leaves, empty, Setup, Node, Actor, Outcome, Shared, node_at, put, Head, Tail, Tail_lock, Head_lock, Next, found, performed, action, outcome, raised, unlocked, left, left_with_node}
+use Rattle.step_machine.specs.Below.{reserved_node, Ref, ref, null, shut_ref, is_null, is_shut, same_ref, TwoLock, Line, D5, A1, A2, A3, A4, A5, A6}
+use Rattle.step_machine.specs.Below.{A7, B1, B2, B3, B4, B5, B6, S6, S7, S8, S9, section_of, Reply, Done, Value, Empty, Refused, leaves, empty, Setup}
+use Rattle.step_machine.specs.Below.{Node, Actor, Outcome, Shared, node_at, put, Head, Tail, Tail_lock, Head_lock, Next, found, performed, action}
+use Rattle.step_machine.specs.Below.{outcome, raised, unlocked, left, left_with_node}
 use Rattle.step_machine.specs.ProgramCounters.{IsRunBy}
 use Rattle.step_machine.specs.Places.{IsEnd}
 use Rattle.step_machine.specs.Chains.{last_node, queue_in, queue_values}
@@ -32,12 +35,18 @@ module _ (b : Before two_lock) where
   open b use {Z, s, m, front, rest, me, now, a, shape, few_nodes, words, low, marked, some}
 
   -- a lock is taken or let go, or Tail is written
-  writes_lock : (m' : Shared) (o : Outcome) → m'.nodes ≡ m.nodes → m'.head ≡ m.head → m'.free ≡ m.free → m'.fresh ≡ m.fresh → ((n : ℕ) → holds n o.actor ≡ holds n a) → o.aside ≡ None → ((last you : ℕ) → 1 ≤ you → you ≢ me → LocksRely m m' last last you) → (m'.tail_lock ≡ 0 → last_node (front ∷ rest) ≡ m'.tail.node) → Marked m' o.actor → Learns two_lock b m' o → OwnsAt m' me o.actor.line → Means two_lock b m' o → After two_lock b m' o
+  writes_lock : (m' : Shared) (o : Outcome) → m'.nodes ≡ m.nodes → m'.head ≡ m.head → m'.free ≡ m.free → m'.fresh ≡ m.fresh
+      → ((n : ℕ) → holds n o.actor ≡ holds n a) → o.aside ≡ None → ((last you : ℕ) → 1 ≤ you → you ≢ me → LocksRely m m' last last you)
+      → (m'.tail_lock ≡ 0 → last_node (front ∷ rest) ≡ m'.tail.node) → Marked m' o.actor → Learns two_lock b m' o → OwnsAt m' me o.actor.line
+      → Means two_lock b m' o → After two_lock b m' o
   writes_lock m' o nodes head top fresh same none relies settled =
-      writes_word two_lock b m' o nodes head top fresh same none (λ you one other. relies (last_node (front ∷ rest)) you one other) (record { tail_last = settled; no_counts = λ n one. ap (λ ns. (node_in ns n).next.count) nodes ∙ words.no_counts n one })
+      writes_word two_lock b m' o nodes head top fresh same none (λ you one other. relies (last_node (front ∷ rest)) you one other)
+      (record { tail_last = settled; no_counts = λ n one. ap (λ ns. (node_in ns n).next.count) nodes ∙ words.no_counts n one })
 
   -- the head lock is let go, by what the call has earned
-  lets_head_go : (o : Outcome) → AtLine two_lock b B6 → ((n : ℕ) → holds n o.actor ≡ holds n a) → o.aside ≡ None → Marked m o.actor → Learns two_lock b (put Head_lock 0 m) o → OwnsAt (put Head_lock 0 m) me o.actor.line → Means two_lock b (put Head_lock 0 m) o → After two_lock b (put Head_lock 0 m) o
+  lets_head_go : (o : Outcome) → AtLine two_lock b B6 → ((n : ℕ) → holds n o.actor ≡ holds n a) → o.aside ≡ None → Marked m o.actor
+      → Learns two_lock b (put Head_lock 0 m) o → OwnsAt (put Head_lock 0 m) me o.actor.line → Means two_lock b (put Head_lock 0 m) o
+      → After two_lock b (put Head_lock 0 m) o
   lets_head_go o t same none =
       writes_lock (put Head_lock 0 m) o refl refl refl refl same none
       (λ last you one other. head_alone m (put Head_lock 0 m) last me you t.owns.1 other (λ e. omega arith) refl refl refl) words.tail_last
@@ -51,14 +60,18 @@ module _ (b : Before two_lock) where
       lets_head_go _ t (λ n. refl) refl marked tt (t.owns.0, λ f. omega arith) (refused refusal refl refl refl refl refl (ap leaves e) (ap decided_reply d))
   unlocks (Some (Refused refusal)) t d (inr e) =
       lets_head_go _ t (λ n. refl) refl marked tt (t.owns.0, λ f. omega arith)
-      (closed refl refl refl refl (ap (λ x. Some (Refused x)) e) (shut_alone s.bits m m.head.node front rest few_nodes shape.queue_chain ends) (λ o. ap (λ ys. queue_values m (front ∷ ys)) (alone_at_end s.bits m.nodes m.head.node front rest few_nodes shape.queue_chain ends)) (ap decided_reply d))
+      (closed refl refl refl refl (ap (λ x. Some (Refused x)) e) (shut_alone s.bits m m.head.node front rest few_nodes shape.queue_chain ends)
+      (λ o. ap (λ ys. queue_values m (front ∷ ys)) (alone_at_end s.bits m.nodes m.head.node front rest few_nodes shape.queue_chain ends))
+      (ap decided_reply d))
     where
       ends : (node_at m front).next.node ≡ reserved_node s.bits
       ends = ap (next_in m.nodes) (sym shape.queue_chain.0) ∙ (subst (Unlocks s.bits Z s.limit m a.empty_at) (d ∙ ap (λ x. Some (Refused x)) e) t.knows).1
   unlocks _ t d e = absurd e
 
   -- the tail lock is taken
-  takes_tail : (o : Outcome) → m.tail_lock ≡ 0 → ((n : ℕ) → holds n o.actor ≡ holds n a) → o.aside ≡ None → Marked m o.actor → Learns two_lock b (put Tail_lock me m) o → OwnsAt (put Tail_lock me m) me o.actor.line → Means two_lock b (put Tail_lock me m) o → After two_lock b (put Tail_lock me m) o
+  takes_tail : (o : Outcome) → m.tail_lock ≡ 0 → ((n : ℕ) → holds n o.actor ≡ holds n a) → o.aside ≡ None → Marked m o.actor
+      → Learns two_lock b (put Tail_lock me m) o → OwnsAt (put Tail_lock me m) me o.actor.line → Means two_lock b (put Tail_lock me m) o
+      → After two_lock b (put Tail_lock me m) o
   takes_tail o free same none =
       writes_lock (put Tail_lock me m) o refl refl refl refl same none
       (λ last you one other. record {
@@ -70,7 +83,8 @@ module _ (b : Before two_lock) where
       (λ f. absurd (omega arith))
 
   -- the tail lock is let go
-  lets_tail_go : (o : Outcome) → m.tail_lock ≡ me → m.head_lock ≢ me → last_node (front ∷ rest) ≡ m.tail.node → ((n : ℕ) → holds n o.actor ≡ holds n a) → o.aside ≡ None → Marked m o.actor → o.actor.line ≡ None → Means two_lock b (put Tail_lock 0 m) o → After two_lock b (put Tail_lock 0 m) o
+  lets_tail_go : (o : Outcome) → m.tail_lock ≡ me → m.head_lock ≢ me → last_node (front ∷ rest) ≡ m.tail.node → ((n : ℕ) → holds n o.actor ≡ holds n a)
+      → o.aside ≡ None → Marked m o.actor → o.actor.line ≡ None → Means two_lock b (put Tail_lock 0 m) o → After two_lock b (put Tail_lock 0 m) o
   lets_tail_go o mine not_head last same none marks over =
       writes_lock (put Tail_lock 0 m) o refl refl refl refl same none
       (λ end you one other. tail_alone m (put Tail_lock 0 m) end end me you mine other (λ e. omega arith) refl refl)
@@ -82,14 +96,18 @@ module _ (b : Before two_lock) where
   leaves_shut (Some Done) t d e = lets_tail_go _ t.owns.0 t.owns.1 t.knows.0 (λ n. refl) refl marked refl (stutters refl refl refl refl (inr (λ n. sym (ap decided_reply d))))
   leaves_shut (Some (Refused refusal)) t d e =
       lets_tail_go _ t.owns.0 t.owns.1 t.knows.0 (λ n. refl) refl marked refl
-      (closed refl refl refl refl (ap (λ x. Some (Refused x)) e) (ap (λ n. nat_eq n (reserved_node s.bits)) (subst (Leaves s.bits m (last_node (front ∷ rest))) d t.knows.1) ∙ closed_shut s.bits) (λ o. absurd (shut_is_no_pop a.op t.fixed.call o)) (ap decided_reply d))
+      (closed refl refl refl refl (ap (λ x. Some (Refused x)) e) (ap (λ n. nat_eq n (reserved_node s.bits))
+      (subst (Leaves s.bits m (last_node (front ∷ rest))) d t.knows.1) ∙ closed_shut s.bits) (λ o. absurd (shut_is_no_pop a.op t.fixed.call o))
+      (ap decided_reply d))
   leaves_shut _ t d e = absurd e
 
   leaves_push : (due : Option Reply) → AtLine two_lock b A7 → a.due ≡ due → DecidedLeaving due → After two_lock b (put Tail_lock 0 m) (left_with_node now due a)
   leaves_push (Some Done) t d e = lets_tail_go _ t.owns.0 t.owns.1 t.knows.0 (λ n. refl) refl marked refl (stutters refl refl refl refl (inr (λ n. sym (ap decided_reply d))))
   leaves_push (Some (Refused refusal)) t d e =
       lets_tail_go _ t.owns.0 t.owns.1 t.knows.0 (to_pocket_holds two_lock b in_hand t.fixed.pocket) refl (to_pocket_marks two_lock b in_hand) refl
-      (closed refl refl refl refl (ap (λ x. Some (Refused x)) e) (ap (λ n. nat_eq n (reserved_node s.bits)) (subst (Leaves s.bits m (last_node (front ∷ rest))) d t.knows.1) ∙ closed_shut s.bits) (λ o. absurd (push_is_no_pop me a.op a.val t.fixed.call o)) (ap decided_reply d))
+      (closed refl refl refl refl (ap (λ x. Some (Refused x)) e) (ap (λ n. nat_eq n (reserved_node s.bits))
+      (subst (Leaves s.bits m (last_node (front ∷ rest))) d t.knows.1) ∙ closed_shut s.bits)
+      (λ o. absurd (push_is_no_pop me a.op a.val t.fixed.call o)) (ap decided_reply d))
     where
       in_hand : a.holds ≡ true
       in_hand = t.fixed.hand ∙ ap keeps_after d
@@ -235,11 +253,13 @@ module _ (b : Before two_lock) where
       at = sym shape.queue_chain.0 ∙ ap (λ (r : Ref). r.node) t.knows.0
 
       second : (ns : List ℕ) × (rest ≡ a.next.node ∷ ns)
-      second = second_leads (IsEnd s.bits) m.nodes m.head.node front a.next.node rest shape.queue_chain (ap (next_in m.nodes) at ∙ ap (λ (r : Ref). r.node) t.knows.1) (no_end s.bits a.next.node t.nodes.1 t.nodes.2)
+      second = second_leads (IsEnd s.bits) m.nodes m.head.node front a.next.node rest shape.queue_chain
+          (ap (next_in m.nodes) at ∙ ap (λ (r : Ref). r.node) t.knows.1) (no_end s.bits a.next.node t.nodes.1 t.nodes.2)
   does B6 r t = unlocks a.due t refl t.fixed.earned
   does S6 r t =
       tried (After two_lock b) (nat_eq m.tail_lock 0)
-      (λ e. let none : m.tail_lock ≡ 0 = eqb-true m.tail_lock 0 e in takes_tail _ none (λ n. refl) refl marked (words.tail_last none) (refl, t.owns.1) (stutters refl refl refl refl (inl (ap decided_reply t.fixed.earned))))
+      (λ e. let none : m.tail_lock ≡ 0 = eqb-true m.tail_lock 0 e in takes_tail _ none (λ n. refl) refl marked (words.tail_last none) (refl, t.owns.1)
+      (stutters refl refl refl refl (inl (ap decided_reply t.fixed.earned))))
       (λ e. on two_lock b _ (ap decided_reply t.fixed.earned) refl (λ n. refl) refl marked tt t.owns)
   does S7 r t = on two_lock b _ (ap decided_reply t.fixed.earned) refl (λ n. refl) refl marked (t.knows, refl) t.owns
   does S8 r t =
@@ -275,7 +295,8 @@ module _ (b : Before two_lock) where
   does l r t = absurd r
 
 -- no line of this queue is D5, where a dequeue may go on to take a value
-found_a_node : (Z : ℕ → Type 0) (s : Setup) (me : ℕ) (m : Shared) (last : ℕ) (a : Actor) (l : Line) → IsRunBy (section_of l) TwoLock → Knows two_lock Z s m last a (Some l) → FoundANode s me a l (found (action s me a l) m)
+found_a_node : (Z : ℕ → Type 0) (s : Setup) (me : ℕ) (m : Shared) (last : ℕ) (a : Actor) (l : Line) → IsRunBy (section_of l) TwoLock
+    → Knows two_lock Z s m last a (Some l) → FoundANode s me a l (found (action s me a l) m)
 found_a_node Z s me m last a D5 r k = absurd r
 found_a_node Z s me m last a _ r k = tt
 

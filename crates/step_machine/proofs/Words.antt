@@ -62,7 +62,8 @@ module _ (bits : ℕ) where
       let f : suc k - 1 ≡ k = omega arith in
       rw e
       (ap (before s)
-      (subst (λ j. node_words bits (set s.nodes j (record (get_or s.nodes j blank) { next = c })) ≡ set (node_words bits s.nodes) (2 * k) (ref_word bits c)) (sym f) (next_put s.nodes k c (omega arith))))
+      (subst (λ j. node_words bits (set s.nodes j (record (get_or s.nodes j blank) { next = c })) ≡ set (node_words bits s.nodes) (2 * k)
+      (ref_word bits c)) (sym f) (next_put s.nodes k c (omega arith))))
   writing s (Value_of zero) c h = let some : 1 ≤ 0 = h.0 in absurd (omega arith)
   writing s (Value_of (suc k)) c h =
       let within : suc k ≤ length s.nodes = h.1 in
@@ -70,5 +71,6 @@ module _ (bits : ℕ) where
       let f : suc k - 1 ≡ k = omega arith in
       rw e
       (ap (before s)
-      (subst (λ j. node_words bits (set s.nodes j (record (get_or s.nodes j blank) { value = c })) ≡ set (node_words bits s.nodes) (suc (2 * k)) (value_word c)) (sym f) (value_put s.nodes k c (omega arith))))
+      (subst (λ j. node_words bits (set s.nodes j (record (get_or s.nodes j blank) { value = c })) ≡ set (node_words bits s.nodes) (suc (2 * k))
+      (value_word c)) (sym f) (value_put s.nodes k c (omega arith))))
   writing s _ c h = refl

@@ -16,9 +16,12 @@ returns-clause-took g c =
     let items = at.items ∙ ap (λ (x : Actor). listed x.entry (new_operation c.args.me x.op c.args.now) ops) c.a.view_is in
     let place_is = at.place ∙ ap (λ (x : Actor). entry_or x.entry (length ops)) c.a.view_is in
     let told = slice_set c.list_operation-place.new.operations.items place step.new.operation in
-    subst (λ (x : Actor). TookStep c.args.setup c.args.now c.args.me c.args.line c.args.memory.now ops c.args.a.now step.new.memory told (record x { entry = Some place }) (reply_in (slice_get told place)))
+    subst (λ (x : Actor). TookStep c.args.setup c.args.now c.args.me c.args.line c.args.memory.now ops c.args.a.now step.new.memory told
+    (record x { entry = Some place }) (reply_in (slice_get told place)))
     (sym c.a-2.view_is)
-    (subst (λ os. TookStep c.args.setup c.args.now c.args.me c.args.line c.args.memory.now ops a step.new.memory (slice_set os place step.new.operation) (record step.new.a { entry = Some place }) (reply_in (slice_get (slice_set os place step.new.operation) place)))
+    (subst (λ os. TookStep c.args.setup c.args.now c.args.me c.args.line c.args.memory.now ops a step.new.memory
+    (slice_set os place step.new.operation) (record step.new.a { entry = Some place })
+    (reply_in (slice_get (slice_set os place step.new.operation) place)))
     (sym items)
     (took c.args.setup c.args.now c.args.me c.args.line c.args.memory.now a ops step.new.memory step.new.a c.in-Some.operation.now step.new.operation place _
     step.ensures.actor step.ensures.operation

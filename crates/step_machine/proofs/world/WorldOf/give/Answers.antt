@@ -1,69 +1,57 @@
 -- Giving up leads from a made world to a made world, and keeps its room.
-use Rattle.std.proofs.Common.{◌≡◌, ◌+◌, ◌≤◌, Some, vec_len, vec_capacity, length, lit≤, rules, arith, refl, sym, ap, subst, ◌∙◌}
-use Rattle.step_machine.specs.Below.{Actor, Outcome, settled, gives_up}
+use Rattle.std.proofs.Common.{◌≡◌, ◌+◌, Some, lit≤, rules, arith, refl, sym, ap, ◌∙◌}
+use Rattle.step_machine.specs.Below.{Actor, Outcome, settled}
 use Rattle.step_machine.specs.declared.actors.Move.TheVariants.{Give}
-use Rattle.step_machine.specs.Machine.{next, with_operation, new_operation, with_outcome, after_outcome}
-use Rattle.step_machine.specs.Views.{HasEntry, actors_after, operations_after}
+use Rattle.step_machine.specs.declared.world.WorldOf.TheInside.{Inside}
+use Rattle.step_machine.specs.Machine.{World, next}
 use Rattle.step_machine.specs.Stored.{world}
-use Rattle.step_machine.proofs.Giving.{give_move, same_world}
-use Rattle.step_machine.proofs.Making.{entry_room, Rooms, given_rooms}
-use Rattle.step_machine.proofs.Reached.{made_next}
+use Rattle.step_machine.proofs.Giving.{GaveUp, gave_up, give_leads}
+use Rattle.step_machine.proofs.Making.{entry_room_as, given_rooms, kept_by}
 use Rattle.step_machine.proofs.world.WorldOf.give.Goals as goal
 use Rattle.step_machine.proofs.world.WorldOf.give.Given as given
 
 pub commit-requires : goal.commit-requires
-commit-requires g c = (
-  lit≤ tt,
-  (
-    lit≤ tt,
-    (
-      subst (λ (x : Actor). HasEntry x.entry (vec_len c.self.inside.operations) (vec_capacity c.self.inside.operations)) (sym c.a.view_is)
-          (subst (λ n. HasEntry c.in-Some.a.now.entry n (vec_capacity c.self.inside.operations)) (sym c.self.inside.operations.ok.0)
-          (entry_room (world g.row.B c.self.inside) _ c.args.actor c.in-Some.a.now c.in-Some-line.line c.self.invariant.made c.in-Some.ensures.there (sym (ap (λ (x : Actor). x.line) c.a.view_is) ∙ c.in-Some-line.is) c.self.invariant.entries)),
-      search rules,
-    ),
-  ),
-)
+commit-requires g c =
+    let here = sym (ap (λ (x : Actor). x.line) c.a.view_is) ∙ c.in-Some-line.is in
+    let room = entry_room_as g.row.B c.self.inside c.self.invariant c.args.actor _ _ _ c.in-Some-line.line c.in-Some.ensures.there here c.a.view_is
+    c.self.inside.operations.ok.0 in
+    (lit≤ tt, (lit≤ tt, (room, search rules)))
 
--- what the call came to
-abbrev left : (g : given.Over) → goal.After-self-1 g → Outcome
-left g c = settled c.give_up.new.actor c.in-Some-give_up.told
+module _ (g : given.Over) (c : goal.After-self-1 g) where
+  -- the world before the call, its fields after it, and what the actor's call came to
+  abbrev was : World
+  was = world g.row.B c.self.inside
 
-actors_are : (g : given.Over) (c : goal.After-self-1 g) → c.commit.new.actors.items ≡ actors_after c.args.actor c.in-Some.a.now.entry (length c.self.inside.operations.items) (left g c) c.self.inside.actors.items
-actors_are g c = c.commit.ensures.actors ∙ ap (λ (x : Actor). actors_after c.args.actor x.entry (length c.self.inside.operations.items) (left g c) c.self.inside.actors.items) c.a.view_is
+  abbrev left : Inside g.row.B
+  left =
+      let n = c.commit.new in
+      record { setup = c.self.inside.setup; steps = c.saturating_add-now.result; memory = n.memory; actors = n.actors; operations = n.operations }
 
-operations_are : (g : given.Over) (c : goal.After-self-1 g) → c.commit.new.operations.items ≡ operations_after c.args.actor c.in-Some.a.now.op c.in-Some.a.now.entry c.saturating_add-now.result (left g c) c.self.inside.operations.items
-operations_are g c = c.commit.ensures.operations ∙ ap (λ (x : Actor). operations_after c.args.actor x.op x.entry c.saturating_add-now.result (left g c) c.self.inside.operations.items) c.a.view_is
+  abbrev told : Outcome
+  told = settled c.give_up.new.actor c.in-Some-give_up.told
 
-now_is : (g : given.Over) (c : goal.After-self-1 g) → c.saturating_add-now.result ≡ c.self.inside.steps + 1
-now_is g c = omega (arith, c.saturating_add-now.ensures, c.if-self.false, c.self.invariant.numbers)
+  here : c.in-Some.a.now.line ≡ Some c.in-Some-line.line
+  here = sym (ap (λ (x : Actor). x.line) c.a.view_is) ∙ c.in-Some-line.is
 
-up_is : (g : given.Over) (c : goal.After-self-1 g) → gives_up (c.self.inside.steps + 1) c.in-Some.a.now c.in-Some-line.line ≡ Some (left g c)
-up_is g c = ap (λ n. gives_up n c.in-Some.a.now c.in-Some-line.line) (sym (now_is g c)) ∙ ap (λ x. gives_up c.saturating_add-now.result x c.in-Some-line.line) (sym c.a.view_is) ∙ c.in-Some-give_up.ensures.some
+  now_is : c.saturating_add-now.result ≡ was.steps + 1
+  now_is = omega (arith, c.saturating_add-now.ensures, c.if-self.false, c.self.invariant.numbers)
 
-moves : (g : given.Over) (c : goal.After-self-1 g) → next (world g.row.B c.self.inside) (Give c.args.actor) ≡ Some (world g.row.B (record { setup = c.self.inside.setup; steps = c.saturating_add-now.result; memory = c.commit.new.memory; actors = c.commit.new.actors; operations = c.commit.new.operations }))
-moves g c =
-    give_move (world g.row.B c.self.inside) c.args.actor c.in-Some.a.now c.in-Some-line.line (left g c) c.in-Some.ensures.there (sym (ap (λ (x : Actor). x.line) c.a.view_is) ∙ c.in-Some-line.is) (up_is g c) ∙
-    ap Some
-    (sym
-    (same_world _ (after_outcome (world g.row.B c.self.inside) c.args.actor c.in-Some.a.now c.self.inside.memory.words (left g c)) refl (now_is g c)
-    (ap (λ m. m.words) c.commit.ensures.memory) (actors_are g c) (ap (λ m. m.aside) c.commit.ensures.memory)
-    (subst (λ n. c.commit.new.operations.items ≡ with_operation c.in-Some.a.now.entry (new_operation c.args.actor c.in-Some.a.now.op n) (with_outcome n (left g c)) c.self.inside.operations.items) (now_is g c) (operations_are g c))))
+  gave : GaveUp was c.args.actor (was.steps + 1) c.in-Some.a.now c.in-Some-line.line told c.commit.new.actors.items c.commit.new.operations.items
+  gave =
+      gave_up was c.args.actor c.saturating_add-now.result c.in-Some.a.now _ c.in-Some-line.line told _ _ c.a.view_is now_is
+      (record { up = c.in-Some-give_up.ensures.some; actors_are = c.commit.ensures.actors; operations_are = c.commit.ensures.operations })
+
+  moves : next was (Give c.args.actor) ≡ Some (world g.row.B left)
+  moves =
+      give_leads was (world g.row.B left) c.args.actor c.in-Some.a.now c.in-Some-line.line told c.in-Some.ensures.there here gave refl now_is
+      (ap (λ m. m.words) c.commit.ensures.memory) (ap (λ m. m.aside) c.commit.ensures.memory)
 
 pub invariant_of-self : goal.invariant_of-self
 invariant_of-self g c =
-    let room : c.commit.new.memory.room ≡ c.self.inside.memory.room = ap (λ m. m.room) c.commit.ensures.memory in
-    let rooms : Rooms c.self.inside.setup.size c.commit.new.memory.words.fresh c.commit.new.memory.room _ c.commit.new.actors.items c.commit.new.operations.items =
-    given_rooms (world g.row.B c.self.inside) _ _ _ _ c.args.actor _ c.in-Some.a.now c.in-Some-line.line (left g c) _ _ _ _ _ _ c.in-Some.ensures.there (sym (ap (λ (x : Actor). x.line) c.a.view_is) ∙ c.in-Some-line.is) (up_is g c)
-    (ap (λ m. m.words.fresh) c.commit.ensures.memory) room (actors_are g c) (operations_are g c) c.self.invariant.nodes c.self.invariant.entries c.commit.ensures.room in
-    record {
-      split = c.self.invariant.split;
-      made = made_next (world g.row.B c.self.inside) _ (Give c.args.actor) c.self.invariant.made (moves g c);
-      numbers = omega (arith, now_is g c, c.if-self.false, c.self.invariant.numbers);
-      within = subst (λ n. n ≤ c.self.inside.setup.size) (sym room) c.self.invariant.within;
-      nodes = rooms.nodes;
-      entries = rooms.entries;
-    }
+    kept_by g.row.B c.self.inside (left g c) (Give c.args.actor) c.self.invariant (moves g c) refl
+    (omega (arith, now_is g c, c.if-self.false, c.self.invariant.numbers)) (omega (arith, ap (λ m. m.room) c.commit.ensures.memory, c.self.invariant.within))
+    (given_rooms g.row.B c.self.inside c.self.invariant _ c.args.actor c.in-Some.a.now c.in-Some-line.line (told g c) c.commit.new.memory _ _
+    c.in-Some.ensures.there (here g c) (gave g c) c.commit.ensures.memory c.commit.ensures.room)
 
 pub returns-clause-ok : goal.returns-clause-ok
 returns-clause-ok g c = ap (λ w. next w (Give c.args.actor)) (sym c.self.view_is) ∙ moves g c

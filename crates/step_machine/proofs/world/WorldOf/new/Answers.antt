@@ -27,7 +27,8 @@ invariant_of-result g c =
     let no_operations : length c.new-2.result.items ≡ 0 = ap length c.new-2.ensures.items in
     record {
       split = refl;
-      made = subst IsMade (opened s c.args.actors c.in-Ok.memory c.in-Ok-idle_actors.actors.items c.new-2.result.items c.in-Ok.ensures c.in-Ok-idle_actors.ensures c.new-2.ensures.items) (opening_made s c.args.actors sized);
+      made = subst IsMade (opened s c.args.actors c.in-Ok.memory c.in-Ok-idle_actors.actors.items c.new-2.result.items c.in-Ok.ensures
+          c.in-Ok-idle_actors.ensures c.new-2.ensures.items) (opening_made s c.args.actors sized);
       numbers = omega arith;
       within = omega arith;
       nodes = inr (omega arith);
