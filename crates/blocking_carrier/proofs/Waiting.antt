@@ -4,7 +4,7 @@ use Rattle.history.specs.declared.refusals.Refusal.{Refusal}
 use Rattle.history.specs.declared.refusals.Refusal.TheVariants.{NoNode}
 use Rattle.carriers.specs.declared.items.ItemOf.{ItemOf}
 use Rattle.carriers.specs.Knowledge.{KnownOf}
-use Rattle.carriers.specs.Answers.{FoundEmptyOf, PopAnswersOf, PopRefusedOf, PushRefusedOf, SeesMoreOf}
+use Rattle.carriers.specs.Answers.{EndsByTryOf, FoundEmptyOf, PopAnswersOf, PopRefusedOf, PushRefusedOf, SeesMoreOf}
 use Rattle.carriers.proofs.Learning.{sees_then}
 use Rattle.blocking_carrier.specs.Waits.{WaitedOf, EmptySinceOf}
 use Rattle.blocking_carrier.specs.Answers.{RecvRefusedOf, EndsAfterWaitOf, LookedOf}
@@ -63,8 +63,24 @@ module _ {A : Type 0} where
   pub refused_after : (a b c : KnownOf A) (r : Refusal) → SeesMoreOf a b → r ≡ NoNode → PushRefusedOf b r c → SeesMoreOf a c
   refused_after a b c r s e h = sees_then a b c s (refused_by b c r e h)
 
+  -- and that then looked, and saw that the queue isn't shut
+  pub looked_after : (a b c d : KnownOf A) (r : Refusal) → SeesMoreOf a b → r ≡ NoNode → PushRefusedOf b r c → SeesMoreOf c d → SeesMoreOf a d
+  looked_after a b c d r s e h l = sees_then a c d (refused_after a b c r s e h) l
+
+  -- and whose next push was refused for want of a node
+  pub full_after : (a b c d f : KnownOf A) (r t : Refusal) → SeesMoreOf a b → r ≡ NoNode → PushRefusedOf b r c → SeesMoreOf c d → t ≡ NoNode → PushRefusedOf d t f → SeesMoreOf a f
+  full_after a b c d f r t s e h l e' h' = refused_after a d f t (looked_after a b c d r s e h l) e' h'
+
 -- a seat that waited, and whose pop then ended after it waited again
 pub ends_on : {Q S A : Type 0} (is_seat : Q → S → Type 0) (known : S → KnownOf A) (cause : Q → S → S → ℕ → Refusal → Type 0) (queue : Q) (a b c : S) (turns : ℕ) (r : Refusal)
     → WaitedOf (known a) (known b) → EndsAfterWaitOf is_seat known cause queue b c turns r → EndsAfterWaitOf is_seat known cause queue a c turns r
 ends_on is_seat known cause queue a b c turns r w e =
     record { last = e.last; seat = e.seat; waited = waits_on (known a) (known b) (known e.last) w e.waited; caused = e.caused }
+
+-- a seat whose time was over as it was then, and whose last push was refused for want of a node
+pub late_then : {Q S A : Type 0} (is_seat : Q → S → Type 0) (known : S → KnownOf A) (cause : Q → S → S → ℕ → Refusal → Type 0) (queue : Q) (a b c then last : S) (r : Refusal)
+    → then ≡ b → SeesMoreOf (known a) (known b) → r ≡ NoNode → PushRefusedOf (known b) r (known c)
+    → is_seat queue last → SeesMoreOf (known b) (known last) → cause queue last c 8 r
+    → SeesMoreOf (known a) (known then) × SeesMoreOf (known then) (known c) × EndsByTryOf is_seat known cause queue then c 8 NoNode
+late_then is_seat known cause queue a b c then last r same s e h seat more caused =
+    rw same (s, refused_by (known b) (known c) r e h, record { last = last; seat = seat; more = more; caused = subst (cause queue last c 8) e caused })

@@ -187,10 +187,8 @@ impl<C: Carrier> BlockingCarrier<C> {
                     Ok(()) => return Ok(InTime::Done(())),
                     Err(unpushed) => match unpushed.refusal {
                         Refusal::NoNode => {
-                            return Ok(InTime::Late(Unsent {
-                                late,
-                                value: unpushed.value,
-                            }));
+                            value = unpushed.value;
+                            return Ok(InTime::Late(Unsent { late, value }));
                         }
                         _ => return Err(unpushed),
                     },

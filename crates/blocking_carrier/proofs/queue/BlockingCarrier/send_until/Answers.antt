@@ -1,8 +1,7 @@
-use Rattle.std.proofs.Common.{◌∙◌, ap, sym, subst, inl, inr}
-use Rattle.carriers.specs.Answers.{SeesMoreOf}
+use Rattle.std.proofs.Common.{◌∙◌, subst, inl, inr}
 use Rattle.carriers.proofs.Learning.{push_refused_then, sees_then}
 use Rattle.blocking_carrier.specs.Queues.{queue_of}
-use Rattle.blocking_carrier.proofs.Waiting.{refused_by, refused_after}
+use Rattle.blocking_carrier.proofs.Waiting.{refused_after, looked_after, full_after, late_then}
 use Rattle.blocking_carrier.proofs.queue.BlockingCarrier.send_until.Goals as goal
 
 pub returns-in_default-clause-refused : goal.returns-in_default-clause-refused
@@ -15,59 +14,43 @@ returns-in_default-clause-caused g c =
 
 pub returns-in-Err-look_for_shut-clause-refused : goal.returns-in-Err-look_for_shut-clause-refused
 returns-in-Err-look_for_shut-clause-refused g c =
-    let offered = refused_after _ _ _ _ c.loop.invariant.more c.in-NoNode.is c.in-Err.ensures.refused in
-    push_refused_then _ _ _ c.in-Err-look_for_shut.refusal offered c.in-Err-look_for_shut.ensures.refused
+    let seen = refused_after _ _ _ _ c.loop.invariant.more c.in-NoNode.is c.in-Err.ensures.refused in
+    push_refused_then _ _ _ c.in-Err-look_for_shut.refusal seen c.in-Err-look_for_shut.ensures.refused
 
 pub returns-in-Err-look_for_shut-clause-caused : goal.returns-in-Err-look_for_shut-clause-caused
 returns-in-Err-look_for_shut-clause-caused g c =
-    let offered = refused_after _ _ _ _ c.loop.invariant.more c.in-NoNode.is c.in-Err.ensures.refused in
-    let e = c.in-Err-look_for_shut.ensures.caused in
-    let closed = c.in-Err-look_for_shut.ensures.closed in
-    let caused = subst (λ r. g.C.Carrier.shut_cause (queue_of c.args.self.now) e.last c.look_for_shut.new.seat 8 r) closed e.caused in
-    record { last = e.last; seat = e.seat; more = sees_then _ _ _ offered e.more; caused = inr (closed, caused) }
+    let seen = refused_after _ _ _ _ c.loop.invariant.more c.in-NoNode.is c.in-Err.ensures.refused in
+    let shut = c.in-Err-look_for_shut.ensures in
+    let e = shut.caused in
+    let caused = subst (g.C.Carrier.shut_cause (queue_of c.args.self.now) e.last c.look_for_shut.new.seat 8) shut.closed e.caused in
+    record { last = e.last; seat = e.seat; more = sees_then _ _ _ seen e.more; caused = inr (shut.closed, caused) }
 
 pub returns-in_default-refusal-clause-refused : goal.returns-in_default-refusal-clause-refused
 returns-in_default-refusal-clause-refused g c =
-    let offered = refused_after _ _ _ _ c.loop.invariant.more c.in-NoNode.is c.in-Err.ensures.refused in
-    let looked = sees_then _ _ _ offered c.in-Ok-look_for_shut.ensures.more in
-    push_refused_then _ _ _ c.in-Err-push.unpushed.refusal looked c.in-Err-push.ensures.refused
+    let seen = looked_after _ _ _ _ _ c.loop.invariant.more c.in-NoNode.is c.in-Err.ensures.refused c.in-Ok-look_for_shut.ensures.more in
+    push_refused_then _ _ _ c.in-Err-push.unpushed.refusal seen c.in-Err-push.ensures.refused
 
 pub returns-in_default-refusal-clause-caused : goal.returns-in_default-refusal-clause-caused
 returns-in_default-refusal-clause-caused g c =
-    let offered = refused_after _ _ _ _ c.loop.invariant.more c.in-NoNode.is c.in-Err.ensures.refused in
-    let looked = sees_then _ _ _ offered c.in-Ok-look_for_shut.ensures.more in
+    let seen = looked_after _ _ _ _ _ c.loop.invariant.more c.in-NoNode.is c.in-Err.ensures.refused c.in-Ok-look_for_shut.ensures.more in
     let e = c.in-Err-push.ensures.caused in
-    record { last = e.last; seat = e.seat; more = sees_then _ _ _ looked e.more; caused = inl e.caused }
+    record { last = e.last; seat = e.seat; more = sees_then _ _ _ seen e.more; caused = inl e.caused }
 
 pub returns-in-NoNode-refusal-2-clause-answer : goal.returns-in-NoNode-refusal-2-clause-answer
 returns-in-NoNode-refusal-2-clause-answer g c =
-    let offered = refused_after _ _ _ _ c.loop.invariant.more c.in-NoNode.is c.in-Err.ensures.refused in
-    let looked = sees_then _ _ _ offered c.in-Ok-look_for_shut.ensures.more in
-    let slept = refused_after _ _ _ _ looked c.in-NoNode-refusal.is c.in-Err-push.ensures.refused in
-    let then = sym (ap g.C.Carrier.known c.in-Some-is_over.ensures.seat) in
-    let e = c.in-Err-push-2.ensures.caused in (
-      c.in-Err-push-2.ensures.back ∙ c.in-Err-push.ensures.back ∙ c.in-Err.ensures.back ∙ c.loop.invariant.value,
-      subst (λ k. SeesMoreOf (g.C.Carrier.known c.args.seat.now) k) then slept,
-      subst (λ k. SeesMoreOf k (g.C.Carrier.known c.push-in-Some-is_over.new.seat)) then (refused_by _ _ _ c.in-NoNode-refusal-2.is c.in-Err-push-2.ensures.refused),
-      record {
-        last = e.last;
-        seat = e.seat;
-        more = subst (λ k. SeesMoreOf k (g.C.Carrier.known e.last)) then e.more;
-        caused = subst (λ r. g.C.Carrier.push_cause (queue_of c.args.self.now) e.last c.push-in-Some-is_over.new.seat 8 r) c.in-NoNode-refusal-2.is e.caused;
-      },
-    )
+    let seen = full_after _ _ _ _ _ _ _ c.loop.invariant.more c.in-NoNode.is c.in-Err.ensures.refused c.in-Ok-look_for_shut.ensures.more c.in-NoNode-refusal.is c.in-Err-push.ensures.refused in
+    let e = c.in-Err-push-2.ensures.caused in
+    let late = late_then g.C.Carrier.is_seat g.C.Carrier.known g.C.Carrier.push_cause (queue_of c.args.self.now) _ _ _ _ e.last _
+    c.in-Some-is_over.ensures.seat seen c.in-NoNode-refusal-2.is c.in-Err-push-2.ensures.refused e.seat e.more e.caused in
+    (c.in-Err-push-2.ensures.back ∙ c.in-Err-push.ensures.back ∙ c.in-Err.ensures.back ∙ c.loop.invariant.value, late.0, late.1, late.2)
 
 pub returns-in_default-refusal-2-clause-refused : goal.returns-in_default-refusal-2-clause-refused
 returns-in_default-refusal-2-clause-refused g c =
-    let offered = refused_after _ _ _ _ c.loop.invariant.more c.in-NoNode.is c.in-Err.ensures.refused in
-    let looked = sees_then _ _ _ offered c.in-Ok-look_for_shut.ensures.more in
-    let slept = refused_after _ _ _ _ looked c.in-NoNode-refusal.is c.in-Err-push.ensures.refused in
-    push_refused_then _ _ _ c.in-Err-push-2.unpushed.refusal slept c.in-Err-push-2.ensures.refused
+    let seen = full_after _ _ _ _ _ _ _ c.loop.invariant.more c.in-NoNode.is c.in-Err.ensures.refused c.in-Ok-look_for_shut.ensures.more c.in-NoNode-refusal.is c.in-Err-push.ensures.refused in
+    push_refused_then _ _ _ c.in-Err-push-2.unpushed.refusal seen c.in-Err-push-2.ensures.refused
 
 pub returns-in_default-refusal-2-clause-caused : goal.returns-in_default-refusal-2-clause-caused
 returns-in_default-refusal-2-clause-caused g c =
-    let offered = refused_after _ _ _ _ c.loop.invariant.more c.in-NoNode.is c.in-Err.ensures.refused in
-    let looked = sees_then _ _ _ offered c.in-Ok-look_for_shut.ensures.more in
-    let slept = refused_after _ _ _ _ looked c.in-NoNode-refusal.is c.in-Err-push.ensures.refused in
+    let seen = full_after _ _ _ _ _ _ _ c.loop.invariant.more c.in-NoNode.is c.in-Err.ensures.refused c.in-Ok-look_for_shut.ensures.more c.in-NoNode-refusal.is c.in-Err-push.ensures.refused in
     let e = c.in-Err-push-2.ensures.caused in
-    record { last = e.last; seat = e.seat; more = sees_then _ _ _ slept e.more; caused = inl e.caused }
+    record { last = e.last; seat = e.seat; more = sees_then _ _ _ seen e.more; caused = inl e.caused }
