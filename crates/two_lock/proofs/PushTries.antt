@@ -144,13 +144,13 @@ pub to_a5 : {T : Type 0} (r : Arena) (s u : Seat T) (a b : Running) (l : Line) �
 to_a5 r s u a b l h f = subst (CallIsAt r u continues A5) (sym (same_registers l A5 b (record a { tail = ref_of r.plan.setup.bits f.found }) f.leads_to)) (after_a4 r s u continues f.found a h f.did)
 
 -- before A4 the slot of the body is still out with the seat
-pub loaded_at_a4 : {T : Type 0} (r : Arena) (s t u : Seat T) (h : Held) (val : ℕ) (a b : Running) (out : RowOutcome Running) (from body spent n : ℕ)
+pub loaded_at_a4 : {T : Type 0} (r : Arena) (s t u : Seat T) (h : Held) (val : ℕ) (a b : Running) (out : RowOutcome Running) (from body given spent n : ℕ)
     → b ≡ registers_of h val → Trying r s t h val spent n → Follows r t u continues A3 a out → body < 2 ^ 48 → val ≡ from * 2 ^ 48 + body
-    → IsLoaded r body s → IsLoaded r (value_of b.val).body u
-loaded_at_a4 r s t u h val a b out from body spent n same g f small word loaded =
-    let bodies : (value_of val).body ≡ body = ap (λ (v : Taken). v.body) (value_of-word val from body small word) in
-    loaded_as r body (value_of b.val).body u (sym (ap (λ (x : Running). (value_of x.val).body) same ∙ bodies))
-    (still_loaded r body s u (then_slots s t u g.slots (quiet_slots r t u continues A3 f.found f.did refl)) loaded)
+    → body ≡ given → IsLoaded r given s → IsLoaded r (value_of b.val).body u
+loaded_at_a4 r s t u h val a b out from body given spent n same g f small word is loaded =
+    let bodies : (value_of val).body ≡ given = ap (λ (v : Taken). v.body) (value_of-word val from body small word) ∙ is in
+    loaded_as r given (value_of b.val).body u (sym (ap (λ (x : Running). (value_of x.val).body) same ∙ bodies))
+    (still_loaded r given s u (then_slots s t u g.slots (quiet_slots r t u continues A3 f.found f.did refl)) loaded)
 
 -- and before A5
 pub loaded_at_a5 : {T : Type 0} (r : Arena) (s u : Seat T) (a b : Running) (l : Line) → Follows r s u continues A4 a (Goes l b)
@@ -267,14 +267,14 @@ module _ {T : Type 0} (r : Arena) (s u t : Seat T) (a b c : Running) (j k : Line
       }
 
 -- the body was pushed
-pub puts_it : {T : Type 0} (r : Arena) (s t u x : Seat T) (h : Held) (val : ℕ) (a b : Running) (out : RowOutcome Running) (from body spent n turns : ℕ)
-    → a ≡ registers_of h val → b ≡ registers_of h val → Trying r s t h val spent n → Follows r t u continues A3 a out → has_lock out ≡ true
-    → PushesUnderLock r u x b (Ok tt) → body < 2 ^ 48 → val ≡ from * 2 ^ 48 + body → n < turns
+pub puts_it : {T : Type 0} (r : Arena) (s t u x : Seat T) (h : Held) (val : ℕ) (a b : Running) (out : RowOutcome Running)
+    (from numbered body spent n turns : ℕ) → a ≡ registers_of h val → b ≡ registers_of h val → Trying r s t h val spent n → Follows r t u continues A3 a out → has_lock out ≡ true
+    → PushesUnderLock r u x b (Ok tt) → numbered < 2 ^ 48 → val ≡ from * 2 ^ 48 + numbered → n < turns → numbered ≡ body
     → PushesWithNode push_worn r s (keeping x None n) h.node body spent turns (Ok tt)
-puts_it r s t u x h val a b out from body spent n turns is same g follows won linked small word less =
+puts_it r s t u x h val a b out from numbered body spent n turns is same g follows won linked small word less told =
     let f : Follows r t u continues A3 (registers_of h val) out = subst (λ x. Follows r t u continues A3 x out) is follows in
     let k : PushesUnderLock r u x (registers_of h val) (Ok tt) = subst (λ y. PushesUnderLock r u x y (Ok tt)) same linked in
-    let bodies : (value_of val).body ≡ body = ap (λ (v : Taken). v.body) (value_of-word val from body small word) in
+    let bodies : (value_of val).body ≡ body = ap (λ (v : Taken). v.body) (value_of-word val from numbered small word) ∙ told in
     let try : Event = event r t u continues A3 f.found f.did in
     let one = got r t u (registers_of h val) out g.stands f won in
     let before : List Event = g.lines ++ try ∷ [] in
@@ -325,9 +325,10 @@ finds_it_shut r s t u x h val a b out refusal body spent n turns is same g follo
     }
 
 -- all turns failed
-pub gives_up_put : {T : Type 0} (r : Arena) (s t : Seat T) (h : Held) (val body spent turns : ℕ) → spent < turns → Trying r s t h val spent turns
+pub gives_up_put : {T : Type 0} (r : Arena) (s t : Seat T) (h : Held) (val body spent n turns : ℕ) → spent < turns → n ≡ turns → Trying r s t h val spent n
     → PushesWithNode push_worn r s (keeping t (Some h) turns) h.node body spent turns (Err Busy)
-gives_up_put r s t h val body spent turns less g =
+gives_up_put r s t h val body spent n turns less all tried =
+    let g : Trying r s t h val spent turns = subst (λ (k : ℕ). Trying r s t h val spent k) all tried in
     let e : added s t ≡ g.lines = added_is s t g.lines g.walks in
     let k = g.stands in
     let rest = ap (out_of (view t).actor) k.before.line in

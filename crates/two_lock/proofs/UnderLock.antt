@@ -59,6 +59,11 @@ to_b4 r s t l a b h f other = subst (λ k. CallIsAt r t continues k b) (go (is_n
     go false true e = absurd (other (same_line l B6 b _ e))
     go false false e = same_line l B4 b _ e
 
+-- after B2 and B3
+pub front_to_b4 : {T : Type 0} (r : Arena) (s u t : Seat T) (a b c : Running) (l k : Line) → CallIsAt r s continues B2 a → Follows r s u continues B2 a (Goes l b)
+    → Follows r u t continues B3 b (Goes k c) → (k ≡ B6 → ⊥) → CallIsAt r t continues B4 c
+front_to_b4 r s u t a b c l k h f2 f3 more = to_b4 r u t k b c (to_b3 r s u l a b h f2) f3 more
+
 -- what is due where B3 goes to B6
 pub found_end : {T : Type 0} (r : Arena) (s t : Seat T) (l : Line) (a b : Running) → (f : Follows r s t continues B3 a (Goes l b)) → l ≡ B6 → (b.due ≡ Some IsEmpty) ⊎ (b.due ≡ Some (IsRefused Closed))
 found_end r s t l a b f is = go (is_null (ref_of r.plan.setup.bits f.found)) (is_shut r.plan.setup.bits (ref_of r.plan.setup.bits f.found)) f.leads_to
@@ -80,6 +85,12 @@ to_b5 r s t l a b h f other = subst (λ k. CallIsAt r t continues k b) (go (nat_
     go : (p : Bool) → Goes l b ≡ (let c = record a { val = f.found } in if p then Goes B6 (record c { due = Some (IsRefused (WornOut OfHead)) }) else Goes B5 c) → l ≡ B5
     go true e = absurd (other (same_line l B6 b _ e))
     go false e = same_line l B5 b _ e
+
+-- after B2, B3 and B4
+pub front_to_b5 : {T : Type 0} (r : Arena) (s u t v : Seat T) (a b c d : Running) (l k j : Line) → CallIsAt r s continues B2 a
+    → Follows r s u continues B2 a (Goes l b) → Follows r u t continues B3 b (Goes k c) → (k ≡ B6 → ⊥) → Follows r t v continues B4 c (Goes j d)
+    → (j ≡ B6 → ⊥) → CallIsAt r v continues B5 d
+front_to_b5 r s u t v a b c d l k j h f2 f3 more f4 free = to_b5 r t v j c d (front_to_b4 r s u t a b c l k h f2 f3 more) f4 free
 
 -- what is due where B4 goes to B6
 pub found_worn : {T : Type 0} (r : Arena) (s t : Seat T) (l : Line) (a b : Running) → Follows r s t continues B4 a (Goes l b) → l ≡ B6 → b.due ≡ Some (IsRefused (WornOut OfHead))
@@ -194,8 +205,8 @@ module _ {T : Type 0} (r : Arena) (s u t v : Seat T) (a b c d : Running) (l k j 
   abbrev looks : List Event
   looks = event r s u continues B2 f2.found f2.did ∷ event r u t continues B3 f3.found f3.did ∷ event r t v continues B4 f4.found f4.did ∷ []
 
-  pub at_b4 : CallIsAt r t continues B4 c
-  at_b4 = to_b4 r u t k b c (to_b3 r s u l a b h f2) f3 more
+  at_b4 : CallIsAt r t continues B4 c
+  at_b4 = front_to_b4 r s u t a b c l k h f2 f3 more
 
   pub look_walk : ExtendsPath (view s) (view v) looks
   look_walk =
