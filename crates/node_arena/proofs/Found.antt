@@ -1,5 +1,5 @@
 -- Looks one after another: what a word that was looked at says of the world, and what three looks say of the queue.
-use Rattle.std.proofs.Common.{◌≡◌, ◌≢◌, ℕ, ◌+◌, ◌*◌, ◌<◌, ◌≤◌, ◌⊎◌, get_or, inl, inr, true, false, if◌then◌else◌, List, ◌∷◌, ◌++◌, length, IfSome}
+use Rattle.std.proofs.Common.{◌≡◌, ◌≢◌, ℕ, ◌+◌, ◌*◌, ◌<◌, ◌≤◌, ◌⊎◌, get_or, inl, inr, Bool, true, false, if◌then◌else◌, List, ◌∷◌, ◌++◌, length, IfSome}
 use Rattle.std.proofs.Common.{refl, sym, ap, subst, ◌∙◌, arith, append_assoc, eqb-true}
 use Rattle.std.proofs.lemmas.Bool.{eqb-false}
 use Rattle.std.specs.List.{count_by}
@@ -160,11 +160,23 @@ leaves_some t r some = go (second_or_end (IsEnd t.world.setup.bits) m.nodes m.he
         }
     go (inr h) = absurd (some (subst (λ k. IsEnd t.world.setup.bits (next_in m.nodes k)) (sym first) h))
 
--- a look at Head, at what follows its node, and at Head again
-module _ (z : Layout) (word n1 n2 n3 : ℕ) (v0 v1 v2 v3 : SeatView) (a : LooksAt z 2 n1 v0 v1) (b : LooksAt z word n2 v1 v2) (c : LooksAt z 2 n3 v2 v3)
-    (at : word ≡ 4 + 2 * (ref_of z.setup.bits n1).node) where
+-- a test for a closed end is told of what was read
+pub shut_told : (s t : Setup) (other n : ℕ) (x : Ref) (told is : Bool) → s ≡ t → s.bits ≡ other → x ≡ ref_of t.bits n → told ≡ is_shut other x → told ≡ is
+    → is_shut t.bits (ref_of t.bits n) ≡ is
+shut_told s t other n x told is same split read tests e =
+    (λ i. is_shut ((ap (λ (k : Setup). k.bits) (sym same) ∙ split) i) (sym read i)) ∙ sym tests ∙ e
+
+-- a look at Head, at what follows its node, which was read as `x`, and at Head again
+module _ (z : Layout) (k n1 n2 n3 : ℕ) (v0 v1 v2 v3 : SeatView) (a : LooksAt z 2 n1 v0 v1) (b : LooksAt z (4 + 2 * k) n2 v1 v2) (c : LooksAt z 2 n3 v2 v3)
+    (x : Ref) (read : x ≡ ref_of z.setup.bits n1) (front : k ≡ x.node) where
   abbrev bits : ℕ
   bits = z.setup.bits
+
+  abbrev word : ℕ
+  word = 4 + 2 * k
+
+  at : word ≡ 4 + 2 * (ref_of bits n1).node
+  at = ap (λ j. 4 + 2 * j) (front ∙ ap (λ (r : Ref). r.node) read)
 
   abbrev one : Ref
   one = a.was.world.shared.head

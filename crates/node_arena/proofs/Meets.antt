@@ -346,8 +346,20 @@ module _ {T : Type 0} (key : Layout) (id : ℕ) (me : Me (Option T) (Beside T)) 
       ))
 
 -- the token that two others joined into
-pub joined_is : {T : Type 0} (j one tok : Me (Option T) (Beside T)) (v w : SeatView) → one.0.plain ≡ seated v → tok.0.plain ≡ seated w → j ≡ (both_beside one.0 tok.0, one.1) → j.0.plain ≡ paired v w
+joined_is : {T : Type 0} (j one tok : Me (Option T) (Beside T)) (v w : SeatView) → one.0.plain ≡ seated v → tok.0.plain ≡ seated w → j ≡ (both_beside one.0 tok.0, one.1) → j.0.plain ≡ paired v w
 joined_is j one tok v w a b e = ap (λ y. y.0.plain) e ∙ (λ i. both_of (a i) (b i))
+
+-- the same where that token is what was put in the place of one that was left as it is
+pub joined_as : {T : Type 0} (j one him was tok : Me (Option T) (Beside T)) (v w : SeatView) → one.0.plain ≡ seated v → was.0.plain ≡ seated w
+    → him ≡ was → tok ≡ him → j ≡ (both_beside one.0 tok.0, one.1) → j.0.plain ≡ paired v w
+joined_as j one him was tok v w a b left put e = joined_is j one tok v w a (ap (λ m. m.0.plain) put ∙ (ap (λ m. m.0.plain) left ∙ b)) e
+
+-- and what grew from the token that two joined into grew from the two
+pub grown_as : {T : Type 0} (y z : Layout) (j one him was tok : Me (Option T) (Beside T)) (now : Beside T) → y ≡ z → him ≡ was → tok ≡ him
+    → j ≡ (both_beside one.0 tok.0, one.1) → GrowsBy y.carries j.0 now → GrowsBy z.carries (both_beside one.0 was.0) now
+grown_as {T} y z j one him was tok now same left put e grown =
+    subst (λ (x : Layout). GrowsBy x.carries (both_beside one.0 was.0) now) same
+    (subst (λ (w : Beside T). GrowsBy y.carries w now) (ap (λ (m : Me (Option T) (Beside T)). m.0) e ∙ ap (λ (m : Me (Option T) (Beside T)). both_beside one.0 m.0) (put ∙ left)) grown)
 
 -- what the load tells of two views that are one, said of the two
 pub met_there : (z : Layout) (j : View) (m : Me ℕ View) (v w : SeatView) → j ≡ paired v w → Met z (knows j) (knows_second j) m → Met z v w m
@@ -417,3 +429,6 @@ met_at z y v w m e h = subst (λ (x : Layout). Met x v w m) e h
 -- the same of an arena by another name
 pub met_as : {T : Type 0} (r q : Arena) (s t s' t' : Seat T) → r ≡ q → Meets r s t s' t' → Meets q s t s' t'
 met_as r q s t s' t' same = subst (λ a. Meets a s t s' t') same
+
+pub ready_as : {T : Type 0} (r q : Arena) (s : Seat T) → r ≡ q → IsReady q s → IsReady r s
+ready_as r q s same = subst (λ a. IsReady a s) (sym same)

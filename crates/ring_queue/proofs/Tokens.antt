@@ -1,5 +1,5 @@
 -- What calls ask of a ring's table beside steps, at their names.
-use Rattle.std.proofs.Common.{◌≡◌, ℕ, ◌-◌, ◌≤◌, Bool, false, if◌then◌else◌, List, [], ◌∷◌, ◌++◌, length, map, take, Option, Some, slice_get, sym, refl, ap, ◌∙◌, subst, arith}
+use Rattle.std.proofs.Common.{◌≡◌, ℕ, ◌-◌, ◌≤◌, Bool, true, false, if◌then◌else◌, List, [], ◌∷◌, ◌++◌, length, map, take, Option, Some, slice_get, sym, refl, ap, ◌∙◌, subst, arith}
 use Rattle.std.specs.List.{All}
 use Rattle.std.proofs.lemmas.List.Elements.{All-append, All-cons, All-nil}
 use mathlib.Core.List.{IsPrefix}
@@ -20,7 +20,7 @@ use Rattle.ring_queue.specs.Plans.{Layout, IsPlanned, IsTable, words_of, slots_o
 use Rattle.ring_queue.specs.Knowledge.{SeatView, View, keeper, gathered, seated, paired, spent, new_seat, knows, known_by, both_of, first_of, second_of, dealt_left, dealt_right}
 use Rattle.ring_queue.specs.Rule.{Holds}
 use Rattle.ring_queue.specs.Steps.{Rests}
-use Rattle.ring_queue.specs.Beside.{Beside, HasNone, HoldsBy, MeetsBeside, OpensBeside, left_dealt, right_dealt, left_as_it_is, knows_nothing, both_beside, first_beside_of, second_beside_of}
+use Rattle.ring_queue.specs.Beside.{Beside, GrowsBy, HasNone, HoldsBy, MeetsBeside, OpensBeside, left_dealt, right_dealt, left_as_it_is, knows_nothing, both_beside, first_beside_of, second_beside_of}
 use Rattle.ring_queue.specs.NewRings.{IsDealt}
 use Rattle.ring_queue.specs.Ends.{HasToken, HasGathered}
 use Rattle.ring_queue.specs.Seats.{HasNoSlot, deeds_of, view}
@@ -168,8 +168,21 @@ parts_at key id me v w is met =
     ))
 
 -- the token that two others joined into
-pub joined_is : {T : Type 0} (j one tok : Me (Option T) (Beside T)) (v w : SeatView) → one.0.plain ≡ seated v → tok.0.plain ≡ seated w → j ≡ (both_beside one.0 tok.0, one.1) → j.0.plain ≡ paired v w
+joined_is : {T : Type 0} (j one tok : Me (Option T) (Beside T)) (v w : SeatView) → one.0.plain ≡ seated v → tok.0.plain ≡ seated w → j ≡ (both_beside one.0 tok.0, one.1) → j.0.plain ≡ paired v w
 joined_is j one tok v w a b e = ap (λ y. y.0.plain) e ∙ (λ i. both_of (a i) (b i))
+
+-- the same where that token is what was put in the place of one that was left as it is
+pub joined_as : {T : Type 0} (j one him was tok : Me (Option T) (Beside T)) (v w : SeatView) → one.0.plain ≡ seated v → was.0.plain ≡ seated w
+    → him ≡ was → tok ≡ him → j ≡ (both_beside one.0 tok.0, one.1) → j.0.plain ≡ paired v w
+joined_as j one him was tok v w a b left put e = joined_is j one tok v w a (ap (λ m. m.0.plain) put ∙ (ap (λ m. m.0.plain) left ∙ b)) e
+
+-- and what grew from the token that two joined into grew from the two
+pub grown_as : {T : Type 0} (carries : Bool) (j one him was tok : Me (Option T) (Beside T)) (now : Beside T) → carries ≡ true → him ≡ was → tok ≡ him
+    → j ≡ (both_beside one.0 tok.0, one.1) → GrowsBy carries j.0 now → GrowsBy true (both_beside one.0 was.0) now
+grown_as {T} carries j one him was tok now is left put e grown =
+    subst (λ (w : Beside T). GrowsBy true w now)
+    (ap (λ (m : Me (Option T) (Beside T)). m.0) e ∙ ap (λ (m : Me (Option T) (Beside T)). both_beside one.0 m.0) (put ∙ left))
+    (subst (λ (b : Bool). GrowsBy b j.0 now) is grown)
 
 -- a new token gathers
 pub enters : (T : Type 0) (key : Layout) (slots : ℕ) → Enters {S = Option T} (HoldsBy key) slots 0 (λ n w. OpensBeside (w, []))

@@ -13,7 +13,7 @@ use Rattle.history.specs.declared.refusals.Refusal.{Refusal}
 use Rattle.history.specs.declared.refusals.Refusal.TheVariants.{Text, Read}
 use Rattle.line_table.specs.declared.lines.Kind.{Kind}
 use Rattle.schedule_text.specs.declared.fields.Field.{Field}
-use Rattle.schedule_text.specs.declared.fields.Field.TheVariants.{Nodes}
+use Rattle.schedule_text.specs.declared.fields.Field.TheVariants.{Nodes, Limit, Actors, Events}
 use Rattle.schedule_text.specs.Schedules.{IsBitsOf, header_lines}
 use Rattle.schedule_text.specs.Texts.{Said, version, queue, number, Due, version_due, queue_due, number_due, events_left, bits_of, said_words, is_due}
 use Rattle.schedule_text.specs.Texts.{due_after, due_after_queue, bits_said, Tells, MaySay, IsEventInRange, IsSaidInRange, schedule_lines}
@@ -190,7 +190,7 @@ stopped_later before due said old mid new (Text at cause) more gave stopped =
 stopped_later before due said old mid new _ more gave stopped = stopped
 
 -- the same where the next line is told by its number
-pub stopped_next : (before next : ℕ) (due : Due) (said : Said) (old mid new : SourceState) (refusal : Refusal) → before + 1 ≡ next → is_due due ≡ true → GaveSaid due said old mid
+stopped_next : (before next : ℕ) (due : Due) (said : Said) (old mid new : SourceState) (refusal : Refusal) → before + 1 ≡ next → is_due due ≡ true → GaveSaid due said old mid
     → IsStopped next (due_after due said) mid new refusal → IsStopped before due old new refusal
 stopped_next before next due said old mid new refusal is more gave stopped =
     stopped_later before due said old mid new refusal more gave (subst (λ (n : ℕ). IsStopped n (due_after due said) mid new refusal) (sym is) stopped)
@@ -217,6 +217,35 @@ GaveLines-front due said rs old mid new more gave others = record {
   given = Consumes-more old.left mid.left new.left (line (spaced (said_words said))) (lines_of schedule_lines rs) gave.given others.given;
   quiet = others.quiet ∙ gave.quiet;
 }
+
+-- the sizes, each behind those before it: what one is refused for, and all four
+module _ (v : Version) (bits lines : ℕ) (counted : lines ≡ header_lines v) (nodes : ℕ) (s0 s1 : SourceState) (first : GaveSaid (number_due v bits Nodes) (number Nodes nodes) s0 s1) where
+  pub stopped_limit : (new : SourceState) (refusal : Refusal) → IsStopped (lines - 4 + 1) (number_due v bits Limit) s1 new refusal
+      → IsStopped (header_lines v - 4) (number_due v bits Nodes) s0 new refusal
+  stopped_limit new refusal =
+      stopped_next (header_lines v - 4) (lines - 4 + 1) (number_due v bits Nodes) (number Nodes nodes) s0 s1 new refusal (omega (arith, counted)) refl first
+
+  module _ (limit : ℕ) (s2 : SourceState) (second : GaveSaid (number_due v bits Limit) (number Limit limit) s1 s2) where
+    pub stopped_actors : (new : SourceState) (refusal : Refusal) → IsStopped (lines - 4 + 2) (number_due v bits Actors) s2 new refusal
+        → IsStopped (header_lines v - 4) (number_due v bits Nodes) s0 new refusal
+    stopped_actors new refusal stopped =
+        stopped_limit new refusal
+        (stopped_next (lines - 4 + 1) (lines - 4 + 2) (number_due v bits Limit) (number Limit limit) s1 s2 new refusal (omega arith) refl second stopped)
+
+    module _ (actors : ℕ) (s3 : SourceState) (third : GaveSaid (number_due v bits Actors) (number Actors actors) s2 s3) where
+      pub stopped_events : (new : SourceState) (refusal : Refusal) → IsStopped (lines - 4 + 3) (number_due v bits Events) s3 new refusal
+          → IsStopped (header_lines v - 4) (number_due v bits Nodes) s0 new refusal
+      stopped_events new refusal stopped =
+          stopped_actors new refusal
+          (stopped_next (lines - 4 + 2) (lines - 4 + 3) (number_due v bits Actors) (number Actors actors) s2 s3 new refusal (omega arith) refl third stopped)
+
+      pub gave_sizes : (events : ℕ) (s4 : SourceState) → GaveSaid (number_due v bits Events) (number Events events) s3 s4
+          → GaveLines (number_due v bits Nodes) (number Nodes nodes ∷ number Limit limit ∷ number Actors actors ∷ number Events events ∷ []) s0 s4
+      gave_sizes events s4 fourth =
+          GaveLines-front (number_due v bits Nodes) (number Nodes nodes) _ s0 s1 s4 refl first
+          (GaveLines-front (number_due v bits Limit) (number Limit limit) _ s1 s2 s4 refl second
+          (GaveLines-front (number_due v bits Actors) (number Actors actors) _ s2 s3 s4 refl third
+          (GaveLines-front (number_due v bits Events) (number Events events) _ s3 s4 s4 refl fourth (GaveLines-none _ s4))))
 
 -- the header is what its parts are
 pub GaveLines-header : (v : Version) (kind : Kind) (bits : ℕ) (sizes : List Said) (old first second third new : SourceState) → GaveSaid version_due (version v) old first

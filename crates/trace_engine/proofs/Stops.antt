@@ -1,6 +1,8 @@
 -- How far events can be made.
-use Rattle.std.proofs.Common.{◌≡◌, ℕ, ◌+◌, ◌<◌, ◌≤◌, List, ◌∷◌, ◌++◌, length, take, drop, get_or, Option, Some, None, sym, ap, subst, ◌∙◌, arith, take-append-drop}
+use Rattle.std.proofs.Common.{◌≡◌, ℕ, ◌+◌, ◌<◌, ◌≤◌, List, ◌∷◌, ◌++◌, length, take, drop, get_or, All, Option, Some, None, refl, sym, ap, subst, ◌∙◌, arith, take-append-drop}
 use Rattle.std.specs.List.{slice_get}
+use Rattle.std.specs.Prelude.{IsSome}
+use Rattle.std.proofs.lemmas.List.Elements.{All-take}
 use Rattle.std.proofs.lemmas.List.{drop_more, length-take-le}
 use Rattle.std.proofs.lemmas.Option.{get_or_from_slice_get, slice_get-get_or, slice_get_within}
 use Rattle.engine_faults.specs.Faults.{IsMoveRefusal}
@@ -9,6 +11,7 @@ use Rattle.run_engine.specs.Runs.{EventRefused, EventsLead, EventsRefused, openi
 use Rattle.run_engine.proofs.Leading.{world_after-moves_of}
 use Rattle.schedule_text.specs.declared.schedules.Event.{Event}
 use Rattle.schedule_text.specs.Schedules.{Schedule, header_lines, moves_of}
+use Rattle.schedule_text.specs.Texts.{IsEventInRange, IsInRange}
 use Rattle.step_machine.specs.Machine.{World}
 use Rattle.trace_engine.specs.declared.counts.RunExtent.{RunExtent}
 use Rattle.trace_engine.specs.Extents.{IsCount, IsExtentOf, StopsAt}
@@ -78,3 +81,14 @@ module _ (s : Schedule) (counted : RunExtent) (count : IsExtentOf s counted) whe
   -- what it is refused
   pub is_refused : (refusal : Refusal) → counted.refusal ≡ Some refusal → IsMoveRefusal refusal
   is_refused refusal some = (stops_at (Some refusal) some).2
+
+  -- those that can be made are few, in range, and lead on from the opening world
+  pub can_make : (events : List Event) (w : World) → events ≡ take counted.made s.events → w ≡ opening_of s → IsInRange s
+      → All IsEventInRange events × (length events ≤ 1000000 × ((w.steps ≡ 0) × IsSome (world_after (moves_of events) w)))
+  can_make events w same opening range =
+      let first = take counted.made s.events in
+      let led : IsSome (world_after (moves_of first) (opening_of s)) = rw (world_after-moves_of first (opening_of s) count.world count.led) refl in
+      rw (same, opening) (
+        All-take IsEventInRange counted.made s.events (λ k d within. (range.each k d within).1),
+        (omega (arith, length-take-le counted.made s.events count.within, count.within, range.events), (refl, led)),
+      )

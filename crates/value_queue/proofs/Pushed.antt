@@ -16,7 +16,7 @@ use Rattle.node_arena.specs.declared.slots.Got.{Got}
 use Rattle.node_arena.specs.Knowledge.{SeatView}
 use Rattle.node_arena.specs.Knowledge as seeing
 use Rattle.node_arena.specs.Deeds.{Deed, pushed}
-use Rattle.node_arena.specs.Beside.{slots_in}
+use Rattle.node_arena.specs.Beside.{HasLoaded, slots_in}
 use Rattle.node_arena.specs.Hands.{HasSlot, KeepsKnown, AddsOwn, FailedTries}
 use Rattle.node_arena.specs.Seats.{IsReady, KeepsSlots, KeepsName, HasNoSlot, SeesMoreDeeds, carries_of, deeds_of, known_of, view}
 use Rattle.node_arena.specs.Paths.{ExtendsPath, added}
@@ -54,6 +54,11 @@ value_is {T} held i j x y e f = ap value_or (sym e ∙ f)
     value_or [] = x
     value_or ((k, None) ∷ xs) = x
     value_or ((k, Some z) ∷ xs) = z
+
+-- a slot that has a value is loaded for the body that is its number
+pub loaded_by : {T : Type 0} (r : Arena) (v : Seat T) (slot body : ℕ) (value : T) → body ≡ slot → HasSlot r v slot (Some value) → HasLoaded r.plan body v.token.me
+loaded_by r v slot body value same has carries =
+    subst (λ (b : ℕ). HasLoaded r.plan b v.token.me) (sym same) (λ _. (value, has.out, has.hand, has.there)) carries
 
 -- a seat that stores and knows the same as one that does
 pub keeps_on : {T : Type 0} (s t u : Seat T) → KeepsKnown s t → KeepsKnown t u → KeepsKnown s u

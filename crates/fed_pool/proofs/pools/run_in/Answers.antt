@@ -13,52 +13,45 @@ run_crew-crew-requires-clause-bounds g c κs within =
 
 pub run_crew-crew-requires-clause-posts : goal.run_crew-crew-requires-clause-posts
 run_crew-crew-requires-clause-posts g c κs within =
-    new_posts c.in-Some.tasks c.in-Some-pop.results c.posts_of-posts.result.items c.requires.tasks c.requires.results c.in-Some.ensures.items c.in-Some-pop.ensures.items
-    c.posts_of-posts.ensures.takers
+    new_posts _ _ _ c.requires.tasks c.requires.results c.in-Some.ensures.items c.in-Some-pop.ensures.items c.posts_of-posts.ensures.takers
     c.posts_of-posts.ensures.givers c.new-queue.ensures c.new-answers.ensures
 
 pub run_crew-crew-requires-clause-team : goal.run_crew-crew-requires-clause-team
 run_crew-crew-requires-clause-team g c κs within =
-    let leading = new_leader c.in-Some.tasks c.in-Some-pop.results c.posts_of-posts.result.items c.requires.tasks c.requires.results c.in-Some.ensures.items
-    c.in-Some-pop.ensures.items c.posts_of-posts.ensures.takers
+    let leading = new_leader _ _ _ c.requires.tasks c.requires.results c.in-Some.ensures.items c.in-Some-pop.ensures.items c.posts_of-posts.ensures.takers
     c.posts_of-posts.ensures.givers c.new-queue.ensures c.new-answers.ensures g.T.Task.answers g.F.Feed.stands c.args.feed c.requires.feed in
     record { leading = leading; unused = c.requires.space.no_workers }
 
 pub closed-requires-clause-tasks_asked : goal.closed-requires-clause-tasks_asked
 closed-requires-clause-tasks_asked g c κs within =
-    let many = new_many c.in-Some.tasks c.in-Some-pop.results c.posts_of-posts.result.items c.requires.tasks c.requires.results c.in-Some.ensures.items c.in-Some-pop.ensures.items
-    c.posts_of-posts.ensures.takers
-    c.posts_of-posts.ensures.givers c.new-queue.ensures c.new-answers.ensures g.T.Task.answers c.run_crew-crew.result.workers.items c.run_crew-crew.ensures.crew.back in
+    let many = new_many _ _ _ c.requires.tasks c.requires.results c.in-Some.ensures.items c.in-Some-pop.ensures.items c.posts_of-posts.ensures.takers
+    c.posts_of-posts.ensures.givers c.new-queue.ensures c.new-answers.ensures g.T.Task.answers _ c.run_crew-crew.ensures.crew.back in
     on (AsksSoMany g.C.CloseCarrier.asks) (sym (c.into_inner.ensures ∙ c.new-queue.ensures)) many c.requires.tasks_asked
 
 pub closed-requires-clause-results_asked : goal.closed-requires-clause-results_asked
 closed-requires-clause-results_asked g c κs within =
-    let many = new_many c.in-Some.tasks c.in-Some-pop.results c.posts_of-posts.result.items c.requires.tasks c.requires.results c.in-Some.ensures.items c.in-Some-pop.ensures.items
-    c.posts_of-posts.ensures.takers
-    c.posts_of-posts.ensures.givers c.new-queue.ensures c.new-answers.ensures g.T.Task.answers c.run_crew-crew.result.workers.items c.run_crew-crew.ensures.crew.back in
+    let many = new_many _ _ _ c.requires.tasks c.requires.results c.in-Some.ensures.items c.in-Some-pop.ensures.items c.posts_of-posts.ensures.takers
+    c.posts_of-posts.ensures.givers c.new-queue.ensures c.new-answers.ensures g.T.Task.answers _ c.run_crew-crew.ensures.crew.back in
     on (AsksSoMany g.D.CloseCarrier.asks) (sym (c.into_inner-2.ensures ∙ c.new-answers.ensures)) (sym c.requires.same ∙ many) c.requires.results_asked
 
 pub closed-requires-clause-parts : goal.closed-requires-clause-parts
 closed-requires-clause-parts g c κs within =
-    let many = new_many c.in-Some.tasks c.in-Some-pop.results c.posts_of-posts.result.items c.requires.tasks c.requires.results c.in-Some.ensures.items c.in-Some-pop.ensures.items
-    c.posts_of-posts.ensures.takers
-    c.posts_of-posts.ensures.givers c.new-queue.ensures c.new-answers.ensures g.T.Task.answers c.run_crew-crew.result.workers.items c.run_crew-crew.ensures.crew.back in
+    let many = new_many _ _ _ c.requires.tasks c.requires.results c.in-Some.ensures.items c.in-Some-pop.ensures.items c.posts_of-posts.ensures.takers
+    c.posts_of-posts.ensures.givers c.new-queue.ensures c.new-answers.ensures g.T.Task.answers _ c.run_crew-crew.ensures.crew.back in
     subst (λ n. IsNew n c.args.space.parts) many c.requires.space.parts
 
 pub closed-requires-clause-ended : goal.closed-requires-clause-ended
 closed-requires-clause-ended g c κs within =
-    new_ended c.in-Some.tasks c.in-Some-pop.results c.posts_of-posts.result.items c.requires.tasks c.requires.results c.in-Some.ensures.items c.in-Some-pop.ensures.items
-    c.posts_of-posts.ensures.takers
-    c.posts_of-posts.ensures.givers c.new-queue.ensures c.new-answers.ensures g.T.Task.answers g.F.Feed.stands c.args.feed c.run_crew-crew.ensures.crew.led
-    c.run_crew-crew.ensures.crew.back c.into_inner.ensures c.into_inner-2.ensures
+    new_ended _ _ _ c.requires.tasks c.requires.results c.in-Some.ensures.items c.in-Some-pop.ensures.items c.posts_of-posts.ensures.takers
+    c.posts_of-posts.ensures.givers c.new-queue.ensures c.new-answers.ensures g.T.Task.answers g.F.Feed.stands c.args.feed
+    c.run_crew-crew.ensures.crew.led c.run_crew-crew.ensures.crew.back c.into_inner.ensures c.into_inner-2.ensures
 
 pub returns-clause-kept : goal.returns-clause-kept
 returns-clause-kept g c = c.closed.ensures.kept ∙ c.run_crew-crew.ensures.kept
 
 pub returns-clause-joined : goal.returns-clause-joined
 returns-clause-joined g c =
-    let many = new_many c.in-Some.tasks c.in-Some-pop.results c.posts_of-posts.result.items c.requires.tasks c.requires.results c.in-Some.ensures.items c.in-Some-pop.ensures.items
-    c.posts_of-posts.ensures.takers
-    c.posts_of-posts.ensures.givers c.new-queue.ensures c.new-answers.ensures g.T.Task.answers c.run_crew-crew.result.workers.items c.run_crew-crew.ensures.crew.back in
+    let many = new_many _ _ _ c.requires.tasks c.requires.results c.in-Some.ensures.items c.in-Some-pop.ensures.items c.posts_of-posts.ensures.takers
+    c.posts_of-posts.ensures.givers c.new-queue.ensures c.new-answers.ensures g.T.Task.answers _ c.run_crew-crew.ensures.crew.back in
     let joined = c.closed.ensures.joined in
     omega (arith, many, joined)

@@ -1,16 +1,9 @@
-use Rattle.std.proofs.Common.{◌≤◌, List, All, ap, arith, length, refl, subst, sym, take}
-use Rattle.std.specs.Prelude.{IsSome}
-use Rattle.std.proofs.lemmas.List.{length-take-le}
-use Rattle.std.proofs.lemmas.List.Elements.{All-take}
+use Rattle.std.proofs.Common.{arith, take}
 use Rattle.std.proofs.lemmas.Result.{err_from_is_err_and}
-use Rattle.run_engine.specs.Runs.{opening_of, world_after}
-use Rattle.run_engine.proofs.Leading.{world_after-moves_of}
-use Rattle.schedule_text.specs.declared.schedules.Event.{Event}
 use Rattle.schedule_text.specs.Schedules.{moves_of}
-use Rattle.schedule_text.specs.Texts.{IsEventInRange}
-use Rattle.step_machine.specs.Machine.{World}
 use Rattle.trace_engine.specs.Pieces.{moves_text}
 use Rattle.trace_engine.proofs.HasTold.{Tells-longer, Tells-put, Tells-then}
+use Rattle.trace_engine.proofs.Stops.{can_make}
 use Rattle.trace_engine.proofs.runs.put_made.Goals as goal
 
 pub returns-in_err-put_heading-clause-tells : goal.returns-in_err-put_heading-clause-tells
@@ -24,29 +17,9 @@ returns-in_err-put_heading-clause-tells g c =
 
 pub put_events-requires : goal.put_events-requires
 put_events-requires g c =
-    let s = c.args.schedule.now in
-    let made = c.args.counted.now.made in
-    let first = take made s.events in
-    let items = c.first_events-events.ensures in
-    let count = c.requires.count in
-    let opening = c.requires.opening in
-    let can : IsSome (world_after (moves_of first) (opening_of s)) = rw (world_after-moves_of first (opening_of s) count.world count.led) refl in
-    let here : IsSome (world_after (moves_of first) c.args.world.now) = subst (λ (w : World). IsSome (world_after (moves_of first) w)) (sym opening) can in (
-      omega arith,
-      (
-        c.requires.printer,
-        (
-          subst (λ (events : List Event). All IsEventInRange events) (sym items) (All-take IsEventInRange made s.events (λ k d within. (c.requires.range.each k d within).1)),
-          (
-            subst (λ (events : List Event). length events ≤ 1000000) (sym items) (omega (arith, length-take-le made s.events count.within, count.within, c.requires.range.events)),
-            (
-              ap (λ (w : World). w.steps) opening,
-              subst (λ (events : List Event). IsSome (world_after (moves_of events) c.args.world.now)) (sym items) here,
-            ),
-          ),
-        ),
-      ),
-    )
+    let can = can_make c.args.schedule.now c.args.counted.now c.requires.count _ c.args.world.now c.first_events-events.ensures c.requires.opening
+    c.requires.range in
+    (omega (arith, can.1.0), (c.requires.printer, can))
 
 pub returns-clause-ok : goal.returns-clause-ok
 returns-clause-ok g c = rw c.first_events-events.ensures at c.put_events.ensures.ok

@@ -1,48 +1,37 @@
-use Rattle.std.proofs.Common.{◌+◌, ◌*◌, refl, sym, ap, ◌∙◌, arith}
-use Rattle.counted_ref.specs.Ref.{Ref, is_null, is_shut}
-use Rattle.line_steps.specs.declared.actors.Setup.{Setup}
-use Rattle.node_arena.specs.Seats.{view}
+use Rattle.std.proofs.Common.{refl, sym, ap, ◌∙◌, arith}
+use Rattle.counted_ref.specs.Ref.{is_null}
 use Rattle.node_arena.proofs.LooksOn.{three_keep, three_more}
-use Rattle.node_arena.proofs.Found.{behind_head, found_moved, found_empty, found_shut, found_some}
+use Rattle.node_arena.proofs.Found.{behind_head, shut_told, found_moved, found_empty, found_shut, found_some}
 use Rattle.node_arena.proofs.arena.ArenaOf.emptiness.Goals as goal
 
 pub look-requires : goal.look-requires
-look-requires g c = (
-  omega arith,
-  (
-    c.look-head.ensures.ready,
-    behind_head c.args.self.now.plan 2 c.look-head.result (view c.args.seat.now) (view
-        c.look-head.new.seat) c.look-head.ensures.told refl c.reference.result c.node-front.result c.reference.ensures c.node-front.ensures.value,
-  ),
-)
+look-requires g c =
+    let within = behind_head _ 2 _ _ _ c.look-head.ensures.told refl _ _ c.reference.ensures c.node-front.ensures.value in
+    (omega arith, (c.look-head.ensures.ready, within))
 
 pub returns-then-look-head-clause-found : goal.returns-then-look-head-clause-found
 returns-then-look-head-clause-found g c =
-    found_moved c.args.self.now.plan (4 + 2 * c.node-front.result) c.look-head.result c.look.result c.look-2.result (view c.args.seat.now) (view c.look-head.new.seat)
-    (view c.look.new.seat) (view c.look-2.new.seat) c.look-head.ensures.told c.look.ensures.told c.look-2.ensures.told
-    (ap (λ k. 4 + 2 * k) (c.node-front.ensures.value ∙ ap (λ (x : Ref). x.node) c.reference.ensures)) c.if-look-head.true
+    found_moved _ c.node-front.result _ _ _ _ _ _ _ c.look-head.ensures.told c.look.ensures.told c.look-2.ensures.told
+    c.reference.result c.reference.ensures c.node-front.ensures.value c.if-look-head.true
 
 pub returns-then-is_null-clause-found : goal.returns-then-is_null-clause-found
 returns-then-is_null-clause-found g c =
-    found_empty c.args.self.now.plan (4 + 2 * c.node-front.result) c.look-head.result c.look.result c.look-2.result (view c.args.seat.now) (view c.look-head.new.seat)
-    (view c.look.new.seat) (view c.look-2.new.seat) c.look-head.ensures.told c.look.ensures.told c.look-2.ensures.told
-    (ap (λ k. 4 + 2 * k) (c.node-front.ensures.value ∙ ap (λ (x : Ref). x.node) c.reference.ensures)) c.if-look-head.false
+    found_empty _ c.node-front.result _ _ _ _ _ _ _ c.look-head.ensures.told c.look.ensures.told c.look-2.ensures.told
+    c.reference.result c.reference.ensures c.node-front.ensures.value c.if-look-head.false
     (ap is_null (sym c.reference-next.ensures) ∙ sym c.is_null.ensures ∙ c.if-is_null.true)
 
 pub returns-then-is_shut-clause-found : goal.returns-then-is_shut-clause-found
 returns-then-is_shut-clause-found g c =
-    found_shut c.args.self.now.plan (4 + 2 * c.node-front.result) c.look-head.result c.look.result c.look-2.result (view c.args.seat.now) (view c.look-head.new.seat)
-    (view c.look.new.seat) (view c.look-2.new.seat) c.look-head.ensures.told c.look.ensures.told c.look-2.ensures.told
-    (ap (λ k. 4 + 2 * k) (c.node-front.ensures.value ∙ ap (λ (x : Ref). x.node) c.reference.ensures)) c.if-look-head.false
-    ((λ i. is_shut ((ap (λ (s : Setup). s.bits) (sym c.setup.ensures.value) ∙ c.setup.ensures.bits) i) (sym c.reference-next.ensures i)) ∙ sym c.is_shut.ensures ∙ c.if-is_shut.true)
+    found_shut _ c.node-front.result _ _ _ _ _ _ _ c.look-head.ensures.told c.look.ensures.told c.look-2.ensures.told
+    c.reference.result c.reference.ensures c.node-front.ensures.value c.if-look-head.false
+    (shut_told _ c.args.self.now.plan.setup _ _ _ _ _ c.setup.ensures.value c.setup.ensures.bits c.reference-next.ensures c.is_shut.ensures c.if-is_shut.true)
 
 pub returns-else-is_shut-clause-found : goal.returns-else-is_shut-clause-found
 returns-else-is_shut-clause-found g c =
-    found_some c.args.self.now.plan (4 + 2 * c.node-front.result) c.look-head.result c.look.result c.look-2.result (view c.args.seat.now) (view c.look-head.new.seat)
-    (view c.look.new.seat) (view c.look-2.new.seat) c.look-head.ensures.told c.look.ensures.told c.look-2.ensures.told
-    (ap (λ k. 4 + 2 * k) (c.node-front.ensures.value ∙ ap (λ (x : Ref). x.node) c.reference.ensures)) c.if-look-head.false
+    found_some _ c.node-front.result _ _ _ _ _ _ _ c.look-head.ensures.told c.look.ensures.told c.look-2.ensures.told
+    c.reference.result c.reference.ensures c.node-front.ensures.value c.if-look-head.false
     (ap is_null (sym c.reference-next.ensures) ∙ sym c.is_null.ensures ∙ c.if-is_null.false)
-    ((λ i. is_shut ((ap (λ (s : Setup). s.bits) (sym c.setup.ensures.value) ∙ c.setup.ensures.bits) i) (sym c.reference-next.ensures i)) ∙ sym c.is_shut.ensures ∙ c.if-is_shut.false)
+    (shut_told _ c.args.self.now.plan.setup _ _ _ _ _ c.setup.ensures.value c.setup.ensures.bits c.reference-next.ensures c.is_shut.ensures c.if-is_shut.false)
 
 pub returns-then-look-head-clause-slots : goal.returns-then-look-head-clause-slots
 returns-then-look-head-clause-slots g c = three_keep _ _ _ _ _ _ _ _ _ _ _ c.look-head.ensures c.look.ensures c.look-2.ensures

@@ -7,7 +7,8 @@ use Rattle.value_queue.proofs.carrier.QueueOfCarrier.try_pop.Goals as goal
 
 pub take_out-requires : goal.take_out-requires
 take_out-requires g c =
-    let d = subst (λ (o : Option Taken). PopsWithoutNode g.A.Algorithm.pop_worn (arena_of c.args.self.now) c.args.seat.now c.pop_slot.new.seat 0 c.args.turns (Ok o)) c.in-Ok-Some.field-0-is c.in-Ok-Some.ensures in (
+    let d = subst (λ (o : Option Taken). PopsWithoutNode g.A.Algorithm.pop_worn (arena_of c.args.self.now) c.args.seat.now c.pop_slot.new.seat 0 c.args.turns (Ok o))
+    c.in-Ok-Some.field-0-is c.in-Ok-Some.ensures in (
       lit≤ tt,
       (
         d.ready,
