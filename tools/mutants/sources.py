@@ -1,7 +1,7 @@
 """Sources: where functions, macros and constants stand, and what functions call."""
 import dataclasses
 import re
-from collections.abc import Iterable
+from collections.abc import Collection, Iterable
 
 Texts = dict[str, str]
 
@@ -98,23 +98,51 @@ def without_generics(text: str) -> str:
 
 
 def arguments(text: str) -> list[str]:
-    """Returns the arguments in the last angle brackets of a text, none where it doesn't end with such."""
-    it = re.search(r"<([^<>]*)>\s*$", text)
-    return [word.strip() for word in it[1].split(",") if word.strip()] if it else []
+    """Returns the arguments, or the parameters, in the angle brackets that a text begins with, without lifetimes; none where it doesn't."""
+    found: list[str] = []
+    depth, since = 0, 1
+    for it in re.finditer(r"->|[<>(){}\[\],]", text if text.startswith("<") else ""):
+        if it[0] in ">)}]" and depth == 1 or it[0] == "," and depth == 1:
+            found.append(text[since : it.start()].strip())
+            since = it.end()
+        depth += (it[0] in "<({[") - (it[0] in ">)}]")
+        if depth == 0:
+            break
+    return [it for it in found if it and not it.startswith("'")]
+
+
+def after_arguments(text: str) -> str:
+    """Returns what stands behind the angle brackets that a text begins with."""
+    depth = 0
+    for it in re.finditer(r"->|[<>]", text if text.startswith("<") else ""):
+        depth += (it[0] == "<") - (it[0] == ">")
+        if depth == 0:
+            return text[it.end() :]
+    return text
+
+
+def words_of(types: str, own: Collection[str]) -> list[str]:
+    """Returns the words of types as the name of a block of a trait has them: of a path its end, and neither lifetimes nor the block's own parameters."""
+    words = re.findall(r"&|\w+", re.sub(r"'\w+|\bmut\b|\bdyn\b", "", re.sub(r"\w+\s*::\s*(?=\w)", "", types)))
+    return ["Ref" if it == "&" else it[0].upper() + it[1:] for it in words if it not in own]
 
 
 def block_name(kind: str, head: str, parameters: dict[str, int]) -> str:
-    """Returns how the checker names a block: an impl Type, or TypeTrait where it is of a trait; a trait, whatever stands above it, by its name. An impl that
-    leaves an argument to its default is Type+ARGUMENTS."""
-    words = without_generics(head).partition(" where ")[0]
+    """Returns how the checker names a block: a trait, whatever stands above it, by its name; an impl Type, or Type+ARGUMENTS where these aren't its own
+    parameters, one for each of the type's; an impl of a trait by the words of the type, the trait, and the words of the trait's arguments, but for
+    Drop, which it names Type."""
     if kind == "trait":
-        words = words.partition(":")[0]
-    trait, _, of = words.partition(" for ")
-    short = lambda it: (re.findall(r"\w+", it) or [""])[-1]
+        return (re.findall(r"\w+", without_generics(head).partition(":")[0]) or [""])[-1]
+    own = [(re.findall(r"\w+", it.removeprefix("const ")) or [""])[0] for it in arguments(head.strip())]
+    first, _, of = after_arguments(head.strip()).partition(" where ")[0].partition(" for ")
+    name, given = first.partition("<")[0].strip().rpartition("::")[2], first[len(first.partition("<")[0]) :]
+    if of and name != "Drop":
+        return "".join([*words_of(of, own), name, *words_of(given, own)])
     if of:
-        return short(of) + short(trait)
-    given = arguments(head.partition(" where ")[0])
-    return "+".join([short(trait), *given]) if kind == "impl" and len(given) < parameters.get(short(trait), 0) else short(trait)
+        return of.partition("<")[0].strip().rpartition("::")[2]
+    told = arguments(given)
+    is_whole = len(told) >= parameters.get(name, 0) and {*told} <= {*own}
+    return name if is_whole else "+".join([name, *re.findall(r"\w+", re.sub(r"'\w+", "", given))])
 
 
 TYPE = re.compile(r"^\s*(?:pub(?:\([^)]*\))?\s+)?(?:struct|enum|union)\s+(\w+)(<[^<>]*>)?", re.MULTILINE)
