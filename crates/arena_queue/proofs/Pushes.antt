@@ -134,5 +134,6 @@ module _ (worn : WornWord → Option Held → Type 0) where
       → v ≡ u → n ≡ spent → KeepsName s u → HadNoEffect s u → spent ≡ failed_turns (added s u) → PushesWithNode worn r v x node body n turns out
       → AnswersPush worn r s x body turns out
   put_after_take r s u v x node body spent n turns out h e f name w g p =
-      let k : PushesWithNode worn r u x node body spent turns out = subst (λ y. PushesWithNode worn r y x node body spent turns out) e (subst (λ m. PushesWithNode worn r v x node body m turns out) f p) in
+      let k : PushesWithNode worn r u x node body spent turns out = subst (λ y. PushesWithNode worn r y x node body spent turns out) e
+      (subst (λ m. PushesWithNode worn r v x node body m turns out) f p) in
       at_once (Unit {0}) r s x node body turns out h (put_behind (PushMoves r body u x out) (Unit {0}) (λ _. tt) r s u x (added s u) w name node body 0 spent turns out (omega arith) k)

@@ -1,7 +1,9 @@
 //! The words after the program's name.
 ghost use Rattle.std.specs.Prelude.{◌≡◌, [], IfErr, IfOk, map, option_map, string_bytes, codes, true, false};
 ghost use Rattle.clap.specs.Words.{HasKind, app_of, first_of, found_of, kind_of, one_of, rows_of, rule_of, subcommand_rows_of, takes, with_subcommand};
-ghost use Rattle.command_line.specs.Commands.{command_line_app, explain_app, faults_in, file_app, file_met, held_met, flag_rule, kind_named, number_rule, place_app, post_app, queue_rule, run_app, show_app, work_app, AreQueues, AreTaken, IsAsked, IsAskedSomewhere, IsCrewOf, IsStatusOf, IsTask, IsViewOf, SaysFlag, SaysNumber};
+ghost use Rattle.command_line.specs.Commands.{command_line_app, explain_app, faults_in, file_app, file_met, held_met, flag_rule, kind_named, number_rule};
+ghost use Rattle.command_line.specs.Commands.{place_app, post_app, queue_rule, run_app, show_app, work_app, AreQueues, AreTaken, IsAsked, IsAskedSomewhere};
+ghost use Rattle.command_line.specs.Commands.{IsCrewOf, IsStatusOf, IsTask, IsViewOf, SaysFlag, SaysNumber};
 
 use crate::helps;
 use crate::messages::told;

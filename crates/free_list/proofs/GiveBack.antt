@@ -111,7 +111,8 @@ module _ {T : Type 0} (r : Arena) (s t : Seat T) (prologue : Prologue) (a : Runn
       went p w = settled_as r s t prologue F1 f.found f.did (first (f.did.told.was.world.steps + 1) f.did.told.was.world.shared.free p None)
           (λ i. first (f.did.told.was.world.steps + 1) f.did.told.was.world.shared.free (same p w i) (st.frees.early i))
 
-      go : (p : Bool) → nat_eq (ref_of r.plan.setup.bits f.found).count r.plan.setup.limit ≡ p → StandsAfterF1 r s t h (if p then Ends Done else Goes F2 (record a { top = ref_of r.plan.setup.bits f.found }))
+      go : (p : Bool) → nat_eq (ref_of r.plan.setup.bits f.found).count r.plan.setup.limit ≡ p
+          → StandsAfterF1 r s t h (if p then Ends Done else Goes F2 (record a { top = ref_of r.plan.setup.bits f.found }))
       go true w =
           record {
             way = one_line r s t prologue F1 f.found f.did (refl, none_due b st.frees.early, refl);

@@ -1,5 +1,7 @@
 -- What a seat made by calls of many values.
-use Rattle.std.proofs.Common.{◌≡◌, ℕ, zero, suc, ◌+◌, ◌-◌, ◌<◌, ◌≤◌, Bool, if◌then◌else◌, min, List, [], ◌∷◌, ◌++◌, length, map, take, drop, set, get_or, Some, None, Ok, Err, sym, refl, ap, ◌∙◌, subst, arith, append_assoc, take-add, take-take, take_at, drop_at, drop-drop, length-take, length-take-le, length-append, get_or-drop}
+use Rattle.std.proofs.Common.{◌≡◌, ℕ, zero, suc, ◌+◌, ◌-◌, ◌<◌, ◌≤◌, Bool, if◌then◌else◌, min, List, [], ◌∷◌, ◌++◌, length, map, take, drop, set, get_or, Some}
+use Rattle.std.proofs.Common.{None, Ok, Err, sym, refl, ap, ◌∙◌, subst, arith, append_assoc, take-add, take-take, take_at, drop_at, drop-drop, length-take}
+use Rattle.std.proofs.Common.{length-take-le, length-append, get_or-drop}
 use Rattle.std.proofs.Math.Dec.{eqb-suc-zero}
 use Rattle.std.proofs.lemmas.List.{take-append-drop, map-append, map_push, take_rest, take_more, take_more_set, drop_more, set_at, length-map, length_push}
 use Rattle.history.specs.declared.operations.Entry.{Entry}
@@ -94,7 +96,8 @@ pushed_more s t u bodies i n kept l f g = let few = g.few in record {
   queue = kept ∙ f.queue;
   few = omega (arith, few, l, length-take (length bodies - i) (drop i bodies));
   makes = makes_then (known_in s) (known_in t) (known_in u) (pushes (known_in s).number (take i bodies)) (pushes (known_in t).number (take n (take (length bodies - i) (drop i bodies)))) _
-      ((λ j. pushes (known_in s).number (take i bodies) ++ pushes (f.makes.number j) (take n (take_rest bodies i j))) ∙ sym (map-append (λ x. Push (known_in s).number x) (take i bodies) (take n (drop i bodies)))
+      ((λ j. pushes (known_in s).number (take i bodies) ++ pushes (f.makes.number j) (take n (take_rest bodies i j)))
+      ∙ sym (map-append (λ x. Push (known_in s).number x) (take i bodies) (take n (drop i bodies)))
       ∙ ap (pushes (known_in s).number) (sym (take-add i n bodies)))
       f.makes g.makes;
 }
@@ -189,7 +192,8 @@ popped_more s t u vs now now' i n kept same f g =
           ∙ ap (λ k. take i now ++ (map value_of g.values ++ drop (i + k) now)) longer
           ∙ ap (λ zs. take i zs ++ (map value_of g.values ++ drop (i + n) zs)) f.written
           ∙ ap (λ zs. zs ++ (map value_of g.values ++ drop (i + n) (map value_of f.values ++ drop i vs))) (take_at (map value_of f.values) (drop i vs) i long)
-          ∙ ap (λ zs. map value_of f.values ++ (map value_of g.values ++ zs)) (sym (drop-drop n i (map value_of f.values ++ drop i vs)) ∙ ap (drop n) (drop_at (map value_of f.values) (drop i vs) i long) ∙ drop-drop n i vs)
+          ∙ ap (λ zs. map value_of f.values ++ (map value_of g.values ++ zs))
+          (sym (drop-drop n i (map value_of f.values ++ drop i vs)) ∙ ap (drop n) (drop_at (map value_of f.values) (drop i vs) i long) ∙ drop-drop n i vs)
           ∙ sym (append_assoc (map value_of f.values) (map value_of g.values) (drop (i + n) vs))
           ∙ ap (λ zs. zs ++ drop (i + n) vs) (sym (map-append value_of f.values g.values));
     }

@@ -21,7 +21,13 @@ each nodes P p q r s t = go (nat_lt nodes (reserved_node 16)) (nat_lt nodes (res
 
 -- it is a split
 pub is_split : (nodes : ℕ) → IsSplit (bits_for nodes)
-is_split nodes = each nodes IsSplit (λ _. record { least = omega arith; most = omega arith }) (λ _. record { least = omega arith; most = omega arith }) (λ _. record { least = omega arith; most = omega arith }) (λ _. record { least = omega arith; most = omega arith }) record { least = omega arith; most = omega arith }
+is_split nodes =
+    each nodes IsSplit
+    (λ _. record { least = omega arith; most = omega arith })
+    (λ _. record { least = omega arith; most = omega arith })
+    (λ _. record { least = omega arith; most = omega arith })
+    (λ _. record { least = omega arith; most = omega arith })
+    record { least = omega arith; most = omega arith }
 
 -- which has enough numbers
 pub enough : (nodes : ℕ) → nodes < reserved_node 32 → nodes < reserved_node (bits_for nodes)

@@ -93,7 +93,8 @@ module _ {T : Type 0} (r : Arena) (s t : Seat T) (failed turns : ℕ) where
       → PopsWithoutNode pop_worn r s x failed turns (Ok (Some (value_of word)))
   pop_took x word h out keeps less f g = draws_taken pop_worn r s t x word h failed turns out f.lines (sym f.stored.keeps ∙ keeps) less f.seat f.stored f.slots f.turned.acts f.turned.never g
 
-  pub pop_kept : (word : ℕ) (h : Held) → keeps_of t ≡ true → failed < turns → Turns r s t (turn.Took word h) → PopsWithoutNode pop_worn r s (keeping t (Some h) failed) failed turns (Ok (Some (value_of word)))
+  pub pop_kept : (word : ℕ) (h : Held) → keeps_of t ≡ true → failed < turns → Turns r s t (turn.Took word h)
+      → PopsWithoutNode pop_worn r s (keeping t (Some h) failed) failed turns (Ok (Some (value_of word)))
   pop_kept word h keeps less f =
       let k = f.turned in
       draws_kept pop_worn r s t word h failed turns f.lines (sym f.stored.keeps ∙ keeps) less f.seat f.stored f.slots

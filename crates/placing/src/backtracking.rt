@@ -1,7 +1,9 @@
 //! A search of the orders of the operations, one after another, within so many steps.
 ghost use Rattle.std.specs.Prelude.{◌≡◌, ◌++◌, not, if◌then◌else◌, IfOk, OnOk, map, count_by, length, replicate, slice_get};
 ghost use Rattle.placing.specs.TriedQueues as queues;
-ghost use Rattle.placing.specs.Tries.{AreEdges, Ends, ending_of, state_of, beginning, end_in, passed, begun_anew, marks_with, has_seen, noted, put_in, put_changed, changed_by, changed_back, unended, taken_out, looking_behind, gone_back, stepped, tried_at, edges_at, noted_end, noted_ends};
+ghost use Rattle.placing.specs.Tries.{AreEdges, Ends, ending_of, state_of, beginning, end_in, passed, begun_anew, marks_with, has_seen, noted, put_in};
+ghost use Rattle.placing.specs.Tries.{put_changed, changed_by, changed_back, unended, taken_out, looking_behind, gone_back, stepped, tried_at, edges_at};
+ghost use Rattle.placing.specs.Tries.{noted_end, noted_ends};
 
 use crate::links::{Ring, put};
 use crate::object::{Effect, Object};

@@ -6,7 +6,8 @@ ghost use Rattle.text_lines.specs.Grammars.{lines_of};
 ghost use Rattle.text_lines.specs.Lines.{spaced};
 ghost use Rattle.text_lines.specs.Numerals.{numeral};
 ghost use Rattle.schedule_text.specs.Readers.{sizes_in};
-ghost use Rattle.schedule_text.specs.Texts.{version as says_version, queue, number, bits_said, schedule_lines, kind_name, version_name, call_words, event_words, event_text, header_text, schedule_text};
+ghost use Rattle.schedule_text.specs.Texts.{version as says_version, queue, number, bits_said, schedule_lines, kind_name, version_name, call_words};
+ghost use Rattle.schedule_text.specs.Texts.{event_words, event_text, header_text, schedule_text};
 
 use crate::fields::Field;
 use crate::readers::Sizes;

@@ -6,7 +6,8 @@ ghost use Rattle.schedule_text.specs.declared.fields.Field.TheVariants.{Nodes};
 ghost use Rattle.schedule_text.specs.Readers.{AddsEvent, AreSizesInRange, IsFront, IsHeaderInRange, IsRefusedAfter, IsRefusedText, said_in, sizes_in};
 ghost use Rattle.schedule_text.specs.Schedules.{Schedule, IsBitsOf, header_lines};
 ghost use Rattle.counted_ref.specs.Ref.{IsSplit};
-ghost use Rattle.schedule_text.specs.Texts.{version, queue, number, happens, version_due, queue_due, number_due, events_left, due_after_queue, bits_said, said_words, schedule_lines, schedule_text, IsEventOf, IsInRange, IsSaidInRange};
+ghost use Rattle.schedule_text.specs.Texts.{version, queue, number, happens, version_due, queue_due, number_due, events_left, due_after_queue, bits_said};
+ghost use Rattle.schedule_text.specs.Texts.{said_words, schedule_lines, schedule_text, IsEventOf, IsInRange, IsSaidInRange};
 
 use crate::events::event_in;
 use crate::fields::{Field, kind_in, number_of};

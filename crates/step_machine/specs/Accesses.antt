@@ -2,7 +2,8 @@
 use Rattle.std.specs.Prelude.{ℕ, Option, Some, None, if◌then◌else◌}
 use Rattle.step_machine.specs.Below.{Ref, is_shut, Line, Actor, Shared, node_at, Word, Fresh, Free, Head, Tail, Tail_lock, Head_lock, Next, Value_of, word, action}
 use Rattle.step_machine.specs.declared.accesses.WordName.{WordName}
-use Rattle.step_machine.specs.declared.accesses.WordName.TheVariants.{Fresh as NamesFresh, Free as NamesFree, Head as NamesHead, Tail as NamesTail, TailLock, HeadLock, Next as NamesNext, Value as NamesValue}
+use Rattle.step_machine.specs.declared.accesses.WordName.TheVariants.{Fresh as NamesFresh, Free as NamesFree, Head as NamesHead, Tail as NamesTail, TailLock}
+use Rattle.step_machine.specs.declared.accesses.WordName.TheVariants.{HeadLock, Next as NamesNext, Value as NamesValue}
 use Rattle.step_machine.specs.declared.accesses.Contents.{Contents}
 use Rattle.step_machine.specs.declared.accesses.Contents.TheVariants.{Number, Reference, Closed, Value}
 use Rattle.step_machine.specs.Machine.{World}

@@ -1,7 +1,9 @@
 -- How much an actor of the non-blocking queue has before it, if no other one wins an exchange: to the end of its call, in
 -- the turn in which it swings Tail, and in the turn that is lost already.
 use Rattle.std.specs.Prelude.{ℕ, ◌+◌, ◌*◌, Bool, true, false, nat_eq, nat_lt, if◌then◌else◌, Option, Some, None}
-use Rattle.step_machine.specs.Below.{Line, N1, N2, N3, N4, N5, F1, F2, F3, E2, E3, E5, E6, E7, E9, E13, E17, D2, D3, D4, D5, D10, D12, D13, A1, A2, A3, A4, A5, A6, A7, B1, B2, B3, B4, B5, B6, S1, S2, S3, S4, S5, S6, S7, S8, S9, Section, section_of, is_null, is_shut, same_ref, Reply, Setup, Actor, Shared, node_at}
+use Rattle.step_machine.specs.Below.{Line, N1, N2, N3, N4, N5, F1, F2, F3, E2, E3, E5, E6, E7, E9, E13, E17, D2, D3, D4, D5, D10, D12, D13, A1, A2, A3, A4, A5}
+use Rattle.step_machine.specs.Below.{A6, A7, B1, B2, B3, B4, B5, B6, S1, S2, S3, S4, S5, S6, S7, S8, S9, Section, section_of, is_null, is_shut, same_ref, Reply}
+use Rattle.step_machine.specs.Below.{Setup, Actor, Shared, node_at}
 use Rattle.line_table.specs.declared.lines.Section.TheVariants.{NewNode, Free, Enqueue, Dequeue, Shut}
 use Rattle.step_machine.specs.Prices.{Prices, turn_of, unless, if_so, by_due, of_pocket}
 

@@ -3,7 +3,8 @@ pub use Rattle.counted_ref.specs.Ref.{Ref, null, shut_ref, is_shut, IsSplit, IsR
 pub use Rattle.line_table.specs.declared.lines.Kind.{Kind}
 pub use Rattle.line_table.specs.declared.lines.Kind.TheVariants.{NonBlocking, TwoLock}
 pub use Rattle.line_table.specs.declared.lines.Line.{Line}
-pub use Rattle.line_table.specs.declared.lines.Line.TheVariants.{N1, N2, N3, N4, N5, F1, F2, F3, E2, E3, E5, E6, E7, E9, E13, E17, D2, D3, D4, D5, D10, D12, D13, A1, A2, A3, A4, A5, A6, A7, B1, B2, B3, B4, B5, B6, S1, S2, S3, S4, S5, S6, S7, S8, S9}
+pub use Rattle.line_table.specs.declared.lines.Line.TheVariants.{N1, N2, N3, N4, N5, F1, F2, F3, E2, E3, E5, E6, E7, E9, E13, E17, D2, D3, D4, D5, D10, D12}
+pub use Rattle.line_table.specs.declared.lines.Line.TheVariants.{D13, A1, A2, A3, A4, A5, A6, A7, B1, B2, B3, B4, B5, B6, S1, S2, S3, S4, S5, S6, S7, S8, S9}
 pub use Rattle.line_table.specs.declared.lines.Section.{Section}
 pub use Rattle.line_table.specs.Sections.{section_of}
 pub use Rattle.history.specs.declared.refusals.WornWord.{WornWord}
@@ -29,8 +30,10 @@ pub use Rattle.line_steps.specs.Actors.{Actor}
 pub use Rattle.line_steps.specs.declared.actors.Told.{Told}
 pub use Rattle.line_steps.specs.Outcomes.{Outcome, settled, with_told}
 pub use Rattle.line_steps.specs.Steps.{memory_after}
-pub use Rattle.line_steps.specs.Memory.{found, Shared, node_at, nobody, performed, blank, word, Word, Fresh, Free, Head, Tail, Tail_lock, Head_lock, Next, Value_of, Content, content, put, Action, load, store, clear, exchange, Found, same}
-pub use Rattle.line_steps.specs.Lines.{action, outcome, gives_up, to_pocket, raised, raised_end, goes, ends, effect, empties_hand, sets_aside, with_node, dequeues, shuts, closed, left, left_with_node, freed, unlocked, busy_or, fills_hand}
+pub use Rattle.line_steps.specs.Memory.{found, Shared, node_at, nobody, performed, blank, word, Word, Fresh, Free, Head, Tail, Tail_lock, Head_lock, Next}
+pub use Rattle.line_steps.specs.Memory.{Value_of, Content, content, put, Action, load, store, clear, exchange, Found, same}
+pub use Rattle.line_steps.specs.Lines.{action, outcome, gives_up, to_pocket, raised, raised_end, goes, ends, effect, empties_hand, sets_aside, with_node}
+pub use Rattle.line_steps.specs.Lines.{dequeues, shuts, closed, left, left_with_node, freed, unlocked, busy_or, fills_hand}
 pub use Rattle.line_steps.specs.Calls.{is_call, begun, from_pocket}
 pub use Rattle.line_steps.specs.Rooms.{first_words, aside_after, first_memory, room_after}
 pub use Rattle.line_steps.specs.Ready.{RegistersFit, ReadsFit}

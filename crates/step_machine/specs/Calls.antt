@@ -1,6 +1,7 @@
 -- What the calls of a world answer, and why each is refused.
 use Rattle.std.specs.Prelude.{◌≡◌, ℕ, ◌+◌, ◌-◌, ◌^◌, ◌<◌, ◌≤◌, ◌⊎◌, Option, Some, None, IsSome, IsNone, IsSomeAnd}
-use Rattle.step_machine.specs.Below.{reserved_node, count_bits, actor_bits, Kind, Line, Refusal, Memory, BadSize, IdleActor, ActorBusy, NotHere, NoSuchActor, Reply, Setup, Actor, Outcome, found, action, outcome, gives_up}
+use Rattle.step_machine.specs.Below.{reserved_node, count_bits, actor_bits, Kind, Line, Refusal, Memory, BadSize, IdleActor, ActorBusy, NotHere, NoSuchActor}
+use Rattle.step_machine.specs.Below.{Reply, Setup, Actor, Outcome, found, action, outcome, gives_up}
 use Rattle.step_machine.specs.declared.actors.Move.{Move}
 use Rattle.step_machine.specs.declared.actors.Move.TheVariants.{Begin, Step, Give}
 use Rattle.step_machine.specs.declared.actors.Stepped.{Stepped}

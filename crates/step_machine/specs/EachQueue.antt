@@ -1,6 +1,7 @@
 -- What the laws of both queues say of each world.
 use Rattle.std.specs.Prelude.{◌≡◌, ℕ, ◌+◌, ◌<◌, true, List, [], Option, Some, None, IfSome}
-use Rattle.step_machine.specs.Below.{Ref, Line, N4, F3, E9, E13, E17, D10, D13, B5, S4, S5, WornWord, OfFree, OfNext, OfTail, OfHead, Refusal, NoNode, WornOut, Closed, Reply, Refused, empty, by_point, IsSequentialRun, queue_after, Actor, node_at, found, action, outcome}
+use Rattle.step_machine.specs.Below.{Ref, Line, N4, F3, E9, E13, E17, D10, D13, B5, S4, S5, WornWord, OfFree, OfNext, OfTail, OfHead, Refusal, NoNode, WornOut}
+use Rattle.step_machine.specs.Below.{Closed, Reply, Refused, empty, by_point, IsSequentialRun, queue_after, Actor, node_at, found, action, outcome}
 use Rattle.step_machine.specs.Machine.{World, actor_of}
 use Rattle.step_machine.specs.Places.{IsChain, IsQueueChain, IsQueued, IsFree, Places}
 use Rattle.step_machine.specs.Chains.{is_shut_chain, queue_in}

@@ -1,6 +1,8 @@
 -- The machine: worlds, their moves, and what a list of moves leads to.
-use Rattle.std.specs.Prelude.{◌≡◌, ℕ, ◌+◌, ◌-◌, ◌^◌, ◌<◌, ◌≤◌, Bool, List, [], ◌∷◌, ◌++◌, length, map, replicate, Option, Some, None, slice_get, slice_index_or, slice_set, nat_eq, if◌then◌else◌, true, false}
-use Rattle.step_machine.specs.Below.{IsSplit, reserved_node, count_bits, actor_bits, null, Line, E2, A1, Op, Deq, Stamped, Setup, Actor, Outcome, nobody, Shared, found, performed, action, outcome, gives_up, to_pocket, is_call, begun, first_words, aside_after}
+use Rattle.std.specs.Prelude.{◌≡◌, ℕ, ◌+◌, ◌-◌, ◌^◌, ◌<◌, ◌≤◌, Bool, List, [], ◌∷◌, ◌++◌, length, map, replicate, Option, Some, None, slice_get, slice_index_or}
+use Rattle.std.specs.Prelude.{slice_set, nat_eq, if◌then◌else◌, true, false}
+use Rattle.step_machine.specs.Below.{IsSplit, reserved_node, count_bits, actor_bits, null, Line, E2, A1, Op, Deq, Stamped, Setup, Actor, Outcome, nobody}
+use Rattle.step_machine.specs.Below.{Shared, found, performed, action, outcome, gives_up, to_pocket, is_call, begun, first_words, aside_after}
 pub use Rattle.line_steps.specs.Outcomes.{last_of, latest_point, with_outcome}
 use Rattle.step_machine.specs.declared.actors.Move.{Move}
 use Rattle.step_machine.specs.declared.actors.Move.TheVariants.{Begin, Step, Give}

@@ -1,6 +1,8 @@
 -- Before which lines the actors of a world stand, and which registers hold nodes there.
 use Rattle.std.specs.Prelude.{◌≡◌, ◌≢◌, ℕ, ◌≤◌, Option, Some, None, IfSome}
-use Rattle.step_machine.specs.Below.{reserved_node, Kind, TwoLock, NonBlocking, Line, N1, N2, N3, N4, N5, F1, F2, F3, E2, E3, E5, E6, E7, E9, E13, E17, D2, D3, D4, D5, D10, D12, D13, A1, A2, A3, A4, A5, A6, A7, B1, B2, B3, B4, B5, B6, S1, S2, S3, S4, S5, S6, S7, S8, S9, Section, section_of, Reply, Value, Refused, Actor, word}
+use Rattle.step_machine.specs.Below.{reserved_node, Kind, TwoLock, NonBlocking, Line, N1, N2, N3, N4, N5, F1, F2, F3, E2, E3, E5, E6, E7, E9, E13, E17, D2, D3}
+use Rattle.step_machine.specs.Below.{D4, D5, D10, D12, D13, A1, A2, A3, A4, A5, A6, A7, B1, B2, B3, B4, B5, B6, S1, S2, S3, S4, S5, S6, S7, S8, S9, Section}
+use Rattle.step_machine.specs.Below.{section_of, Reply, Value, Refused, Actor, word}
 use Rattle.line_table.specs.declared.lines.Section.TheVariants.{NewNode, Free, Enqueue, Dequeue, LockedEnqueue, LockedDequeue, Shut, LockedShut}
 use Rattle.step_machine.specs.Words.{IsWord}
 use Rattle.step_machine.specs.Machine.{World, actor_of}

@@ -1,6 +1,7 @@
 -- The table of numbers that holds the shared words: one atomic step on one of its places, and which contents fit it.
 use Rattle.std.specs.Prelude.{◌≡◌, ℕ, ◌^◌, ◌<◌, List, nat_eq, Some, slice_index_or, slice_set, bit_and, if◌then◌else◌}
-use Rattle.step_machine.specs.Below.{body_bits, actor_bits, IsRef, count_mask, Line, Taken, Actor, Shared, Word, Fresh, Free, Head, Tail, Tail_lock, Head_lock, Next, Value_of, Content, content, put, Action, load, store, clear, exchange, word, found, performed, action}
+use Rattle.step_machine.specs.Below.{body_bits, actor_bits, IsRef, count_mask, Line, Taken, Actor, Shared, Word, Fresh, Free, Head, Tail, Tail_lock, Head_lock}
+use Rattle.step_machine.specs.Below.{Next, Value_of, Content, content, put, Action, load, store, clear, exchange, word, found, performed, action}
 use Rattle.step_machine.specs.Machine.{World, actor_of}
 use Rattle.step_machine.specs.Words.{encoded, memory_words, index, IsWord}
 

@@ -84,7 +84,8 @@ module _ {T : Type 0} (r : Arena) (s t u : Seat T) (n : ℕ) (g : Trying r s t n
       }
 
   -- the lock was got
-  pub pop_ends : (x : Seat T) (spent turns : ℕ) (o : Result (Option Taken) Refusal) → has_lock out ≡ true → PopsWithoutNode pop_worn r u x (spent + n) turns o → PopsWithoutNode pop_worn r s x spent turns o
+  pub pop_ends : (x : Seat T) (spent turns : ℕ) (o : Result (Option Taken) Refusal) → has_lock out ≡ true
+      → PopsWithoutNode pop_worn r u x (spent + n) turns o → PopsWithoutNode pop_worn r s x spent turns o
   pop_ends x spent turns o e d =
       let y : IsBefore r u continues B2 = has_got e in
       let none : failed_turns (try ∷ []) ≡ 0 = (let z : at_b1 try.to ≡ 0 = ap at_b1 (to_is r t u (popping n) B1 f.found f.did ∙ y.line) in omega arith) in

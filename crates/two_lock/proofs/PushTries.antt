@@ -207,7 +207,8 @@ module _ {T : Type 0} (r : Arena) (s u t : Seat T) (a b c : Running) (j k : Line
   first = walk_on r s u continues A4 f.found f.did refl tt
 
   -- the node is linked: A4 to A7
-  pub links : (x y : Seat T) (d : Running) (l : Line) (last : RowOutcome Running) → (k ≡ A7 → ⊥) → Follows r t x continues A6 c (Goes l d) → Follows r x y continues A7 d last → PushesUnderLock r s y a (Ok tt)
+  pub links : (x y : Seat T) (d : Running) (l : Line) (last : RowOutcome Running) → (k ≡ A7 → ⊥) → Follows r t x continues A6 c (Goes l d)
+      → Follows r x y continues A7 d last → PushesUnderLock r s y a (Ok tt)
   links x y d l last other m o =
       let won = to_a6 r u t b c k at_a5 g other in
       let at_a7 : CallIsAt r x continues A7 d = to_a7 r t x c d l won.0 m in

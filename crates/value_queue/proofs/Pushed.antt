@@ -153,7 +153,8 @@ module _ {T : Type 0} (worn : WornWord → Option Held → Type 0) (r : Arena) (
       no_lines = subst (λ (w : SeatView). ExtendsPath (view u) w []) (sym k.view) (no_walk (view u))
 
       -- the push of the slot's number, behind the lines before it
-      put_since : (x : Seat T) (out : Result (Unit {0}) Refusal) → PushesWithNode worn r v x held.node body (spent + got.failed) turns out → PushesWithNodeAnd (Unit {0}) worn r s x held.node body got.failed turns out
+      put_since : (x : Seat T) (out : Result (Unit {0}) Refusal) → PushesWithNode worn r v x held.node body (spent + got.failed) turns out
+          → PushesWithNodeAnd (Unit {0}) worn r s x held.node body got.failed turns out
       put_since x out p =
           put_behind worn (Unit {0}) (Unit {0}) (λ y. y) r s u x (added s u) h.lines h.same held.node body got.failed (spent + got.failed) turns out (let b = h.spent.0 in omega (arith, b))
           (put_behind worn (PushMoves r body v x out) (Unit {0}) (λ y. tt) r u v x [] no_lines same_name held.node body (spent + got.failed)

@@ -2,7 +2,10 @@
 ghost use Rattle.std.specs.Prelude.{[], ◌∷◌};
 ghost use Rattle.history.specs.declared.operations.Op.TheVariants.{Deq};
 ghost use Rattle.worked_runs.specs.Seen.{Shows, GoesThrough, IsStopped, begin, many, give};
-ghost use Rattle.worked_runs.specs.NonBlockingRuns.{no_moves, push, lines_of_push, push_and_pop, lines_of_push_and_pop, reuse_cleared, reuse, lines_of_reuse, empty_queue, reused_node_before, reused_node_lost, reused_node, stale_head, swung_by_a_pop, lines_of_swung_by_a_pop, lagging_tail, old_empty, no_node, worn_free, swing_skipped, worn_tail, value_kept, worn_next, push_given_up, longest_push, longest_pop, worn_counts};
+ghost use Rattle.worked_runs.specs.NonBlockingRuns.{no_moves, push, lines_of_push, push_and_pop, lines_of_push_and_pop, reuse_cleared, reuse, lines_of_reuse};
+ghost use Rattle.worked_runs.specs.NonBlockingRuns.{empty_queue, reused_node_before, reused_node_lost, reused_node, stale_head, swung_by_a_pop};
+ghost use Rattle.worked_runs.specs.NonBlockingRuns.{lines_of_swung_by_a_pop, lagging_tail, old_empty, no_node, worn_free, swing_skipped, worn_tail, value_kept};
+ghost use Rattle.worked_runs.specs.NonBlockingRuns.{worn_next, push_given_up, longest_push, longest_pop, worn_counts};
 
 /// Each run's moves can be made, and lead to the history and the words written down for it.
 pub fn non_blocking_runs()

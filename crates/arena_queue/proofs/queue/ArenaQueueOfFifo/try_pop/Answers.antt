@@ -9,7 +9,8 @@ use Rattle.arena_queue.proofs.queue.ArenaQueueOfFifo.try_pop.Goals as goal
 answers : (g : Over) (c : goal.After-pop_without_node g) → AnswersPop g.A.Algorithm.pop_worn c.args.self.now.arena c.args.seat.now c.pop_without_node.new.seat c.args.turns c.pop_without_node.result
 answers g c =
     elim c.match-pocket.branch [
-      | in-None w ↦ drawn_at_once g.A.Algorithm.pop_worn c.args.self.now.arena c.args.seat.now _ c.pop_without_node.new.seat _ c.args.turns c.pop_without_node.result c.requires.seat w.seat-is w.spent-is c.pop_without_node.ensures
+      | in-None w ↦ drawn_at_once g.A.Algorithm.pop_worn c.args.self.now.arena c.args.seat.now _ c.pop_without_node.new.seat _
+          c.args.turns c.pop_without_node.result c.requires.seat w.seat-is w.spent-is c.pop_without_node.ensures
       | in-Some+in_ok-give_back-in-Some w ↦
           drawn_after_give g.A.Algorithm.pop_worn c.args.self.now.arena c.args.seat.now w.give_back.new.seat _ c.pop_without_node.new.seat w.failed-spent.result _
           c.args.turns c.pop_without_node.result c.requires.seat w.seat-is w.spent-is w.give_back.ensures.same w.give_back.ensures.slots

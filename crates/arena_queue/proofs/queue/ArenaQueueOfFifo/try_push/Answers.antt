@@ -8,7 +8,8 @@ use Rattle.arena_queue.proofs.queue.ArenaQueueOfFifo.try_push.Given.{Over}
 use Rattle.arena_queue.proofs.queue.ArenaQueueOfFifo.try_push.Goals.{in-Some, in-None+in_ok-take-in-None}
 use Rattle.arena_queue.proofs.queue.ArenaQueueOfFifo.try_push.Goals as goal
 
-answers : (g : Over) (c : goal.After-push_with_node g) → AnswersPush g.A.Algorithm.push_worn c.args.self.now.arena c.args.seat.now c.push_with_node.new.seat c.args.body c.args.turns c.push_with_node.result
+answers : (g : Over) (c : goal.After-push_with_node g)
+    → AnswersPush g.A.Algorithm.push_worn c.args.self.now.arena c.args.seat.now c.push_with_node.new.seat c.args.body c.args.turns c.push_with_node.result
 answers g c =
     elim c.match-pocket.branch [
       | in-Some w ↦ put_at_once g.A.Algorithm.push_worn c.args.self.now.arena c.args.seat.now _ c.push_with_node.new.seat _ c.args.body _ c.args.turns

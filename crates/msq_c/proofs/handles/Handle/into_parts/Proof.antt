@@ -39,11 +39,13 @@ use Rattle.msq_c.proofs.handles.Handle.into_parts.Code as code
 
 pub into_parts_spec : {M : Type 1} → statement M
 into_parts_spec 𝓤 𝓛 𝓜 𝓡 wired =
-    let H = 𝓛.H in let 𝓣 = tables 𝓤 H 𝓜 𝓡 𝓡.env in let R : RattleType = inner.the_row in let Z : RattleType = heap.the_row in let LZ = heap_laws.the_row_laws in let Pr : RattleType = Parts R Z LZ ghosts in let Hr : RattleType = handle.the_row in
+    let H = 𝓛.H in let 𝓣 = tables 𝓤 H 𝓜 𝓡 𝓡.env in let R : RattleType = inner.the_row in let Z : RattleType = heap.the_row in
+    let LZ = heap_laws.the_row_laws in let Pr : RattleType = Parts R Z LZ ghosts in let Hr : RattleType = handle.the_row in
     let En = ended in let c = clauses 𝓛 𝓜.mem 𝓡.returns in let fn = code.function in
     let hs : Stays En.signature.params En.kept = (stay_dropped (plain (λ _. Hr)) yes, (stay_dropped (plain (λ _. Z)) yes, tt)) in
     proved_at 𝓛 En hs c 𝓜 𝓡 (Goes-dropped 𝓛 0 (plain (λ _. Hr)) yes (λ κs x f. refl), (Goes-dropped 𝓛 0 (plain (λ _. Z)) yes (λ κs x f. refl), tt)) #self fn (code.unfolded 𝓤 H 𝓜 𝓡 wired) (λ z are.
-    let κs = z.0.0 in let qs = z.0.1 in let d = z.0.3.0 in let a = z.0.3.1.0 in let Post : Val → SProp 𝓤 = (walk_of 𝓛 En hs c).post z in let Run : List Val → SProp 𝓤 = λ ws. WpFn 𝓤 H 𝓣.C 𝓣.Λ fn ws Post in
+    let κs = z.0.0 in let qs = z.0.1 in let d = z.0.3.0 in let a = z.0.3.1.0 in
+    let Post : Val → SProp 𝓤 = (walk_of 𝓛 En hs c).post z in let Run : List Val → SProp 𝓤 = λ ws. WpFn 𝓤 H 𝓣.C 𝓣.Λ fn ws Post in
     qed 𝓛 ((raw (alive 𝓛 En.signature κs qs) ⊛ ‵ (owns (types_at En.signature.params κs) z.0.3 z.0.4)) ∷ given (d.full ≡ true) (‵ ftrue) ∷ []) ∵
     move ! (1 ∷ []) $ learn ! (λ asked. drop ! $ split ! $ move ! (1 ∷ []) $ fsplit ! $ fsplit ! $
     -- [the pointer; what the handle owns; the allocator and no more; the tokens]
@@ -54,7 +56,9 @@ into_parts_spec 𝓤 𝓛 𝓜 𝓡 wired =
     let first : z.0.4.0 ≡ v ∷ [] = told d.at z.0.4.0 is ∙ ap (λ (p : Ptr). word p ∷ []) e in
     suffices ! (Run (v ∷ h ∷ [])) (subst (λ (us : List Val). ent 𝓤 (Run (v ∷ h ∷ [])) (Run us)) (sym (λ i. first i ++ (eh i ++ []))) (id⊢ 𝓤 (Run (v ∷ h ∷ [])))) $
     enter ! 𝓣.C 𝓣.Λ fn (v ∷ h ∷ []) Post $ alloc_all ! (λ l. pass_all ! refl ((tt, (tt, tt)), (fits, tt)) $
-    sets ! (of_opd ! (get_in ! (fld ! refl (stop !)) (sub ! 0 refl (whole !)))) refl (tt, tt) $ sets ! (of_opd ! (get ! refl)) refl (tt, tt) $ sets ! (agg ! (and_then ! (get ! refl) (and_then ! (get ! refl) (no_more !)))) refl (parts_good R Z LZ ghosts b o h fits) $
+    sets ! (of_opd ! (get_in ! (fld ! refl (stop !)) (sub ! 0 refl (whole !)))) refl (tt, tt) $
+    sets ! (of_opd ! (get ! refl)) refl (tt, tt) $
+    sets ! (agg ! (and_then ! (get ! refl) (and_then ! (get ! refl) (no_more !)))) refl (parts_good R Z LZ ghosts b o h fits) $
     parts_in R Z LZ ghosts ! b o h a d.value $
     use0 𝓛 (raw (fact 𝓤 Told)) (fact_i 𝓤 Told (emp 𝓤) refl) $ nothing ! $ nothing ! $ nothing ! $ fjoin ! $ move ! (1 ∷ 0 ∷ []) $ fjoin ! $
     returns ! (look_at ! 0 refl) $ free_all ! refl $ keep ! (3 ∷ 0 ∷ 2 ∷ 1 ∷ []) $ by ! (leaves 𝓛 En hs c z (both (vptr b o) h) r (tt, (tt, tt)) (tt, (tt, tt)))))))))

@@ -41,8 +41,8 @@ push_with_node-requires g c =
 pub returns-in-Ok-push_with_node-clause-pushed : goal.returns-in-Ok-push_with_node-clause-pushed
 returns-in-Ok-push_with_node-clause-pushed g c =
     let k = keeps_on c.node.new.seat c.get_slot.new.seat c.put_value.new.seat c.in-Ok-get_slot.ensures.keeps c.put_value.ensures.keeps in
-    (value_pushed g.A.Algorithm.push_worn _ c.args.self.now.carries _ c.requires.seat.0 c.requires.seat.1 c.args.value c.args.turns c.node.new.seat c.put_value.new.seat
-    c.in-Ok.node.0 c.in-Ok.node.1 c.in-Ok.ensures c.in-Ok-get_slot.got k c.put_value.ensures.has c.in-Ok-get_slot.ensures.failed c.body_of.result c.push_with_node.new.seat c.in-Ok-push_with_node.ensures).pushed
+    (value_pushed g.A.Algorithm.push_worn _ c.args.self.now.carries _ c.requires.seat.0 c.requires.seat.1 c.args.value c.args.turns c.node.new.seat c.put_value.new.seat c.in-Ok.node.0 c.in-Ok.node.1
+    c.in-Ok.ensures c.in-Ok-get_slot.got k c.put_value.ensures.has c.in-Ok-get_slot.ensures.failed c.body_of.result c.push_with_node.new.seat c.in-Ok-push_with_node.ensures).pushed
 
 came_back : (g : Over) (c : goal.After-taken_back g) → AnswersPush g.A.Algorithm.push_worn (arena_of c.args.self.now) c.args.seat.now c.taken_back.new.seat c.args.value
     c.args.turns (Err (back_with c.in-Err-push_with_node.refusal c.taken_back.ensures.value))

@@ -7,7 +7,8 @@ use Rattle.value_queue.proofs.queue.QueueOf.pop_slot.Goals as goal
 pub returns : goal.returns
 returns g c =
     elim c.match-pocket.branch [
-      | in-None w ↦ draw_at_once g.A.Algorithm.pop_worn (arena_of c.args.self.now) c.args.seat.now _ c.pop_without_node.new.seat _ c.args.turns c.pop_without_node.result w.seat-is w.spent-is c.pop_without_node.ensures
+      | in-None w ↦ draw_at_once g.A.Algorithm.pop_worn (arena_of c.args.self.now) c.args.seat.now _ c.pop_without_node.new.seat _
+          c.args.turns c.pop_without_node.result w.seat-is w.spent-is c.pop_without_node.ensures
       | in-Some+in_ok-give_back-in-Some w ↦
           draw_after_give g.A.Algorithm.pop_worn (arena_of c.args.self.now) c.args.seat.now w.give_back.new.seat _ c.pop_without_node.new.seat
           w.failed-spent.result _ c.args.turns c.pop_without_node.result w.seat-is w.spent-is w.give_back.ensures.same w.give_back.ensures.slots
