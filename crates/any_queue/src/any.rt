@@ -57,9 +57,9 @@ impl<const B: u32> AnyQueueOf<B> {
         roles: &[Role],
     ) -> Result<(AnyQueueOf<B>, Vec<Seat>), Refusal>
         requires split { IsSplit B }
-        //= library/any (ok, permits, seats, unused, sized, refused): A queue of either kind meets `Fifo`; a new one is
-        //=   of the kind, nodes and greatest count asked for, its seats may do what the roles say and are unused, and
-        //=   its refusals have the causes of the kind.
+        //= library/any (ok, permits, seats, unused, sized, refused): A queue of either kind meets `Fifo`, and
+        //=   `Close`; a new one is of the kind, nodes and greatest count asked for, its seats may do what the roles
+        //=   say and are unused, and its refusals have the causes of the kind.
         ensures ok { IfOk result
             (λ r. IsMade (plan B kind nodes limit roles.now) (any_arena_of r.0) r.1.items) }
         ensures permits { IfOk result (λ r. any_permits_of r.0 ≡ permits_by roles.now) }
@@ -235,10 +235,13 @@ impl<const B: u32> Close for AnyQueueOf<B> {
 
     type End = Ended;
 
+    //= queues/ends
     ghost ends = { λ q. Leaves (any_arena_of q) };
 
+    //= queues/rest
     ghost asks = { λ _ _. Unit {0} };
 
+    //= queues/room
     ghost has_room = { λ q. HasRoomFor (any_arena_of q) };
 
     fn room(&self, alloc: Global) -> Result<Vec<Taken>, Refusal> {

@@ -243,10 +243,13 @@ impl<A: Algorithm<B>, const B: u32> Close for ArenaQueueOf<A, B> {
 
     type End = Ended;
 
+    //= queues/ends
     ghost ends = { λ q. Leaves (arena_of q) };
 
+    //= queues/rest
     ghost asks = { λ _ _. Unit {0} };
 
+    //= queues/room
     ghost has_room = { λ q. HasRoomFor (arena_of q) };
 
     fn room(&self, alloc: Global) -> Result<Vec<Taken>, Refusal> {

@@ -40,8 +40,8 @@ pub fn what_is_left_are_pushes_that_may_begin()
     ensures { EachLeftLasts 1 }
 {}
 
-/// At an odd greatest count no push is refused for want of a node for good: Free isn't worn out then, so the next node that is
-/// given back is found.
+/// At an odd greatest count no push is refused for want of a node for good: Free isn't worn out then, so right after the next node
+/// is given back no push has that cause.
 pub fn no_push_lacks_a_node_for_good<T>()
     //= atomics/again (worlds, calls, given, greatest): Where in a traced world of an odd greatest count a push has cause for
     //=   `NoNode`, Free isn't worn out; so in the one in which a refused call met that cause. In the world right after a step

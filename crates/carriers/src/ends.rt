@@ -59,7 +59,8 @@ pub trait CloseCarrier: Carrier + Sized {
         //=   pushes as these and the values left, and a shut where the queue was shut; each deed is then theirs. With every
         //=   seat it is whole. The queue names which seats an end asks for.
         ensures rest { ClosesOf (Self.permits self) (map Self.known seats.items) result.0 }
-        //= carriers/ends: With the rest comes an end, whichever seats are handed in, of which the queue's `ends` holds.
+        //= carriers/ends: With the rest comes an end, of which the queue's `ends` holds; that says nothing of the
+        //=   seats handed in.
         ensures ends { ends self result.1 result.0 };
 
     /// Ends the queue and the seats handed in, as `close_with` does, with room that it takes first.

@@ -111,8 +111,8 @@ pub struct Command {
 /// refused. Takes memory, and doesn't wait.
 pub fn read_words(alloc: Global, words: &[String]) -> Result<Command, (u8, String)>
     //= program/words (asked, passes, none): The words name the task, its file and its options as clap's definitions
-    //=   say; no words are `run -`. They are taken only where clap finds no fault; words that are a command line, and
-    //=   none, are refused only where memory is (`IsAsked`).
+    //=   say (`IsAsked`); no words are `run -`. They are taken only where clap finds no fault; words that are a
+    //=   command line (`AreTaken`), and none, are refused with status 1 alone, that of refused memory.
     ensures asked { IfOk result (IsAskedSomewhere (map string_bytes words.now)) }
     // Words that are a command line, and no words, are refused only where memory is.
     ensures passes { IfErr result (λ e. AreTaken (map string_bytes words.now) → e.0 ≡ 1) }

@@ -81,9 +81,9 @@ impl<A: Close + Drop, B: Close + Drop> EitherQueue<A, B> {
     ///
     /// Refused by `Memory` alone. Takes memory for the values left and the seats, and doesn't wait.
     pub fn room(&self, alloc: Global, seats: usize) -> Result<EitherRoom<A::Seat, B::Seat>, Refusal>
-        //= library/either_end (room, only_memory): A queue of one of two kinds, both of which meet `Close`, is ended as the queue
-        //=   within: which room is enough, which seats are, what is left, and which end shows it, are as of that queue. Or
-        //=   Memory.
+        //= library/either_end (room, only_memory): A queue of one of two kinds, both of which meet `Close`, is ended
+        //=   as the queue within: which room is enough, with room for the seats, which seats are, what is left, and
+        //=   which end shows it, are as of that queue. Or Memory.
         ensures room { IfOk result (HasEitherRoom A.has_room B.has_room self.now seats) }
         ensures only_memory { IfErr result (λ refusal. refusal ≡ Refusal.Memory) }
     {

@@ -91,8 +91,8 @@ pub fn run_all<R: Threads + Wait + Sync, T: Task>(
     tasks: Vec<T>,
     workers: Option<usize>,
 ) -> Result<Vec<Result<T::Output, T::Error>>, Unstarted<T>>
-    //= tasks/run_all (answers, tasks, only_memory): Each task is answered once, at its own place, by its own answer; where
-    //=   memory is refused, none was run, and all come back.
+    //= tasks/run_all (answers, tasks, only_memory): Each task is answered once, at its own place, by its own answer;
+    //=   or `Memory` is refused, and all come back. That none was run then, no clause says.
     ensures answers { IfOk result (λ answers. AllZip T.answers tasks.items answers.items) }
     ensures tasks { IfErr result (λ unstarted. unstarted.tasks.items ≡ tasks.items) }
     ensures only_memory { IfErr result (λ unstarted. unstarted.refusal ≡ Refusal.Memory) }

@@ -53,14 +53,14 @@ pub fn expand_text<R: Source, W: Sink>(
     //=   in range, of version 1 where that suffices: its sizes, and the events of its acts in turn from the opening
     //=   world, those of a repeat as often as it says. An event stands for itself, `until` and `finish` for the least
     //=   number of steps after which the actor stands before the line, or has no call, at most 1,000,000.
+    //= program/expand_refusals (ok, prefix, write, unwritten, fault, text, refused, reader): If `expand_text` is
+    //=   refused `Write`, a prefix of that text was written, and a write failed or took nothing; at any other refusal
+    //=   nothing was. A text that is no recipe is refused with its first faulty line and what is wrong with it,
+    //=   unless memory or reading is refused. A refusal with a line is that of the first act that is refused, which
+    //=   stands there. The reader's end is as of `run_text`.
     ensures ok { OnOk result (WritesExpansion (R.state reader.old).left (W.state writer.old)
         (W.state writer.new)) }
     ensures quiet { OnOk result ((W.state writer.new).failures ≡ (W.state writer.old).failures) }
-    //= program/expand_refusals (prefix, write, unwritten, fault, text, refused, reader): If `expand_text` is refused
-    //=   `Write`, a prefix of that text was written, and a write failed or took nothing; at any other refusal nothing
-    //=   was. A text that is no recipe is refused with its first faulty line and what is wrong with it, unless memory
-    //=   or reading is refused. A refusal with a line is that of the first act that is refused, which stands there. The
-    //=   reader's end is as of `run_text`.
     ensures prefix { IfErr result (λ fault. fault.refusal ≡ Refusal.Write
         → BeginsExpansion (R.state reader.old).left (W.state writer.old) (W.state writer.new)) }
     ensures write { IfErr result (λ fault. fault.refusal ≡ Refusal.Write

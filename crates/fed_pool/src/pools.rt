@@ -332,9 +332,10 @@ pub fn run_fed<
     requires same { length tasks.seats.items ≡ length results.seats.items }
     requires tasks_asked { AsksSoMany C.asks tasks.queue (length tasks.seats.items) }
     requires results_asked { AsksSoMany D.asks results.queue (length results.seats.items) }
-    //= tasks/fed (told, all, kept, idle, joined): By its `stands` a feed gave some tasks, each of which is told of once:
-    //=   its own result was told, under its number, or it is handed back. Where no call of who tells the results was
-    //=   refused, none is handed back, and the feed is idle. What it keeps is as before. Each worker has ended.
+    //= tasks/fed (told, all, kept, idle, joined): By its `stands` a feed gave some tasks, each of which is told of
+    //=   once: its own result was told, under its number, or it is handed back. Where no refusal is told of who
+    //=   handed out the tasks (`refused`), none is handed back, and the feed is idle. What it keeps is as before.
+    //=   Each worker has ended.
     ensures told { IfOk result (HasFed T.answers F.stands) }
     ensures all { IfOk result (λ fed. fed.refused ≡ None → left_in fed.left ≡ []) }
     ensures kept { IfOk result (λ fed. F.kept fed.feed ≡ F.kept feed) }

@@ -51,9 +51,9 @@ pub fn work_text<T: Threads + Wait + Sync, R: Source, W: Sink>(
     ensures ok { OnOk result (WritesResults (R.state reader.old).left (W.state writer.old)
         (W.state writer.new)) }
     ensures quiet { OnOk result ((W.state writer.new).failures ≡ (W.state writer.old).failures) }
-    //= program/work_queue: At Ok `work_text` answers a queue made for just the kind, nodes and workers asked for, with
-    //=   a seat for each worker, that may pop, one that may push, and the greatest count of all; a ring is full of as many
-    //=   values, and ends at the last place of all.
+    //= program/work_queue: At Ok `work_text` answers a queue made for just the kind, nodes and workers asked for,
+    //=   with a seat for each worker, that may pop, one that may push, and the greatest count of 24 bits; a ring is
+    //=   full of as many values, and ends at the last place of all.
     ensures over { IfOk result (λ done. IsCrewQueue kind nodes workers (queue_in done)) }
     //= program/work_went: At Ok the jobs read went over the queue that `work_text` answers: with it come seats of it, one for
     //=   each worker and one more, in no call, and the number of each job, from 1 on, was taken from it by one of them.

@@ -62,6 +62,12 @@ pub fn post_text<T: Threads + Wait + Sync, R: Source, W: Sink>(
     //= letters/post_text (ok, quiet): At Ok the text read was that of mail in range. As many letters were taken as it
     //=   has, those of each sender with the texts read, in their order; their text is written, by rising sender, those
     //=   of one as taken.
+    //= letters/text_refusals (ok, text, prefix, write, unwritten, refusal, reader): `post_text` refuses a text that
+    //=   isn't one of mail with its first faulty line and what is wrong with it, unless memory or reading is refused;
+    //=   at any other refusal the text was that of mail in range. If it is refused `Write`, a prefix of the letters
+    //=   was written, and a write failed or took nothing; at any other refusal nothing was written. Its further
+    //=   refusals are `NoNode`, `WornOut`, `BadSize` and `Lost`. At Ok, and at each refusal but `Memory` and `Read`,
+    //=   its reader has told its end and didn't fail; at `Read` one call of it failed, at `Memory` none.
     ensures ok { OnOk result (WritesLetters (ArePosted (R.state reader.old).left)
         (W.state writer.old) (W.state writer.new)) }
     ensures quiet { OnOk result ((W.state writer.new).failures ≡ (W.state writer.old).failures) }
@@ -71,12 +77,6 @@ pub fn post_text<T: Threads + Wait + Sync, R: Source, W: Sink>(
     //=   the seat popped one value for each letter, as many of each sender as it has letters.
     ensures carried { IfOk result (CarriedText kind (R.state reader.old).left) }
     // A text is refused by its first faulty line. Where sending or writing is refused, it was the text of mail.
-    //= letters/text_refusals (text, prefix, write, unwritten, refusal, reader): `post_text` refuses a text that isn't
-    //=   one of mail with its first faulty line and what is wrong with it, unless memory or reading is refused; at
-    //=   any other refusal the text was that of mail in range. If it is refused `Write`, a prefix of the letters was
-    //=   written, and a write failed or took nothing; at any other refusal nothing was written. Its further refusals
-    //=   are `NoNode`, `WornOut`, `BadSize` and `Lost`. At Ok, and at each refusal but `Memory` and `Read`, its
-    //=   reader has told its end and didn't fail; at `Read` one call of it failed, at `Memory` none.
     ensures text { IfErr result (TellsOfText (R.state reader.old).left) }
     // Where writing fails, a prefix of the text is written.
     ensures prefix { IfErr result (λ refusal. refusal ≡ Refusal.Write

@@ -89,8 +89,8 @@ impl<Q: Fifo + Drop> Receiver<Q> {
         ensures order { InOrder (receiver_knows Q.known self.new) }
         //= letters/refused_take (refused, lost, stays_lost): A refused take took nothing, and at `Closed` its seat
         //=   notes that the queue was shut and empty; but where a letter is lost, the first such call popped one
-        //=   value and keeps a `Missing` for its body, and each later one changes nothing and is refused so too. That
-        //=   a look at the store made it, no clause says.
+        //=   value and keeps that the store has no letter at its body (`Missing`), and each later one changes nothing
+        //=   and is refused so too. That a look at the store told so, no clause says.
         ensures refused { IfErr result
             (λ refusal. refusal ≢ Lost → TookNothing PopRefused Q.known self.old refusal self.new) }
         ensures lost { result ≡ Err Lost → Loses Popped Q.known self.old self.new }

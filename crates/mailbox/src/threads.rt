@@ -357,17 +357,17 @@ pub fn post<'a, R: Threads + Wait + Sync, Q: Fifo + Sync + Drop>(
     ensures all { IfOk result.1 (λ v. length v.items ≡ letters_of tasks.items) }
     ensures texts { IfOk result.1 (λ v. BringTexts (map texts_in tasks.items) v.items) }
     ensures refusal { IfErr result.1 EndsPost }
-    //= letters/post_refused: Letters that aren't posted: at `Memory` the receiver may be as it was. Or a take was
-    //=   refused, with nothing taken, or by `Lost`, where a letter is lost or out of its turn. Or all were taken that
-    //=   were there, fewer than the tasks have: then the first sender that was refused is told, by what it was
-    //=   refused, with its cause, by `Lost` where it found the queue shut; and `Lost`, where none was. Each sender
-    //=   made as many entries as it has letters, or as were before the refused one.
+    //= letters/post_refused: Letters that aren't posted: at `Memory` the receiver may be as it was. Or, behind
+    //=   letters taken, a take was refused that took nothing, or by `Lost`, where a letter is lost or out of its
+    //=   turn. Or all were taken that were there, fewer than the tasks have: then each sender made as many entries as
+    //=   it has letters, or as were before the refused one, and the first sender that was refused is told, by what it
+    //=   was refused, with its cause, by `Lost` where it found the queue shut; and `Lost`, where none was.
     ensures caused { IfErr result.1 (λ refusal. PostRefused Q.is_seat Q.known Q.push_cause
         office.now tasks.items receiver refusal result.0) }
     //= letters/post_leaves: Unless a post is refused `Memory` with the receiver as it was, all its senders have
     //=   ended, by as many entries as they have letters, or as were before the one that was refused, with the cause.
-    //=   Its queue is then left shut, unless there were no tasks: one of its senders shut it, or found it shut; or
-    //=   was refused so, with the cause, as Tail was worn out.
+    //=   Unless there were no tasks, its queue is then left shut, or Tail is worn out: a sender of its office shut
+    //=   it, or found it shut, or was refused so, with the cause.
     ensures leaves { PostLeaves Q.is_seat Q.permits Q.known Q.push_cause Q.shut_cause office.now
         tasks.items receiver result.1 result.0 }
 {

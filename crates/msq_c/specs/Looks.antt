@@ -23,8 +23,8 @@ use Rattle.msq_c.specs.Codes.{code_of}
 use Rattle.msq_c.specs.Queues.{Queue}
 use Rattle.msq_c.specs.Seats.{known_at, queue_at, KeepsHandle, NeedsHandle}
 
--- the code of whether a queue is empty, which is that of a pop's answer there: 0 where it holds a value, 32 where it is empty, 16
--- where it is shut too, 3 where others were popping, or the place at the front of a ring that is shut wasn't filled
+-- the code of whether a queue is empty: 0 where it holds a value, 32 where it is empty, 16 where it is shut too, 3 where others
+-- were popping, or the place at the front of a ring that is shut wasn't filled
 abbrev pub emptiness_code : Result RingEmptiness Trouble → ℕ
 emptiness_code (Ok Holds) = 0
 emptiness_code (Ok Empty) = 32

@@ -111,6 +111,7 @@ impl MsqSeat {
     }
 }
 
-//= library/send: A handle, `MsqSeat`, may go to another thread; `msq_create` needs this.
+//= library/send: A handle, `MsqSeat`, `MsqWordSeat` or `MsqWordsSeat`, may go to another thread; the calls
+//=   that make queues need this.
 // SAFETY: proved, in proofs/handles/Handle/TheSendSync: the block may go, and a pointer is owned by one handle.
 unsafe impl Send for Handle {}

@@ -106,7 +106,7 @@ pub extern "C" fn msq_meet(alloc: Global, one: &mut MsqSeat, other: &mut MsqSeat
     code(calls::meet(alloc, one, other))
 }
 
-/// Whether the queue is empty, and shut too: by the code that a pop at that moment is answered.
+/// Whether the queue is empty, and shut too, by a code.
 #[unsafe(no_mangle)]
 pub extern "C" fn msq_emptiness(alloc: Global, slot: &mut MsqSeat) -> u32
     //= library/looks: A look from C at whether the queue is empty tells what `emptiness` of its queue does, by the codes of a

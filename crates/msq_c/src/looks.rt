@@ -104,7 +104,7 @@ pub(crate) fn look<L: Look<Queue>>(alloc: Global, slot: &mut MsqSeat) -> Result<
     Ok(told)
 }
 
-/// The code of whether a queue is empty: that which a pop there is answered.
+/// The code of whether a queue is empty.
 pub(crate) fn code_of_emptiness(found: Result<RingEmptiness, Trouble>) -> u32
     ensures { result ≡ emptiness_code found }
 {

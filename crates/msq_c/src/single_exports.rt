@@ -91,11 +91,11 @@ pub extern "C" fn msq_word_meet(
     code(word_calls::meet(alloc, one, other))
 }
 
-/// Whether the queue is empty, and shut too: by the code that a pop at that moment is answered.
+/// Whether the queue is empty, and shut too, by a code.
 #[unsafe(no_mangle)]
 pub extern "C" fn msq_word_emptiness(alloc: Global, slot: &mut MsqWordSeat) -> u32
-    //= library/word_looks: A look from C at whether a queue of one word is empty, and one at its length, tell as those at a
-    //=   queue of three, and are refused as those.
+    //= library/word_looks: A look from C at whether a queue of one word is empty, and one at its length, tell as
+    //=   those at a queue of words, and are refused as those.
     ensures { Tells emptiness_code result
         (AnswersLook is_full block_at TellsEmptiness slot.old slot.new) }
 {

@@ -98,7 +98,7 @@ pub extern "C" fn msq_words_meet(
     code(word_calls::meet(alloc, one, other))
 }
 
-/// Whether the queue is empty, and shut too: by the code that a pop at that moment is answered.
+/// Whether the queue is empty, and shut too, by a code.
 #[unsafe(no_mangle)]
 pub extern "C" fn msq_words_emptiness(alloc: Global, slot: &mut MsqWordsSeat) -> u32
     //= library/words_looks: A look from C at whether a queue of words is empty, and one at its length, tell what those of its

@@ -65,8 +65,8 @@ impl<Q: Fifo + Drop> OwnedSeat<Q> {
         requires empty { room.items ≡ [] }
         requires room { length others.items + 1 ≤ vec_capacity room }
         requires others { All (λ s. queue_of s ≡ queue_of self) others.items }
-        //= library/into_queue (queue, seats, sit, back): A queue that comes out of its shares is theirs, with their seats, each of
-        //=   which is the queue's. One that doesn't comes back as at `close_with`.
+        //= library/into_queue (queue, seats, sit, back): A queue that comes out is that of the shares given up, with
+        //=   their seats, each of which is the queue's. One that doesn't comes back as at `close_with`.
         ensures queue { IfOk result (λ r. r.0 ≡ queue_of self) }
         ensures seats { IfOk result
             (λ r. r.1.items ≡ map seat_of others.items ++ seat_of self ∷ []) }

@@ -63,6 +63,7 @@ pub fn page_text<R: Source, W: Sink>(
 ) -> Result<(), Fault>
     //= program/page (ok, quiet): The page that is written of a schedule read is its frame's first part, the exact trace, and
     //=   its frame's second part.
+    //= program/other_faults (ok, prefix, fault, text, refused, reader)
     ensures ok { OnOk result (WritesPage frame.now (R.state reader.old).left (W.state writer.old)
         (W.state writer.new)) }
     ensures quiet { OnOk result ((W.state writer.new).failures ≡ (W.state writer.old).failures) }
@@ -73,7 +74,6 @@ pub fn page_text<R: Source, W: Sink>(
     ensures write { IfErr result (λ fault. fault.refusal ≡ Refusal.Write
         → GivesUp (W.state writer.old) (W.state writer.new)) }
     ensures unwritten { IfErr result (λ fault. fault.refusal ≢ Refusal.Write → writer.new ≡ writer.old) }
-    //= program/other_faults (fault, text, refused, reader)
     ensures fault { IfErr result (λ fault. IsRunFault fault.refusal fault.line) }
     ensures text { IfErr result (λ fault. TellsFaultyLine (R.state reader.old).left fault.refusal) }
     ensures refused { IfErr result (λ fault. IfSome fault.line (λ line.

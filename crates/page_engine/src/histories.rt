@@ -46,10 +46,10 @@ pub fn history_page<R: Source, W: Sink>(
 ) -> Result<(), Refusal>
     //= program/history_page (ok, quiet): The page that is written of a history or a recording read is its frame's first part, that
     //=   text, byte for byte, the text that tells an answer to it, with the lines of a reason's operations, and its frame's second part.
+    //= program/judge_refusals (ok, text, prefix, write, unwritten, refusal, reader)
     ensures ok { OnOk result (WritesHistoryPage frame.now (R.state reader.old).left steps
         (W.state writer.old) (W.state writer.new)) }
     ensures quiet { OnOk result ((W.state writer.new).failures ≡ (W.state writer.old).failures) }
-    //= program/judge_refusals (text, prefix, write, unwritten, refusal, reader)
     ensures text { IfErr result (TellsFaultOfRecord (R.state reader.old).left) }
     // Where writing fails, a prefix of that page is written.
     ensures prefix { IfErr result (λ refusal. refusal ≡ Refusal.Write

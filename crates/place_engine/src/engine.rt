@@ -49,8 +49,8 @@ pub fn place_text<R: Source, W: Sink>(
     //=   the number of its line in the text and that line itself, byte for byte (`why_text`).
     ensures ok { IfOk result (λ told. TellsPlaces (R.state reader.old).left steps tells_why
         (W.state writer.old) (W.state writer.new) told.found) }
-    //= program/overlap: Two lines that are told say operations of one thread that overlap, the first before the second; where
-    //=   none are told, no two do.
+    //= program/overlap: Two lines of a recording that are told say operations of one thread that overlap, the first
+    //=   before the second; where none are told, no two lines of a recording do.
     ensures overlap { IfOk result (λ told. SaysOverlap (R.state reader.old).left told.overlap) }
     ensures quiet { OnOk result ((W.state writer.new).failures ≡ (W.state writer.old).failures) }
     // A text is refused by its first faulty line.

@@ -50,8 +50,9 @@ pub fn an_actor_alone_ends_its_call_from_anywhere()
 
 /// In the two-lock queue the steps that find no lock held are at most `8 * P + 4` for each operation.
 pub fn few_steps_find_no_lock_held()
-    //= progress/unheld: In the two-lock queue the steps that find no lock held are at most 8P + 4 for each operation, and
-    //=   the first n of them complete at least n / (8P + 4) - P operations, refused ones too, less one for each rest.
+    //= progress/unheld: In the two-lock queue the steps, but for exchanges that find their lock held, are at most 8P + 4
+    //=   for each operation, and the first n of them complete at least n / (8P + 4) - P operations, refused ones too,
+    //=   less one for each rest.
     ensures { FewFindNoLockHeld 8 4 }
 {}
 

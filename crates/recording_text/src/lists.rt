@@ -12,7 +12,7 @@ const MOST_TEXTS: usize = 1_000_000;
 /// The texts of a list, which stand between its commas; none where one of them has not 1 to 64 letters, digits, dashes, points and
 /// underscores, or where they are more than 1,000,000. Takes memory, and doesn't wait.
 pub fn texts_in<'a>(alloc: Global, list: &'a [u8]) -> Result<Option<Vec<&'a [u8]>>, AllocError>
-    //= texts/held_list: A list gives the texts between its commas exactly where each can be held at the start.
+    //= texts/held_list: A list gives its texts exactly where they are at most 1,000,000 and each can be held at the start.
     ensures { IfOk result (λ found. MatchOption found (¬ AreHeld (listed list.now))
         (λ texts. (map bytes_of texts.items ≡ listed list.now) × AreHeld (listed list.now))) }
 {

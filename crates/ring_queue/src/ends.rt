@@ -151,6 +151,7 @@ impl Close for RingQueue {
         requires room { HasRoomFor self room }
         requires seats { All (IsNumberSeat self) seats.items }
         requires asked { length (map known_of seats.items) ≡ length (permits_in self) }
+        //= ring/rest
         ensures rest { Closes (permits_in self) (map known_of seats.items) result.0 }
     {
         (self.end_with(room, seats), ())

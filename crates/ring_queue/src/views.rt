@@ -24,6 +24,8 @@ pub struct WordRule;
 impl<T> TableRule<Option<T>, Knowing<T>, Plan> for WordRule {
     ghost use Rattle.ring_queue.specs.Beside.{HoldsBy, first_beside};
 
+    //= ring/rule: By what `atomic_table` states of a table, a ring's *rule* (`HoldsBy`) holds between any two atomic steps of any
+    //=   threads.
     ghost holds = { HoldsBy };
 
     ghost first = { first_beside };

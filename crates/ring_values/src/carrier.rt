@@ -37,9 +37,10 @@ impl<T: Send> Carrier for RingValues<T> {
 
     ghost known = { known_by };
 
-    //= ring_values/causes (push_cause, pop_cause, shut_cause): A push of a value has the causes of a push of a number; and for
-    //=   `Busy` that tries at slots failed, all its turns or those before the others, each at a slot that was taken when it was
-    //=   tried. A pop and a shut have those of a ring of numbers.
+    //= ring_values/causes (push_cause, pop_cause, shut_cause): A push of a value has the causes of a push of a
+    //=   number; and for `Busy` that tries at slots failed, all its turns or those before the others, each at a slot
+    //=   whose flag was up in a state of the table by its rule in which the seat knew what it knew before the call. A
+    //=   pop and a shut have those of a ring of numbers.
     ghost push_cause = { λ q. PushCaused (ring_of q) };
 
     ghost pop_cause = { λ q. PopCaused (plan_of q) };

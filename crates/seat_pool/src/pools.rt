@@ -183,8 +183,8 @@ impl<Q: Fifo + Drop> SeatPool<Q> {
     /// Refused by `Memory` alone; the queue is then given up. Takes memory for the places, and doesn't wait.
     pub fn new(alloc: Global, queue: Q, seats: Vec<Q::Seat>) -> Result<SeatPool<Q>, Refusal>
         requires { All (Q.is_seat queue) seats.items }
-        //= leases/pool (queue, seats, only_memory): A pool has the queue, and the numbers of the seats in their order, that
-        //=   it was made with; a further handle is of the same pool. Or Memory.
+        //= leases/pool (queue, seats, only_memory): A pool has the queue, and the numbers of the seats in their
+        //=   order, that it was made with; a further handle, where it is given, is of the same pool. Or Memory.
         ensures queue { IfOk result (λ pool. queue_in (store_of pool) ≡ queue) }
         ensures seats { IfOk result (λ pool.
             numbers_of Q.known (store_of pool) ≡ map (λ s. (Q.known s).number) seats.items) }

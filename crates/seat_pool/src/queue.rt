@@ -3,9 +3,9 @@ use crate::leases::Lease;
 use crate::pools::SeatPool;
 use history::{Body, Fifo, Refusal, Taken};
 
-//= leases/queue: A pool meets `Fifo` itself, with its leases as seats: what each may do, what it knows and what causes a
-//=   refusal are those of its seat, by the queue. So what is made over a `Fifo` can be made over a pool; what is over a
-//=   `Close` can't.
+//= leases/queue: A pool of a queue that is `Send` and `Sync` meets `Fifo` itself, with its leases as seats: what each
+//=   may do, what it knows and what causes a refusal are those of its seat, by the queue. So what is made over a
+//=   `Fifo` can be made over a pool; what is over a `Close` can't.
 impl<Q: Fifo + Send + Sync + Drop> Fifo for SeatPool<Q> {
     ghost use Rattle.seat_pool.specs.Pools.{store_of, queue_in};
     ghost use Rattle.seat_pool.specs.Leases.{seat_of};

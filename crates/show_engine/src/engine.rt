@@ -74,6 +74,7 @@ pub fn show_text<R: Source, W: Sink>(
     //= program/picture (ok, quiet): The picture of the schedule read is written: the rows shown of its run, a star
     //=   exactly where an operation of the run's history has its place, and the chains, with Tail, and the holders of
     //=   locks where these changed; behind it, of the view's legend, what each line in the rows does.
+    //= program/other_faults (ok, prefix, fault, text, refused, reader)
     ensures ok { OnOk result (WritesPicture view.entry (R.state reader.old).left (W.state writer.old)
         (W.state writer.new)) }
     ensures quiet { OnOk result ((W.state writer.new).failures ≡ (W.state writer.old).failures) }
@@ -95,7 +96,6 @@ pub fn show_text<R: Source, W: Sink>(
         (R.state reader.old).left line fault.refusal (W.state writer.old) (W.state writer.new))) }
     ensures none_failed_there { IfErr result (λ fault. IfSome fault.line (λ line.
         (W.state writer.new).failures ≡ (W.state writer.old).failures)) }
-    //= program/other_faults (fault, text, refused, reader)
     ensures fault { IfErr result (λ fault. IsRunFault fault.refusal fault.line) }
     // A text that is no schedule is refused by its first faulty line.
     ensures text { IfErr result (λ fault. TellsFaultyLine (R.state reader.old).left fault.refusal) }

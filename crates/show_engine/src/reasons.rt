@@ -100,10 +100,10 @@ pub fn show_found<R: Source, W: Sink>(
     //=   reason a row for each operation that the view shows from the first time of the reason's operations to their
     //=   last: whether it is one of them, its bar, and the line of the text that says it, with its number, byte for
     //=   byte.
+    //= program/judge_refusals (ok, text, prefix, write, unwritten, refusal, reader)
     ensures ok { OnOk result (DrawsFound view.entry (R.state reader.old).left steps
         (W.state writer.old) (W.state writer.new)) }
     ensures quiet { OnOk result ((W.state writer.new).failures ≡ (W.state writer.old).failures) }
-    //= program/judge_refusals (text, prefix, write, unwritten, refusal, reader)
     ensures text { IfErr result (TellsFaultOfRecord (R.state reader.old).left) }
     // Where writing fails, a prefix of that is written.
     ensures prefix { IfErr result (λ refusal. refusal ≡ Refusal.Write

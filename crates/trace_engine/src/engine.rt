@@ -58,6 +58,8 @@ pub fn trace_text<R: Source, W: Sink>(
 ) -> Result<(), Fault>
     //= program/trace (ok, quiet): The trace of the schedule read is written, from the worlds before and after each
     //=   step, in turn from the opening one.
+    //= program/other_faults (ok, prefix, fault, text, refused, reader): Other faults of a trace, a picture or a page,
+    //=   and the reader's end, are as of `run_text`.
     ensures ok { OnOk result (WritesTrace (R.state reader.old).left (W.state writer.old)
         (W.state writer.new)) }
     ensures quiet { OnOk result ((W.state writer.new).failures ≡ (W.state writer.old).failures) }
@@ -83,8 +85,6 @@ pub fn trace_text<R: Source, W: Sink>(
         line fault.refusal (W.state writer.old) (W.state writer.new))) }
     ensures none_failed_there { IfErr result (λ fault. IfSome fault.line (λ line.
         (W.state writer.new).failures ≡ (W.state writer.old).failures)) }
-    //= program/other_faults (fault, text, refused, reader): Other faults of a trace, a picture or a page, and the
-    //=   reader's end, are as of `run_text`.
     ensures fault { IfErr result (λ fault. IsRunFault fault.refusal fault.line) }
     // A text that is no schedule is refused by its first faulty line.
     ensures text { IfErr result (λ fault. TellsFaultyLine (R.state reader.old).left fault.refusal) }

@@ -72,8 +72,9 @@ impl<T: Send, A: Algorithm<B>, const B: u32> Carrier for QueueOf<T, A, B> {
         ensures refused { IfErr result
             (λ unpushed. PushRefusedOf (known_by seat.old) unpushed.refusal (known_by seat.new)) }
         ensures refusal { IfErr result (λ unpushed. StopsPush unpushed.refusal) }
-        //= values/push_causes: A push of a value is refused only with the cause of a push of a number; or `Busy`, where
-        //=   turns and tries at slots failed, `turns` together: each such slot was taken when it was tried.
+        //= values/push_causes: A push of a value is refused only with the cause of a push of a number; or `Busy`,
+        //=   where turns and tries at slots failed, `turns` together: each such slot's flag was up in a state of the
+        //=   table by its rule in which a seat knew no less than this one did before the call.
         ensures caused { IfErr result (λ unpushed.
             PushCaused A.push_worn (arena_of self.now) seat.old seat.new turns unpushed.refusal) }
     {

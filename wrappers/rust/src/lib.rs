@@ -93,7 +93,7 @@ pub enum Kind {
     NonBlocking,
     /// A thread that stops within a call may keep others from pushing, or from popping.
     TwoLock,
-    /// The fastest; a thread that stops within a push keeps others from popping. It has 32,767 seats at most, and up to 31 values
+    /// The fastest; a thread that stops within a push keeps others from popping. It has 32,767 seats at most, and up to 32 values
     /// a seat more find room than it is made for.
     Ring,
 }

@@ -65,7 +65,7 @@ impl<const B: u32> WorldOf<B> {
     pub fn line(&self, actor: u16) -> Option<Line>
         requires { IsSome (actor_of self.now actor) }
         //= worlds/queries: A world tells its setup, the number of its actors, the line and pocket of each, and each
-        //=   word: as the table's number and, but for locks, as a reference or a value.
+        //=   word: as the table's number and, but for locks, as a number, a reference or a value.
         ensures { IfSome (actor_of self.now actor) (λ a. result ≡ a.line) }
     {
         match actor_at(&self.actors, actor) {
