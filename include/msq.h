@@ -3,13 +3,15 @@
  * docs/LIBRARY.md says how to build libmsq.a, and docs/LIBRARY_C.md has a first program.
  *
  * A thread calls by a seat of its own, of type msq_seat. Set it to zeros before it is filled: that is an empty one. No call
- * waits, but for the lock of MSQ_DEBUG, and none takes memory but msq_create and msq_close.
+ * waits, but for the lock of MSQ_DEBUG, and none takes memory but msq_create and msq_close. What is said here of waiting, memory
+ * and steps is read off the code, and not proved.
  *
- * Each call is a macro over an inline function at the end of this header, which tells misuse that it sees: seats of two
- * queues that meet or close and, where MSQ_DEBUG is defined and the thread sanitizer isn't at work, two calls at one time on
- * one seat or on it and a copy, at the price of a lock as a call begins and as it ends. Compiled for the thread sanitizer it
- * tells that what calls order and which seat they use: two calls at one time on one seat, or on it and a copy, are reported, and
- * objects that were handed over by a queue are not. Compiled for the address sanitizer a copy of a seat that was dropped is reported.
+ * Each call is a macro over an inline function at the end of this header, which tells misuse that it sees: seats of two queues
+ * that meet or close and, where MSQ_DEBUG is defined and the thread sanitizer isn't at work, two calls at one time on one seat
+ * or on it and a copy, at the price of a lock as a call begins and as it ends. Compiled for the thread sanitizer it says what
+ * calls order and which seat they use, so that two calls at one time on one seat, or on it and a copy, are reported, and
+ * objects that were handed over by a queue are not. Compiled for the address sanitizer a copy of a seat that was dropped is
+ * reported.
  *
  * What the caller owes, and nothing here checks but for what MSQ_DEBUG tells:
  *  - An msq_seat is all zeros, or what the last call left in it. It is never copied beside the one that goes on in use.
@@ -39,24 +41,28 @@
 extern "C" {
 #endif
 
-/* What a call answers. Those up to 16 are the numbers of the queue's refusals; a worn word has a code of its own. */
+/*
+ * What a call answers. Free, Tail and Head are words of the queue that count; one is worn when its count is at the limit.
+ * The codes up to 16 are the numbers of refusals in docs/FAULTS.md.
+ */
 enum msq_code {
     MSQ_OK = 0,
-    MSQ_NO_NODE = 1,    /* a push: no node was free, and each was used; of MSQ_RING: it was full */
+    MSQ_NO_NODE = 1,    /* a push: no node was free, nor any left that was never used; of MSQ_RING: it was full */
     MSQ_WORN_FREE = 2,  /* a push: Free's count is at the limit, and no node is taken from the free list any more */
     MSQ_WORN_OUT = MSQ_WORN_FREE, /* the same, by its older name */
     MSQ_BUSY = 3,       /* others were in the way in each of the turns: call again */
     MSQ_MEMORY = 4,     /* no memory */
     MSQ_BAD_SIZE = 5,   /* a number is out of its range */
-    MSQ_CLOSED = 16,    /* a push: the queue is shut; a pop: it is shut and empty */
+    MSQ_CLOSED = 16,    /* a push or a shut: the queue is shut; a pop: it is shut and empty */
     MSQ_EMPTY = 32,     /* a pop: the queue was empty */
     MSQ_NO_SEAT = 33,   /* the msq_seat is empty */
     MSQ_NO_ROLE = 34,   /* the seat may not push, or may not pop */
-    MSQ_IN_USE = 35,    /* an msq_seat to be filled is full; or the queue to be closed has a further seat */
+    MSQ_IN_USE = 35,    /* an msq_seat to be filled is full; or one of the queue to be closed is missing */
     MSQ_RACED = 36,     /* a close: the queue got a further seat meanwhile */
     MSQ_WORN_NEXT = 37, /* a push, at the limit 1 alone: the count of its node is at it; push again, by another node */
-    MSQ_WORN_TAIL = 38, /* Tail is at the limit: no push comes but from a reserve, and of MSQ_NON_BLOCKING no shut */
-    MSQ_WORN_HEAD = 39, /* a pop: Head's count is at the limit: of MSQ_TWO_LOCK, no pop comes any more */
+    MSQ_WORN_TAIL = 38, /* Tail is worn: no push comes but from a reserve, and of MSQ_NON_BLOCKING no shut, and no pop
+                            finds it empty or shut: its last value comes by msq_close alone */
+    MSQ_WORN_HEAD = 39, /* a pop of MSQ_TWO_LOCK: Head is worn, and no value is popped any more */
     MSQ_TWO_QUEUES = 40, /* misuse: the seats are of two queues */
     MSQ_TWO_CALLS = 41, /* misuse, told with MSQ_DEBUG: another call uses the seat, or a copy of it */
     MSQ_UNCOUNTED = 42  /* a length: of MSQ_TWO_LOCK, none can be told */
@@ -84,12 +90,12 @@ enum msq_code {
     CODE(MSQ_UNCOUNTED, "the length of such a queue isn't counted")
 
 enum msq_kind {
-    MSQ_NON_BLOCKING = 0, /* a thread that stops keeps no other from going on */
+    MSQ_NON_BLOCKING = 0, /* a thread that stops keeps no other from going on: proved of the model, of calls tested */
     MSQ_TWO_LOCK = 1,     /* a thread that stops within a call may keep others from pushing, or from popping */
-    MSQ_RING = 2          /* the fastest; a thread that stops within a push keeps others from popping */
+    MSQ_RING = 2          /* the fastest; a thread that stops within a push may keep others from popping */
 };
 
-/* So many places may a seat of MSQ_RING have in reserve: each push by such a place ends in two steps. */
+/* So many pushes may a seat of MSQ_RING make, of two steps each, without a look whether there is room: its reserve. */
 #define MSQ_RESERVE 32
 
 enum msq_role { MSQ_GIVER = 1, MSQ_TAKER = 2, MSQ_BOTH = 3 };
@@ -118,23 +124,23 @@ typedef struct msq_length {
     uint64_t most;
 } msq_length;
 
-/* How many pushes a queue has left at least, and how often the counts of three of its words can still be raised; UINT64_MAX of
- * one that doesn't wear. */
+/* How many pushes a queue has left at least, and how often the counts of three of its words can still be raised. Of MSQ_RING
+ * `tail` is `pushes` again, and the other two are UINT64_MAX. */
 typedef struct msq_remaining {
     uint64_t pushes;
-    uint64_t free; /* Free's: each node taken from the free list raises it, and each one given back. None wears of MSQ_RING */
-    uint64_t tail; /* Tail's: of MSQ_NON_BLOCKING and MSQ_RING each push raises it, of MSQ_TWO_LOCK nothing does */
-    uint64_t head; /* Head's: each value popped raises it. It doesn't wear of MSQ_RING */
+    uint64_t free; /* Free's: each node taken from the free list raises it, and each one given back */
+    uint64_t tail; /* Tail's: of MSQ_NON_BLOCKING each push raises it; of MSQ_TWO_LOCK nothing does, and it stays the limit */
+    uint64_t head; /* Head's: each value popped raises it */
 } msq_remaining;
 
 /*
- * Makes a queue with `nodes` nodes, from 2 on (room for one value less, and one node a seat may wait in that seat), and
- * fills seat k with one of role k. Counts go up to `limit`, or to the greatest count that so many nodes leave room for,
- * where that is less: take MSQ_MOST_COUNT, but for tests. Up to 65,534 nodes that is 2^48 - 1, enough for 2^48 pushes and
- * pops; docs/QUEUES.md has the others. An even limit may wear out with an empty free list: a push then answers
- * MSQ_NO_NODE for good, in place of MSQ_WORN_FREE. The greatest counts are odd.
- * MSQ_RING is full at `nodes` values, but reserves may add up to MSQ_RESERVE - 1 more a seat; it has 32,767 seats at most.
- * At least `limit` pushes are done before it wears out, up to 2^62 of them, less its places: no run comes there.
+ * Makes a queue with `nodes` nodes, from 2 on (room for one value less than nodes, and for one less for each seat in which a
+ * node waits), and fills seat k with one of role k; 65,535 seats at most. Counts go up to `limit`, 1 or more, or to the
+ * greatest count that so many nodes leave room for, where that is less: take MSQ_MOST_COUNT, but for tests. Up to 65,534 nodes
+ * that is 2^48 - 1, enough for nearly 2^47 pushes and as many pops; docs/QUEUES.md has the others. An even limit may wear out
+ * with an empty free list: a push then answers MSQ_NO_NODE for good, in place of MSQ_WORN_FREE. The greatest counts are odd.
+ * MSQ_RING is full at `nodes` values, but reserves may add up to MSQ_RESERVE more a seat; it has 32,767 seats at most. At least
+ * `limit` pushes are done before it wears out, or 2^62 less its places, more than any program makes, where that is fewer.
  * MSQ_OK; MSQ_IN_USE where one of the seats is full; else MSQ_BAD_SIZE where a number is out of its range, or there are
  * fewer seats than roles, or more; else MSQ_MEMORY. Refused, it changes no seat.
  */
@@ -152,12 +158,13 @@ uint32_t msq_try_push(msq_seat *seat, uint64_t body, uint32_t turns);
 /*
  * Pops the value at the front into `value`, in so many turns at most, 1 or more.
  * MSQ_OK, MSQ_EMPTY, MSQ_BUSY, MSQ_CLOSED, MSQ_BAD_SIZE, MSQ_NO_SEAT or MSQ_NO_ROLE; of MSQ_NON_BLOCKING also
- * MSQ_WORN_TAIL, of MSQ_TWO_LOCK MSQ_WORN_HEAD. Refused or empty, its values and `value` are as before.
+ * MSQ_WORN_TAIL, of MSQ_TWO_LOCK MSQ_WORN_HEAD. Refused or empty, the queue's values and `value` are as before.
  */
 uint32_t msq_try_pop(msq_seat *seat, uint32_t turns, msq_value *value);
 
 /*
- * Shuts the queue: no push comes after it, and what is in the queue stays to be popped. The seat is one that may push.
+ * Shuts the queue, in so many turns at most, 1 or more: no push comes after it, and what is in the queue stays to be popped.
+ * The seat is one that may push.
  * MSQ_OK, MSQ_BUSY but of MSQ_RING, MSQ_CLOSED where it was shut before, MSQ_BAD_SIZE, MSQ_NO_SEAT or MSQ_NO_ROLE; of
  * MSQ_NON_BLOCKING also MSQ_WORN_TAIL.
  */
@@ -165,17 +172,17 @@ uint32_t msq_try_shut(msq_seat *seat, uint32_t turns);
 
 /*
  * Pushes these bodies in their order, as msq_try_push does, until one is refused: how many were pushed goes to `pushed`, and
- * the code is that of the one which was refused, or of the last one. To MSQ_RING as many go at one step as the seat has in
- * reserve, up to MSQ_RESERVE; else each goes by itself. Pushes of other seats may come between two steps. Each step has so many
- * turns. Where there are no bodies, any seat will do; without a seat 0 is written.
+ * the code is that of the one which was refused, or 0. To MSQ_RING as many go at one step as the seat has in reserve, up
+ * to MSQ_RESERVE; else each goes by itself. Pushes of other seats may come between them. Each step has so many turns. Where
+ * there are no bodies, any seat will do; without a seat 0 is written.
  */
 uint32_t msq_push_all(msq_seat *seat, const uint64_t *bodies, size_t bodies_len, uint32_t turns, size_t *pushed);
 
 /*
  * Pops values, as many as there is room for, as msq_try_pop does, until the queue is found empty or a pop is refused: they
- * go to `values`, from the front, and how many to `popped`. The code is that of the pop that took none, or of the last one.
- * From MSQ_RING up to 32 come at one step; else each comes by itself. Pops of other seats may come between two steps. Each step
- * has so many turns. Without a seat 0 is written.
+ * go to `values`, from the front, and how many to `popped`. The code is that of the pop that took none, or 0. From
+ * MSQ_RING up to 32 come at one step; else each comes by itself. Pops of other seats may come between them. Each step has so
+ * many turns. Without a seat 0 is written.
  */
 uint32_t msq_pop_up_to(msq_seat *seat, uint32_t turns, msq_value *values, size_t values_len, size_t *popped);
 
@@ -187,26 +194,26 @@ uint32_t msq_pop_up_to(msq_seat *seat, uint32_t turns, msq_value *values, size_t
 uint32_t msq_keep_nodes(msq_seat *seat, bool keeps);
 
 /*
- * Whether the queue holds a value, as it was at a moment of this call, by any seat: the code is that of a pop there, which
- * isn't made. It is proved that this moment isn't before what the seat had seen. MSQ_OK where the queue holds a value;
- * MSQ_EMPTY where it is empty, MSQ_CLOSED where it is shut too, so that nothing comes any more; MSQ_BUSY where pops took effect
- * meanwhile, or where a MSQ_RING is shut and the push at its front, done or refused, hasn't ended: look again. MSQ_NO_SEAT.
+ * Whether the queue holds a value, as it was at a moment of this call; any seat may ask, and nothing is popped. It is proved
+ * that all that the seat did or found before is counted in. MSQ_OK where the queue holds a value; MSQ_EMPTY where it is empty,
+ * MSQ_CLOSED where it is shut too, so that nothing comes any more; MSQ_BUSY where pops took effect meanwhile, or where a
+ * MSQ_RING is shut and the push at its front, done or refused, hasn't ended: look again. MSQ_NO_SEAT.
  */
 uint32_t msq_emptiness(msq_seat *seat);
 
 /*
- * Writes bounds of how many values the queue held at a moment of this call, by any seat. It is proved that this moment isn't
- * before what the seat had seen. The bounds are one number where no other call is under way, but of a MSQ_RING that is shut,
- * where MSQ_RESERVE a seat may lie between them. MSQ_OK; MSQ_UNCOUNTED of MSQ_TWO_LOCK, whose Tail counts no pushes;
- * MSQ_NO_SEAT. Refused, it writes nothing.
+ * Writes bounds of how many values the queue held at a moment of this call; any seat may ask. It is proved that all that the
+ * seat did or found before is counted in. The bounds are one number where no other call is under way, which is only tested;
+ * but of a MSQ_RING that is shut MSQ_RESERVE a seat may lie between them. MSQ_OK; MSQ_UNCOUNTED of MSQ_TWO_LOCK, whose Tail
+ * counts no pushes; MSQ_NO_SEAT. Refused, it writes nothing.
  */
 uint32_t msq_len(msq_seat *seat, msq_length *length);
 
 /*
- * Writes how many pushes are left at least until a word wears out, by any seat: while fewer pushes are called, done or
- * refused, those under way too, no call is answered MSQ_WORN_FREE, MSQ_WORN_TAIL or MSQ_WORN_HEAD; of MSQ_RING that isn't
- * proved. It is no limit: more may be left, about twice as many where seats keep nodes, or of MSQ_RING the places in reserve.
- * MSQ_OK or MSQ_NO_SEAT; refused, it writes nothing.
+ * Writes how many pushes are left at least until a word wears out; any seat may ask. While fewer pushes begin, done or
+ * refused, those under way too, no call is answered MSQ_WORN_FREE, MSQ_WORN_TAIL or MSQ_WORN_HEAD. That a call begins one push
+ * isn't proved, nor any of this of MSQ_RING. It is no limit: more may be left, about twice as many where seats keep nodes, or
+ * of MSQ_RING the places in reserve. MSQ_OK or MSQ_NO_SEAT; refused, it writes nothing.
  */
 uint32_t msq_left(msq_seat *seat, msq_remaining *left);
 
@@ -220,10 +227,10 @@ uint32_t msq_meet(msq_seat *one, msq_seat *other);
  * Ends the queue of these seats, which are all of its seats that were not dropped, and empties them. The values left, from
  * the front, go to `values`, as many as have room there; msq_room_for tells how much is enough for all.
  * MSQ_OK; MSQ_TWO_QUEUES where they are not all of one queue, MSQ_BAD_SIZE where there is no seat, MSQ_NO_SEAT where one is
- * empty, MSQ_IN_USE where the queue has a further seat or, of MSQ_RING, had one that was dropped: it isn't closed then, but
- * dropped; or MSQ_MEMORY: each seat is then as it was. MSQ_RACED where the
- * queue got a further seat while it was closed: all seats are then empty, and the queue goes on without them. No call gives
- * a queue a further seat, so this comes only where a duty above wasn't kept. Refused, it writes nothing.
+ * empty, MSQ_IN_USE where the queue has a further seat or, of MSQ_RING, had one that was dropped (such a ring can't be closed:
+ * pop it empty, and drop its seats), or MSQ_MEMORY: each seat is then as it was. MSQ_RACED where the queue got a further seat
+ * while it was closed: all seats are then empty, and the queue goes on without them. No call gives a queue a further seat, so
+ * this comes only where a duty above wasn't kept. When these last three come no clause says. Refused, it writes nothing.
  */
 uint32_t msq_close(msq_seat *seats, size_t seats_len, msq_value *values, size_t values_len, msq_rest *rest);
 
@@ -290,7 +297,7 @@ MSQ_INLINE const char *msq_code_name(uint32_t code) {
 
 /*
  * What stands around a call: msq_begin says whether no other call uses these seats, and msq_end ends this one. Without
- * MSQ_DEBUG and the thread sanitizer both do nothing.
+ * MSQ_DEBUG and the thread sanitizer msq_end does nothing, and msq_begin at most looks for dropped seats.
  */
 
 #if defined(__SANITIZE_THREAD__)
@@ -341,7 +348,7 @@ void __tsan_acquire(void *at);
 void __tsan_release(void *at);
 void __tsan_write_range(void *at, long bytes);
 
-/* What was done before a call began is seen after each call of its queue that ends later: all accesses are SeqCst. */
+/* Says: what was done before a call began is seen after each call of its queue that ends later. All accesses are SeqCst. */
 MSQ_INLINE bool msq_begin(struct msq_call *call, msq_seat *seats, size_t seats_len) {
     __tsan_write_range(seats, (long)(seats_len * sizeof *seats));
     for (size_t k = 0; k < seats_len; k++) {

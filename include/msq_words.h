@@ -4,7 +4,8 @@
  * Its seats are of a type of their own, which calls of msq.h don't take; what the caller owes, and what each code means, stands
  * there.
  *
- * What any thread calls, without a seat of its own, is an msq_queue of msq_queue.h that msq_words_open or msq_word_open made.
+ * What any thread calls, without a seat of its own, is an msq_queue of msq_queue.h that msq_words_open or msq_word_open made: only
+ * tested.
  */
 #ifndef MSQ_WORDS_H
 #define MSQ_WORDS_H
@@ -43,14 +44,15 @@ uint32_t msq_words_create(uint32_t kind, uint32_t nodes, uint64_t limit, const u
 /*
  * Pushes these words, in so many turns at most, 1 or more.
  * MSQ_OK, MSQ_NO_NODE, MSQ_WORN_FREE, MSQ_BUSY, MSQ_CLOSED, MSQ_BAD_SIZE where there are no turns, MSQ_NO_SEAT or MSQ_NO_ROLE; of
- * MSQ_NON_BLOCKING also MSQ_WORN_NEXT or MSQ_WORN_TAIL. Refused, nothing was pushed.
+ * MSQ_NON_BLOCKING also MSQ_WORN_NEXT or MSQ_WORN_TAIL. Refused, nothing was pushed. MSQ_BUSY also comes where each place for words
+ * that it tried, one a turn, was taken: that may last until a value is popped.
  */
 uint32_t msq_words_push(msq_words_seat *seat, const msq_words *words, uint32_t turns);
 
 /*
  * Pops the words at the front into `item`, in so many turns at most, 1 or more: those that the push passed which stood there.
  * MSQ_OK, MSQ_EMPTY, MSQ_BUSY, MSQ_CLOSED, MSQ_BAD_SIZE where there are no turns, MSQ_NO_SEAT or MSQ_NO_ROLE; of MSQ_NON_BLOCKING
- * also MSQ_WORN_TAIL, of MSQ_TWO_LOCK MSQ_WORN_HEAD. Refused or empty, its values and `item` are as before.
+ * also MSQ_WORN_TAIL, of MSQ_TWO_LOCK MSQ_WORN_HEAD. Refused or empty, the queue's values and `item` are as before.
  */
 uint32_t msq_words_pop(msq_words_seat *seat, uint32_t turns, msq_item *item);
 
@@ -97,8 +99,8 @@ typedef void (*msq_free_words)(const msq_words *words, void *context);
 typedef void (*msq_free_word)(uint64_t word, void *context);
 
 /*
- * Makes a queue of three words for any threads, as msq_queue_open makes one of pointers: it is one of the calls below, and of
- * msq_queue_push and msq_queue_pop never. MSQ_BAD_SIZE of MSQ_RING too.
+ * Makes a queue of three words for any threads, as msq_queue_open makes one of pointers. The calls below alone take it, and no call
+ * of msq_queue.h or msq_lease.h does. MSQ_BAD_SIZE of MSQ_RING too.
  */
 MSQ_INLINE uint32_t msq_words_open(msq_queue *queue, uint32_t kind, uint32_t capacity, uint16_t threads);
 
