@@ -27,12 +27,13 @@ struct shared {
     size_t room = 0;
 };
 
-// A time in nanoseconds; a hundred years are as long as it takes.
+// A time in nanoseconds; a hundred years or more are for ever.
 template <class Rep, class Period> uint64_t nanoseconds(std::chrono::duration<Rep, Period> time) noexcept {
     if (time <= time.zero()) {
         return 0;
     }
-    if (time >= std::chrono::hours(100 * 365 * 24)) {
+    // (by doubles: a time of a fine period can't be compared with so many years of it)
+    if (std::chrono::duration<double>(time) >= std::chrono::hours(100 * 365 * 24)) {
         return MSQ_FOREVER;
     }
     return static_cast<uint64_t>(std::chrono::duration_cast<std::chrono::nanoseconds>(time).count());
@@ -61,7 +62,7 @@ template <class Call> popped pop_by(Call call) noexcept {
 
 struct closed;
 
-// A seat of a queue. One thread calls it at a time; it may be moved to another thread.
+// A seat of a queue. One thread calls it at a time; it may be moved to another thread. One that is empty answers MSQ_NO_SEAT.
 class seat {
 public:
     seat() noexcept = default;
@@ -168,7 +169,8 @@ private:
     std::shared_ptr<detail::shared> shared_;
 };
 
-// A seat for each role; none but at MSQ_OK.
+// A queue with so many nodes, and a seat for each role in their order: a giver pushes, a taker pops. It has room for as many
+// values as nodes less one, and less those that wait in seats. No seat but at MSQ_OK. Its vectors may throw std::bad_alloc.
 inline std::pair<msq_code, std::vector<seat>> create(kind kind, uint32_t nodes, const std::vector<role> &roles,
                                                      uint64_t limit = MSQ_MOST_COUNT) {
     std::vector<msq_seat> raw(roles.size());
@@ -196,9 +198,9 @@ struct closed {
     uint64_t lost; // how many values were left beyond these, for want of room
 };
 
-// Ends the queue of these seats, which are all of its seats that are left, with room for so many values. No other call uses one of
-// them meanwhile: where MSQ_DEBUG tells of one, by MSQ_TWO_CALLS, no seat was touched.
-// Refused, the seats are as msq_close leaves them; else they are empty.
+// Ends the queue of these seats, which are all of its seats that are left, of a ring all that it was made with, with room for so
+// many values. No other call uses one of them meanwhile: where MSQ_DEBUG tells of one, by MSQ_TWO_CALLS, no seat was touched.
+// Refused, the seats are as msq_close leaves them; else they are empty. Its vectors may throw std::bad_alloc, before all else.
 inline closed close(std::vector<seat> &seats, size_t room) {
     std::vector<msq_seat> raw(seats.size());
     std::vector<msq_call> calls(seats.size());

@@ -16,8 +16,9 @@ public:
     lease() noexcept = default;
     lease(lease &&other) noexcept : home_(std::move(other.home_)), raw_(std::exchange(other.raw_, nullptr)) {}
     lease &operator=(lease &&other) noexcept {
-        std::swap(home_, other.home_);
-        std::swap(raw_, other.raw_);
+        lease gone(std::move(other));
+        std::swap(home_, gone.home_);
+        std::swap(raw_, gone.raw_);
         return *this;
     }
     ~lease() {
@@ -26,7 +27,7 @@ public:
         }
     }
 
-    // The calls of a seat. Of a lease that holds none they answer MSQ_NO_SEAT.
+    // The calls of a seat, but for those of many, keep_nodes and looks. Of a lease that holds none they answer MSQ_NO_SEAT.
     msq_code try_push(uint64_t body, uint32_t turns = 8) noexcept {
         return answer([&] { return msq_push_wake(raw_, bells(), body, turns); });
     }
@@ -84,7 +85,7 @@ private:
 // The seats of a queue, for any thread: a copy is the same pool. The queue lives as long as one of its pools or leases.
 class seat_pool {
 public:
-    // With a seat for each role; none but at MSQ_OK.
+    // With a seat for each role; none but at MSQ_OK. Its memory may throw std::bad_alloc.
     static std::pair<msq_code, seat_pool> create(kind kind, uint32_t nodes, const std::vector<role> &roles,
                                              uint64_t limit = MSQ_MOST_COUNT) {
         seat_pool made;
@@ -98,14 +99,15 @@ public:
         return {code, code == MSQ_OK ? std::move(made) : seat_pool{}};
     }
 
-    // A seat of this role, until the lease ends; none where each such seat was found leased.
+    // A seat of just this role, until the lease ends; none where each such seat was found leased.
     class lease lease(role role) const {
         auto raw = home_ ? msq_lease(home_.get(), static_cast<uint32_t>(role)) : nullptr;
         return raw ? msq::lease(home_, raw) : msq::lease();
     }
     explicit operator bool() const noexcept { return home_ != nullptr; }
 
-    // Ends the queue, no seat of which is leased, with room for so many values: of this pool and its copies.
+    // Ends the queue of this pool and its copies, with room for so many values; MSQ_IN_USE while a seat is leased. No other call
+    // uses the pool or a copy meanwhile. Its vector may throw std::bad_alloc, before all else.
     closed close(size_t room) {
         closed found{MSQ_NO_SEAT, msq_rest{}, std::vector<msq_value>(room), 0};
         if (home_) {

@@ -1,10 +1,10 @@
 // A queue of values of any type for C++14 and later, over the queues of pointers of msq_queue.h and of words of msq_words.h.
 //
-// Any thread calls it, as often as it likes: no thread has a seat of its own. A value is moved in and moved out: one of up to 24
-// bytes that may be moved by its bytes, as a number, a pointer or a unique_ptr, lies in the queue itself; any other is in a box, and
-// in a ring each but numbers of up to six bytes and plain pointers.
-// Values of one thread come out in its order, each once, and what is left is destroyed with the queue. Only tested, as all of
-// msq_queue.h.
+// Any thread calls it, as often as it likes: no thread has a seat of its own. A value is moved in and moved out, and assigned
+// where it comes back: one of up to 24 bytes, aligned to 8 at most, that may be moved by its bytes, as a number, a pointer or a
+// unique_ptr, lies in the queue itself; any other is in a box, and in a ring each but numbers of up to six bytes and plain pointers.
+// Values of one thread come out in its order, each once, and what is left is destroyed with the queue, or leaked where a word is
+// worn and there is no memory. Only tested, as all of msq_queue.h.
 //
 //     msq::queue<std::string> queue(1000);
 //     queue.push("a string");           // sleeps while the queue is full
@@ -12,8 +12,8 @@
 //         use(std::move(text));
 //     }
 //
-// Calls that throw are there where exceptions are: push, pop, the constructor of a size and the loop. All others answer codes of
-// msq.h and are noexcept, as far as moves of T are; without exceptions, create makes a queue.
+// push, pop, the constructor of a size and the loop throw msq::refused, and are there where exceptions are. All others throw only
+// what moves and copies of T, and `use`, throw; without exceptions, create makes a queue.
 #ifndef MSQ_QUEUE_HPP
 #define MSQ_QUEUE_HPP
 
@@ -254,7 +254,8 @@ private:
 };
 #endif
 
-// A queue of values. It may be moved while no other call uses it. A ring of pointers takes such below 2^48: MSQ_BAD_SIZE.
+// A queue of values. It may be moved while no other call uses it. A ring of pointers takes
+// only those below 2^48: a push of any other answers MSQ_BAD_SIZE.
 template <class T> class queue {
     using patience = detail::patience;
 
@@ -279,7 +280,8 @@ public:
     queue(queue &&) noexcept = default;
     queue &operator=(queue &&) noexcept = default;
 
-    // With room for `capacity` values; none but at MSQ_OK: else MSQ_BAD_SIZE or MSQ_MEMORY.
+    // With room for `capacity` values at least: up to one more for each of `threads`, of a ring 32 more. None but at MSQ_OK: else
+    // MSQ_BAD_SIZE or MSQ_MEMORY.
     static std::pair<msq_code, queue> create(uint32_t capacity, kind kind = kind::non_blocking,
                                              uint16_t threads = usual_threads) noexcept {
         queue made;
@@ -297,7 +299,7 @@ public:
     explicit operator bool() const noexcept { return home_ != nullptr; }
 
     // Pushes a value, which stays as it was unless it answers MSQ_OK: MSQ_NO_NODE where the queue is full, MSQ_CLOSED,
-    // MSQ_BUSY, MSQ_MEMORY where there is none for a box, or a worn word.
+    // MSQ_BUSY, MSQ_MEMORY where there is none for a box, MSQ_BAD_SIZE of a pointer that a ring doesn't take, or a worn word.
     msq_code try_push(T &&value) { return give(value, {false, 0}); }
     msq_code try_push(const T &value) {
         T copy(value);
@@ -328,10 +330,11 @@ public:
         return take_into(value, {true, detail::nanoseconds(time)});
     }
 
-    // Pops the value at the front, where there is one, and hands it to `use`: whether there was. It doesn't sleep.
+    // Pops the value at the front, where there is one, and hands it to `use`, as a T &&: whether there was. It doesn't sleep, but
+    // tries again while others are in the way.
     template <class Use> bool consume_one(Use &&use) { return consumed(use) == MSQ_OK; }
 
-    // Hands one value after another to `use`, until the queue is found empty: how many there were. It doesn't sleep.
+    // Hands one value after another to `use`, until the queue is found empty, or a word worn: how many there were. Likewise.
     template <class Use> size_t consume_all(Use &&use) {
         size_t count = 0;
         while (consumed(use) == MSQ_OK) {
@@ -341,7 +344,7 @@ public:
     }
 
 #if __cplusplus >= 201703L
-    // The value at the front; none where there is none, whatever the code.
+    // The value at the front; none at any code but MSQ_OK, MSQ_BUSY too.
     std::optional<T> try_pop() { return taken({false, 0}); }
 
     // The same, and sleeps while the queue is empty: as long as it takes, so that there is none only where the queue is closed and
@@ -353,7 +356,7 @@ public:
 #endif
 
     // No value is pushed behind it, and what is in the queue stays to be popped; all that sleep are woken. MSQ_CLOSED where it
-    // was closed before.
+    // was closed before; MSQ_WORN_TAIL where Tail is worn, and then it isn't closed.
     msq_code close() noexcept {
         return call([](auto how, msq_queue *at) { return how.shut(at); });
     }
@@ -366,31 +369,63 @@ public:
     msq_code len(msq_length &length) noexcept {
         return call([&](auto how, msq_queue *at) { return how.len(at, &length); });
     }
-    // How many pushes are left, exactly at MSQ_OK: MSQ_UNCOUNTED where values pass as words.
+    // How many pushes are left at least, told at MSQ_OK alone: MSQ_UNCOUNTED of values that lie in the queue, but for numbers of
+    // up to six bytes, and pointers in a ring.
     msq_code left(msq_remaining &left) noexcept {
         return call([&](auto how, msq_queue *at) { return how.left(at, &left); });
     }
 
 #if defined(__cpp_exceptions)
-    // With room for `capacity` values. Throws refused, with MSQ_BAD_SIZE or MSQ_MEMORY.
+private:
+    // Room for a value.
+    class slot {
+    public:
+        slot() noexcept = default;
+        slot(const slot &) = delete;
+        slot &operator=(const slot &) = delete;
+        ~slot() {
+            if (full_) {
+                value().~T();
+            }
+        }
+        void fill(T &&it) {
+            if (full_) {
+                value() = std::move(it);
+            } else {
+                new (raw_) T(std::move(it));
+                full_ = true;
+            }
+        }
+        T &value() noexcept { return *reinterpret_cast<T *>(raw_); }
+
+    private:
+        alignas(T) unsigned char raw_[sizeof(T)];
+        bool full_ = false;
+    };
+
+public:
+    // With room for `capacity` values at least, as create. Throws refused, with MSQ_BAD_SIZE or MSQ_MEMORY.
     explicit queue(uint32_t capacity, kind kind = kind::non_blocking, uint16_t threads = usual_threads)
         : queue(made(create(capacity, kind, threads))) {}
 
-    // Pushes a value, and sleeps while the queue is full. Throws refused, with MSQ_CLOSED, MSQ_MEMORY or a worn word.
+    // Pushes a value, and sleeps while the queue is full. Throws refused, with any code of
+    // push_wait but MSQ_OK.
     void push(T &&value) { check(push_wait(std::move(value))); }
     void push(const T &value) {
         T copy(value);
         push(std::move(copy));
     }
 
-    // Pops the value at the front, and sleeps while the queue is empty. Throws refused, with MSQ_CLOSED or a worn word.
+    // Pops the value at the front, and sleeps while the queue is empty. Throws refused, with any code of
+    // pop_wait but MSQ_OK.
     T pop() {
         slot found;
         check(take({true, MSQ_FOREVER}, [&](T &&it) { found.fill(std::move(it)); }));
         return std::move(found.value());
     }
 
-    // Pops values one by one, and sleeps while there is none, until the queue is closed and empty.
+    // Pops values one by one, and sleeps while there is none, until the queue is closed and empty. Throws refused, with a worn
+    // word; begin() also std::bad_alloc, before it pops.
     class iterator {
     public:
         using iterator_category = std::input_iterator_tag;
@@ -400,25 +435,24 @@ public:
         using reference = T &;
 
         iterator() noexcept = default;
-        T &operator*() const noexcept { return *value_; }
-        T *operator->() const noexcept { return value_.get(); }
+        T &operator*() const noexcept { return value_->value(); }
+        T *operator->() const noexcept { return &value_->value(); }
         iterator &operator++() {
             next();
             return *this;
         }
         void operator++(int) { next(); }
-        // Two are the same where both are at the end.
+        // Two are the same where both are at the end, or neither.
         bool operator==(const iterator &other) const noexcept { return (value_ == nullptr) == (other.value_ == nullptr); }
         bool operator!=(const iterator &other) const noexcept { return !(*this == other); }
 
     private:
         friend class queue;
-        explicit iterator(queue *from) : from_(from) { next(); }
+        // Its room is made before a value is popped.
+        explicit iterator(queue *from) : from_(from), value_(new slot) { next(); }
 
         void next() {
-            const auto code = from_->take({true, MSQ_FOREVER}, [&](T &&it) {
-                value_ ? void(*value_ = std::move(it)) : value_.reset(new T(std::move(it)));
-            });
+            const auto code = from_->take({true, MSQ_FOREVER}, [&](T &&it) { value_->fill(std::move(it)); });
             if (code != MSQ_OK) {
                 value_.reset();
             }
@@ -428,7 +462,7 @@ public:
         }
 
         queue *from_ = nullptr;
-        std::unique_ptr<T> value_;
+        std::unique_ptr<slot> value_;
     };
 
     iterator begin() { return iterator(this); }
@@ -454,39 +488,19 @@ private:
 #endif
     // Where others are in the way it tries again.
     template <class Use> msq_code consumed(Use &use) {
-        msq_code code = MSQ_BUSY;
-        while (code == MSQ_BUSY) {
-            code = take({false, 0}, [&](T &&it) { use(std::move(it)); });
+        for (;;) {
+            const auto code = take({false, 0}, [&](T &&it) { use(std::move(it)); });
+            if (code != MSQ_BUSY) {
+                return code;
+            }
+            sched_yield();
         }
-        return code;
     }
     msq_code take_into(T &value, patience how) {
         return take(how, [&](T &&it) { value = std::move(it); });
     }
 
 #if defined(__cpp_exceptions)
-    // Room for a value.
-    class slot {
-    public:
-        slot() noexcept = default;
-        slot(const slot &) = delete;
-        slot &operator=(const slot &) = delete;
-        ~slot() {
-            if (full_) {
-                value().~T();
-            }
-        }
-        void fill(T &&it) {
-            new (raw_) T(std::move(it));
-            full_ = true;
-        }
-        T &value() noexcept { return *reinterpret_cast<T *>(raw_); }
-
-    private:
-        alignas(T) unsigned char raw_[sizeof(T)];
-        bool full_ = false;
-    };
-
     static void check(msq_code code) {
         if (code != MSQ_OK) {
             throw refused(code);
@@ -500,6 +514,10 @@ private:
 
     std::unique_ptr<detail::home, ender> home_;
 };
+
+#if __cplusplus < 201703L
+template <class T> constexpr uint16_t queue<T>::usual_threads;
+#endif
 
 } // namespace msq
 
