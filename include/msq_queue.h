@@ -29,7 +29,8 @@ typedef void (*msq_free_one)(void *object, void *context);
 MSQ_INLINE uint32_t msq_queue_open(msq_queue *queue, uint32_t kind, uint32_t capacity, uint16_t threads);
 
 /*
- * Pushes a pointer: where the queue is full it answers MSQ_NO_NODE, sleeps as long as it takes, or for so many nanoseconds.
+ * Pushes a pointer. Where the queue is full, the first answers MSQ_NO_NODE, the second sleeps as long as it takes, and the third
+ * for so many nanoseconds at most.
  * What msq_push_wake, msq_push_wait and msq_push_wait_for answer; MSQ_BAD_SIZE where it is from 2^48 on.
  */
 MSQ_INLINE uint32_t msq_queue_push(msq_queue *queue, void *object);
@@ -37,8 +38,9 @@ MSQ_INLINE uint32_t msq_queue_push_wait(msq_queue *queue, void *object);
 MSQ_INLINE uint32_t msq_queue_push_wait_for(msq_queue *queue, void *object, uint64_t ns);
 
 /*
- * Pops the pointer at the front: where the queue is empty it answers MSQ_EMPTY, sleeps as long as it takes, or for so many
- * nanoseconds. What msq_pop_wake, msq_pop_wait and msq_pop_wait_for answer; `object` is written at MSQ_OK alone.
+ * Pops the pointer at the front. Where the queue is empty, the first answers MSQ_EMPTY, the second sleeps as long as it takes,
+ * and the third for so many nanoseconds at most. What msq_pop_wake, msq_pop_wait and msq_pop_wait_for answer; `object` is written
+ * at MSQ_OK alone.
  */
 MSQ_INLINE uint32_t msq_queue_pop(msq_queue *queue, void **object);
 MSQ_INLINE uint32_t msq_queue_pop_wait(msq_queue *queue, void **object);
@@ -73,13 +75,18 @@ MSQ_INLINE size_t msq_first_place(void) {
     return mine;
 }
 
-/* A seat that may do what this role does, once there is one; none of no queue. */
+/* A seat that may do what this role does, once one is free; none of no queue, or where there is no such seat. */
 MSQ_INLINE msq_seat *msq_lease_for(msq_queue *queue, uint32_t role) {
-    while (queue->count > 0) {
+    bool is_there = queue->count > 0;
+    while (is_there) {
         size_t place = msq_first_place() % queue->count;
+        is_there = false;
         for (size_t k = 0; k < queue->count; k++) {
-            if ((queue->roles[place] & role) == role && msq_lease_at(queue, place)) {
-                return &queue->places[place].seat;
+            if ((queue->roles[place] & role) == role) {
+                if (msq_lease_at(queue, place)) {
+                    return &queue->places[place].seat;
+                }
+                is_there = true;
             }
             place = place + 1 < queue->count ? place + 1 : 0;
         }

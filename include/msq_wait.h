@@ -5,11 +5,11 @@
  * push, pop and shut of such a queue is one of these calls: one of msq.h alone wakes nobody. While nobody sleeps, a push or a
  * pop takes a load more. Between two looks a call may yield, and it changes errno.
  *
- * What is tested, and not proved: that nobody sleeps on beside what it waits for. A call that sleeps looks MSQ_LOOKS times,
+ * What is tested, and not proved: that nobody sleeps on beside what it waits for. A call that sleeps looks some MSQ_LOOKS times,
  * listens to a bell, looks once more, and sleeps unless the bell rang since it listens; after its time it looks a last time.
  * Three things it doesn't know: a thread that stops between its push and its ring wakes nobody; exactly 2^32 rings between a
  * look and a sleep are taken for none; and a node that waits in a seat, as after a pop that others kept from giving it back,
- * is no room for a push until that seat's next call.
+ * is no room for a push until that seat's next push or pop.
  */
 #ifndef MSQ_WAIT_H
 #define MSQ_WAIT_H
@@ -28,7 +28,7 @@ extern "C" {
 extern long syscall(long number, ...);
 #endif
 
-/* How often a call looks before it sleeps, and the turns of each look. */
+/* About how often a call looks before it sleeps, and the turns of each look. */
 #ifndef MSQ_LOOKS
 #define MSQ_LOOKS 16
 #endif
@@ -62,9 +62,8 @@ MSQ_INLINE uint32_t msq_pop_wait_for(msq_seat *seat, msq_bells *bells, uint64_t 
 
 /*
  * Pushes as msq_try_push does, and sleeps while there is no node, until a pop or a shut wakes it.
- * What msq_try_push answers, but for MSQ_NO_NODE and MSQ_BUSY; where the queue is full, and a call that slept or woke was told
- * that it is shut or that a word is worn, it answers the same, also MSQ_WORN_HEAD. Once the free list is worn at an even
- * limit it may sleep for good.
+ * What msq_try_push answers, but for MSQ_NO_NODE and MSQ_BUSY. Beside a full queue it answers the end that a call of this header
+ * met: MSQ_CLOSED, or a worn word, also MSQ_WORN_HEAD. Once the free list is worn at an even limit it may sleep for good.
  */
 MSQ_INLINE uint32_t msq_push_wait(msq_seat *seat, msq_bells *bells, uint64_t body);
 
@@ -75,19 +74,22 @@ MSQ_INLINE uint32_t msq_push_wait(msq_seat *seat, msq_bells *bells, uint64_t bod
 MSQ_INLINE uint32_t msq_push_wait_for(msq_seat *seat, msq_bells *bells, uint64_t body, uint64_t ns);
 
 /*
- * As msq_try_push, and wakes one that waits for a value. It never sleeps. To a full queue it answers as msq_push_wait does
- * where that is told of an end.
+ * As msq_try_push, and wakes one that waits for a value. It never sleeps. To a full queue it answers the end that a call of this
+ * header met, if there is one.
  */
 MSQ_INLINE uint32_t msq_push_wake(msq_seat *seat, msq_bells *bells, uint64_t body, uint32_t turns);
 
 /* As msq_try_pop, and wakes one that waits for room. It never sleeps. */
 MSQ_INLINE uint32_t msq_pop_wake(msq_seat *seat, msq_bells *bells, uint32_t turns, msq_value *value);
 
-/* As msq_push_all, and wakes as many as wait for values. It never sleeps. */
+/*
+ * As msq_push_all, and wakes one that waits for each value pushed; to a full queue it answers as msq_push_wake does. It never
+ * sleeps.
+ */
 MSQ_INLINE uint32_t msq_push_all_wake(msq_seat *seat, msq_bells *bells, const uint64_t *bodies, size_t bodies_len,
                                       uint32_t turns, size_t *pushed);
 
-/* As msq_pop_up_to, and wakes as many as wait for room. It never sleeps. */
+/* As msq_pop_up_to, and wakes one that waits for room for each value popped, one at least. It never sleeps. */
 MSQ_INLINE uint32_t msq_pop_up_to_wake(msq_seat *seat, msq_bells *bells, uint32_t turns, msq_value *values,
                                        size_t values_len, size_t *popped);
 

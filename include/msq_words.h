@@ -45,7 +45,7 @@ uint32_t msq_words_create(uint32_t kind, uint32_t nodes, uint64_t limit, const u
  * Pushes these words, in so many turns at most, 1 or more.
  * MSQ_OK, MSQ_NO_NODE, MSQ_WORN_FREE, MSQ_BUSY, MSQ_CLOSED, MSQ_BAD_SIZE where there are no turns, MSQ_NO_SEAT or MSQ_NO_ROLE; of
  * MSQ_NON_BLOCKING also MSQ_WORN_NEXT or MSQ_WORN_TAIL. Refused, nothing was pushed. MSQ_BUSY also comes where each place for words
- * that it tried, one a turn, was taken: that may last until a value is popped.
+ * that it tried, one a turn, was taken: with as many turns as nodes it tries each.
  */
 uint32_t msq_words_push(msq_words_seat *seat, const msq_words *words, uint32_t turns);
 
@@ -370,6 +370,19 @@ MSQ_INLINE void msq_checked_word_drop(msq_word_seat *seat) {
     msq_wide_drop(&msq_one, &seat->seat);
 }
 
+/*
+ * A push by a seat that is leased for it. Places for words are tried one a turn, from that of its node on: so a push that is busy
+ * has twice the turns, until each place was tried.
+ */
+MSQ_INLINE uint32_t msq_wide_push_now(const struct msq_width *width, msq_queue *queue, msq_seat *seat, const void *given) {
+    uint32_t turns = MSQ_TURNS, code;
+    while ((code = msq_wide_push(width, seat, given, turns)) == MSQ_BUSY && turns < queue->room) {
+        sched_yield();
+        turns = turns < UINT32_MAX / 2 ? 2 * turns : UINT32_MAX;
+    }
+    return code;
+}
+
 /* A look by a seat that is leased for it: a value is given, or an item taken. */
 MSQ_INLINE uint32_t msq_wide_look(const struct msq_width *width, msq_queue *queue, const void *given, void *item) {
     msq_seat *seat = msq_lease_for(queue, item != NULL ? MSQ_TAKER : MSQ_GIVER);
@@ -377,7 +390,7 @@ MSQ_INLINE uint32_t msq_wide_look(const struct msq_width *width, msq_queue *queu
     if (seat == NULL) {
         return code;
     }
-    code = item != NULL ? msq_wide_pop(width, seat, MSQ_TURNS, item) : msq_wide_push(width, seat, given, MSQ_TURNS);
+    code = item != NULL ? msq_wide_pop(width, seat, MSQ_TURNS, item) : msq_wide_push_now(width, queue, seat, given);
     msq_release(queue, seat);
     return item != NULL ? msq_popped(&queue->bells, code) : msq_pushed(&queue->bells, code);
 }

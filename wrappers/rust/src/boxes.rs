@@ -187,7 +187,7 @@ impl<T: Send> BoxSender<T> {
         self.push(value, Sender::send)
     }
 
-    /// Pushes a box, and sleeps while the queue is full, for this time at most: `NoNode` after it.
+    /// Pushes a box, and sleeps while the queue is full, for this time at most: `NoNode`, or `Busy`, after it.
     ///
     /// ```
     /// use std::time::Duration;
@@ -239,7 +239,7 @@ impl<T: Send> BoxReceiver<T> {
         Ok(unboxed(value.body.number()))
     }
 
-    /// Pops the box at the front, and sleeps while the queue is empty, for this time at most; none after it.
+    /// Pops the box at the front, and sleeps while the queue is empty, for this time at most; none, or refused `Busy`, after it.
     ///
     /// ```
     /// use std::time::Duration;

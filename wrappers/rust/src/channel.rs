@@ -14,8 +14,9 @@
 //! assert_eq!(names, ["one", "two"]);
 //! ```
 //!
-//! A value of up to 24 bytes, as a `String` or a `Box`, lies in the channel itself, any other in a box of its own. Values of one
-//! thread come in its order, each once, and what is left is dropped with the last end. A channel lasts for years, as docs/QUEUES.md says of its queue; one that is worn out disconnects.
+//! A value of up to 24 bytes, aligned to 8 at most, as a `String` or a `Box`, lies in the channel itself; any other, and over a ring
+//! each, is in a box. Values of one thread come in its order, each once, and what is left is dropped with the last end. How long a
+//! channel lasts docs/QUEUES.md says of its queue, up to 65,469 places for years; one that is worn out refuses sends as disconnected.
 use crate::bells::{after, Deadline};
 use crate::pooled::{Pooled, THREADS};
 use crate::{Kind, Refusal};
@@ -42,7 +43,7 @@ pub enum TrySendError<T> {
 /// A value that wasn't sent by [`Sender::send_timeout`].
 #[derive(Clone, Copy, PartialEq, Eq)]
 pub enum SendTimeoutError<T> {
-    /// The channel was full for all that time.
+    /// The time was over: the channel was full, or others were in the way.
     Timeout(T),
     /// All receivers are gone.
     Disconnected(T),
@@ -64,7 +65,7 @@ pub enum TryRecvError {
 /// Why nothing was received by [`Receiver::recv_timeout`].
 #[derive(Clone, Copy, Debug, PartialEq, Eq)]
 pub enum RecvTimeoutError {
-    /// The channel was empty for all that time.
+    /// The time was over: the channel was empty, or others were in the way.
     Timeout,
     /// It is empty, and all senders are gone.
     Disconnected,
@@ -138,7 +139,7 @@ impl<T> SendTimeoutError<T> {
         }
     }
 
-    /// Whether the channel was full for all that time.
+    /// Whether the time was over.
     ///
     /// ```
     /// use msq::channel::SendTimeoutError;
@@ -183,7 +184,7 @@ impl TryRecvError {
 }
 
 impl RecvTimeoutError {
-    /// Whether the channel was empty for all that time.
+    /// Whether the time was over.
     ///
     /// ```
     /// assert!(msq::channel::RecvTimeoutError::Timeout.is_timeout());
@@ -327,8 +328,8 @@ pub fn bounded<T: Send>(capacity: u32) -> Result<(Sender<T>, Receiver<T>), Refus
     bounded_for(capacity, THREADS)
 }
 
-/// As [`bounded`], with so many seats: of more threads that are in a call at one time, some wait for others to leave it. A thread
-/// that sleeps is in none.
+/// As [`bounded`], with seats for so many threads, 1 to 65,535: if more are in a call at one time, some wait. A thread that sleeps has
+/// no seat.
 ///
 /// ```
 /// let (sender, receiver) = msq::channel::bounded_for(8, 4).unwrap();
@@ -368,7 +369,7 @@ pub fn bounded_of<T: Send>(
 
 /// The sending end of a channel. A clone is a further one, and the last one that is dropped disconnects the channel.
 ///
-/// What can't go to another thread can't be sent, and an end that is shared goes by reference:
+/// What can't go to another thread can't be sent, and threads may share an end by reference:
 ///
 /// ```compile_fail
 /// let (sender, receiver) = msq::channel::bounded(1).unwrap();
@@ -568,7 +569,7 @@ impl<T> Receiver<T> {
 macro_rules! ends {
     ($end:ident, $count:ident, $other:ident) => {
         impl<T> $end<T> {
-            /// How many values the channel held, at a moment of the call, at least.
+            /// How many values the channel held, at a moment of the call, at least; 0 over a two-lock queue, which counts none.
             ///
             /// ```
             /// let (sender, receiver) = msq::channel::bounded(8).unwrap();
@@ -594,7 +595,14 @@ macro_rules! ends {
                 self.shared.queue.is_empty()
             }
 
-            /// Whether the channel holds as many values as there is room for at least.
+            /// Whether the channel holds as many values as there is room for at least; false over a two-lock queue.
+            ///
+            /// ```
+            /// let (sender, receiver) = msq::channel::bounded(1).unwrap();
+            /// assert!(!receiver.is_full());
+            /// while sender.try_send(1).is_ok() {}
+            /// assert!(sender.is_full());
+            /// ```
             pub fn is_full(&self) -> bool {
                 self.len() >= self.shared.queue.capacity() as usize
             }

@@ -1,11 +1,11 @@
-//! Bounded queues for any number of threads that push and pop: first in, first out, with no lock around a call.
+//! Bounded queues for any number of threads that push and pop: first in, first out.
 //!
 //! A thread calls by a seat of its own: a [`Sender`] or a [`Receiver`]. `send`, `recv` and those with a timeout sleep while the queue
-//! is full, or empty; no other call waits. None takes memory but [`queue`], [`queue_with_limit`] and [`boxed`], of a queue of
-//! boxes, which drops what is left in it. Threads that come and go each have a clone of a [`SeatPool`], and lease its seats.
+//! is full, or empty; no other call of a seat waits. Memory is taken where a queue or a pool is made, by `try_pop_up_to`, and where a
+//! queue of boxes that is worn is dropped. Threads that come and go each have a clone of a [`SeatPool`], and lease its seats.
 //!
-//! Where no thread is to have a seat of its own, a [`Queue`] passes values of any type, which any thread pushes and pops, and
-//! [`channel::bounded`] makes a channel, as crossbeam-channel does.
+//! Where no thread is to have a seat of its own, a [`Queue`] passes values of any type that may go to another thread, which any
+//! thread pushes and pops, and [`channel::bounded`] makes a channel, as crossbeam-channel does.
 //!
 //! ```
 //! let (mut senders, mut receivers) = msq::queue(msq::Kind::NonBlocking, 64, 1, 1).unwrap();
@@ -89,12 +89,12 @@ pub struct Value {
 /// Which queue.
 #[derive(Clone, Copy, Debug, PartialEq, Eq)]
 pub enum Kind {
-    /// A thread that stops keeps no other from going on.
+    /// A thread that stops keeps no other from going on; in a [`Queue`] or a channel that holds while a seat is free.
     NonBlocking,
     /// A thread that stops within a call may keep others from pushing, or from popping.
     TwoLock,
-    /// The fastest; a thread that stops within a push keeps others from popping. It has 32,767 seats at most, and up to 32 values
-    /// a seat more find room than it is made for.
+    /// The fastest; a thread that stops within a push may keep others from popping. It has 32,767 seats at most, and up to 32
+    /// values a seat more find room than it is made for.
     Ring,
 }
 
@@ -105,13 +105,14 @@ pub enum WornWord {
     Free,
     /// The node was set aside: push again, by another one.
     Next,
-    /// No push and no shut comes any more: of the non-blocking queue. No push by a seat without a place in reserve: of the ring.
+    /// Of the non-blocking queue: no push or shut comes any more, and no pop of the last value. Of the ring: no push by a seat
+    /// without a place in reserve.
     Tail,
     /// No pop comes any more: of the two-lock queue.
     Head,
 }
 
-/// Why a call is refused; the queue is then as if the call had not been.
+/// Why a call is refused; the values in the queue are then as before.
 #[derive(Clone, Copy, Debug, PartialEq, Eq)]
 pub enum Refusal {
     /// A push: all nodes were in use, or the ring was full.
@@ -124,7 +125,7 @@ pub enum Refusal {
     Memory,
     /// A number is out of its range.
     BadSize,
-    /// A push: the queue is shut. A pop: it is shut and empty.
+    /// A push or a shut: the queue is shut. A pop: it is shut and empty.
     Closed,
 }
 
@@ -276,7 +277,8 @@ impl fmt::Debug for Receiver {
 }
 
 /// A queue with so many nodes, from 2 on, and so many seats that push and that pop. There is room for one value less than
-/// there are nodes, and each seat may keep one node. The fewer nodes, the longer it lasts: see docs/QUEUES.md.
+/// there are nodes, less a node that each seat may keep; of a ring for as many values as nodes at least. The fewer nodes, the
+/// longer it lasts: see docs/QUEUES.md.
 ///
 /// ```
 /// let (senders, receivers) = msq::queue(msq::Kind::Ring, 64, 3, 2).unwrap();
@@ -292,7 +294,7 @@ pub fn queue(
     queue_with_limit(kind, nodes, raw::MOST_COUNT, senders, receivers)
 }
 
-/// As [`queue`], with a limit of its counts, from 1 on: for tests, as a smaller one only wears out sooner. One above the
+/// As [`queue`], with a limit of its counts, from 1 to 2^62 - 1: for tests, as a smaller one only wears out sooner. One above the
 /// greatest count that so many nodes leave room for is lowered to that. At an even limit a worn queue may be refused `NoNode`
 /// for good.
 ///

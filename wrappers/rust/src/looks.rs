@@ -10,7 +10,7 @@ pub enum Emptiness {
     ShutEmpty,
     /// It held a value at least.
     Holds,
-    /// Pops took effect meanwhile, so that no such moment was seen: look again.
+    /// Pops took effect meanwhile, or a ring is shut and the push at its front hasn't ended: look again.
     Moved,
 }
 
@@ -23,17 +23,17 @@ pub struct Length {
     pub most: u64,
 }
 
-/// How many pushes a queue has left at least, and how often the counts of three of its words can still be raised; `u64::MAX` of
-/// one that doesn't wear.
+/// How many pushes a queue has left at least, and how often the counts of three of its words can still be raised; of a ring `tail` is
+/// `pushes` again, and `free` and `head` are `u64::MAX`.
 #[derive(Clone, Copy, Debug, PartialEq, Eq)]
 pub struct Left {
-    /// While fewer pushes are called, done or refused, those under way too, no call finds Free, Tail or Head worn out.
+    /// While fewer pushes begin, done or refused, those under way too, no call finds Free, Tail or Head worn out.
     pub pushes: u64,
-    /// Free's: each node taken from the free list raises it, and each one given back. None wears of a ring.
+    /// Free's: each node taken from the free list raises it, and each one given back.
     pub free: u64,
-    /// Tail's: in the non-blocking queue and the ring each push raises it, in the two-lock queue nothing does.
+    /// Tail's: in the non-blocking queue each push raises it; in the two-lock queue nothing does, and it stays the limit.
     pub tail: u64,
-    /// Head's: each value popped raises it. It doesn't wear of a ring.
+    /// Head's: each value popped raises it.
     pub head: u64,
 }
 

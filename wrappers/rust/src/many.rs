@@ -34,7 +34,7 @@ impl Sender {
 impl Receiver {
     /// Pops values, so many at most, until the queue is empty or a pop is refused: those that were popped, in their order, and why it
     /// was refused. From a ring up to 32 come at one step; otherwise each comes by itself. A step has so many turns, 1 or more. Takes
-    /// memory for so many values first.
+    /// memory for so many values first, and panics where no list is that long.
     ///
     /// ```
     /// let (mut senders, mut receivers) = msq::queue(msq::Kind::NonBlocking, 64, 1, 1).unwrap();

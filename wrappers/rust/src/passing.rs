@@ -38,7 +38,7 @@ impl Passing {
     pub fn packed<T>(self, value: T) -> Words {
         match self {
             Passing::InPlace => Words::of(value),
-            Passing::Boxed => Words::of(Box::into_raw(Box::new(value))),
+            Passing::Boxed => Words::of(Box::into_raw(Box::new(value)) as usize as u64),
         }
     }
 
@@ -46,7 +46,7 @@ impl Passing {
     pub unsafe fn unpacked<T>(self, words: Words) -> T {
         match self {
             Passing::InPlace => words.take(),
-            Passing::Boxed => *Box::from_raw(words.take::<*mut T>()),
+            Passing::Boxed => *Box::from_raw(words.address() as usize as *mut T),
         }
     }
 
@@ -66,7 +66,7 @@ impl Passing {
         )
     }
 
-    /// The words are written where there is a value.
+    /// Where there is no value the words are zeros.
     pub unsafe fn pop(self, seat: *mut Seat, words: &mut Words, turns: u32) -> u32 {
         match self {
             Passing::InPlace => {

@@ -109,10 +109,19 @@ impl<T> Pooled<T> {
         call(leased.place.seat.get())
     }
 
+    // Places for words are tried one a turn, from that of the seat's node on: so a push that is busy has twice the turns, until each
+    // place was tried.
     fn push_once(&self, words: &Words) -> Result<(), Refusal> {
-        // SAFETY: the seat is full, and leased by this call alone.
-        let code = self.call(|seat| unsafe { self.passing.push(seat, words, TURNS) });
-        self.bells.pushed(code)
+        let mut turns = TURNS;
+        loop {
+            // SAFETY: the seat is full, and leased by this call alone.
+            let code = self.call(|seat| unsafe { self.passing.push(seat, words, turns) });
+            if code != raw::BUSY || turns >= self.nodes {
+                return self.bells.pushed(code);
+            }
+            thread::yield_now();
+            turns = turns.saturating_mul(2);
+        }
     }
 
     fn pop_once(&self) -> Result<Option<T>, Refusal> {
@@ -153,7 +162,7 @@ impl<T> Pooled<T> {
         })
     }
 
-    /// Pushes a value, and sleeps while the queue is full, until then; refused `NoNode` after it.
+    /// Pushes a value, and sleeps while the queue is full, until then; refused `NoNode` after it, or `Busy`.
     pub fn push_until(&self, value: T, until: Deadline) -> Result<(), (Refusal, T)> {
         self.push(value, |words| {
             let pushed = self
@@ -177,7 +186,7 @@ impl<T> Pooled<T> {
         }
     }
 
-    /// Pops the value at the front, and sleeps while the queue is empty, until then; none after it.
+    /// Pops the value at the front, and sleeps while the queue is empty, until then; none after it, or refused `Busy`.
     pub fn pop_until(&self, until: Deadline) -> Result<Option<T>, Refusal> {
         self.bells.values().wait(until, || self.pop_once())
     }
@@ -205,7 +214,7 @@ impl<T> Pooled<T> {
         })
     }
 
-    /// Whether the queue held no value, at a moment at which no pop was under way.
+    /// Whether the queue held no value, at a moment of the call; looks again where pops took effect meanwhile.
     pub fn is_empty(&self) -> bool {
         loop {
             // SAFETY: as for a push.

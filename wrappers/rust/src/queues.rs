@@ -5,9 +5,10 @@ use crate::{Kind, Length, Refusal};
 use std::fmt;
 use std::time::Duration;
 
-/// A bounded queue of values of any type, as crossbeam's `ArrayQueue`, shared by reference or in an `Arc`. It can be closed, and
-/// calls may sleep. A value of up to 24 bytes, as a `String` or a `Box`, lies in the queue itself, any other and each in a ring in a
-/// box of its own. Those of one thread come in its order, each once, and what is left is dropped with the queue.
+/// A bounded queue of values of any type that may go to another thread, as crossbeam's `ArrayQueue`, shared by reference or in an
+/// `Arc`. It can be closed, and calls may sleep. A value of up to 24 bytes, aligned to 8 at most, as a `String` or a `Box`, lies in
+/// the queue itself; any other, and each in a ring, is in a box. Those of one thread come in its order, each once, and what is left
+/// is dropped with the queue.
 ///
 /// ```
 /// let queue = msq::Queue::new(8).unwrap();
@@ -39,7 +40,7 @@ pub struct Queue<T> {
 /// A value that wasn't pushed, and why.
 #[derive(Clone, Copy, PartialEq, Eq)]
 pub struct PushError<T> {
-    /// `NoNode` where the queue is full, `Closed`, or a word that is worn.
+    /// `NoNode` where the queue is full, `Closed`, or a word that is worn; after a time also `Busy`.
     pub refusal: Refusal,
     /// The value.
     pub value: T,
@@ -88,8 +89,8 @@ impl<T: Send> Queue<T> {
         Queue::of(Kind::NonBlocking, capacity, THREADS)
     }
 
-    /// A queue of this kind, with so many seats: of more threads that are in a call at one time, some wait for others to leave it.
-    /// A thread that sleeps is in none.
+    /// A queue of this kind, with seats for so many threads, 1 to 65,535, of a ring 32,767: if more are in a call at one time, some
+    /// wait. A thread that sleeps has no seat.
     ///
     /// ```
     /// let queue = msq::Queue::of(msq::Kind::Ring, 8, 4).unwrap();
@@ -104,7 +105,7 @@ impl<T: Send> Queue<T> {
 }
 
 impl<T> Queue<T> {
-    /// Pushes a value. Refused `NoNode` where the queue is full, or `Closed`.
+    /// Pushes a value, and tries again while others are in the way. Refused `NoNode` where the queue is full, `Closed`, or `WornOut`.
     ///
     /// ```
     /// let queue = msq::Queue::new(8).unwrap();
@@ -119,7 +120,7 @@ impl<T> Queue<T> {
         self.queue.try_push(value).map_err(unpushed)
     }
 
-    /// Pushes a value, and sleeps while the queue is full. Refused `Closed`.
+    /// Pushes a value, and sleeps while the queue is full. Refused `Closed` or `WornOut`.
     ///
     /// ```
     /// let queue = msq::Queue::new(1).unwrap();
@@ -132,7 +133,7 @@ impl<T> Queue<T> {
         self.queue.push_until(value, None).map_err(unpushed)
     }
 
-    /// The same, for this time at most; refused `NoNode` after it.
+    /// The same, for this time at most; refused also `NoNode` after it, or `Busy` where others were in the way of the last try.
     ///
     /// ```
     /// use std::time::Duration;
@@ -145,7 +146,7 @@ impl<T> Queue<T> {
         self.queue.push_until(value, after(time)).map_err(unpushed)
     }
 
-    /// Pops the value at the front; none where the queue is empty. Refused `Closed` where it is closed too.
+    /// Pops the value at the front; none where the queue is empty. Refused `Closed` where it is closed too, or `WornOut`.
     ///
     /// ```
     /// let queue = msq::Queue::new(8).unwrap();
@@ -175,7 +176,8 @@ impl<T> Queue<T> {
         }
     }
 
-    /// Pops the value at the front, and sleeps while the queue is empty, for this time at most; none after it. Refused `Closed`.
+    /// Pops the value at the front, and sleeps while the queue is empty, for this time at most; none after it. Refused `Closed` where
+    /// it is closed too, `WornOut`, or `Busy` where others were in the way of the last look.
     ///
     /// ```
     /// use std::time::Duration;
@@ -187,7 +189,7 @@ impl<T> Queue<T> {
     }
 
     /// Closes the queue: no push comes after it, and what is in it stays to be popped. All that sleep are woken. Refused
-    /// `Closed` where it was closed before.
+    /// `Closed` where it was closed before, or `WornOut`.
     ///
     /// ```
     /// let queue = msq::Queue::new(8).unwrap();
