@@ -108,7 +108,7 @@ template <class T> struct by_words {
     // The value stays where it isn't pushed; else its bytes are the queue's.
     static uint32_t push(msq_queue *home, T &value, patience how) {
         alignas(T) unsigned char raw[sizeof(T)];
-        T *moved = new (raw) T(std::move(value));
+        T *moved = ::new (static_cast<void *>(raw)) T(std::move(value));
         words all{};
         std::memcpy(&all, raw, sizeof raw);
         const uint32_t code = width::push(home, all, how);
@@ -392,7 +392,7 @@ private:
             if (full_) {
                 value() = std::move(it);
             } else {
-                new (raw_) T(std::move(it));
+                ::new (static_cast<void *>(raw_)) T(std::move(it));
                 full_ = true;
             }
         }

@@ -103,6 +103,16 @@ bool is_right(msq::kind kind, unsigned rounds) {
            end.rest.taken == rounds * pairs * values;
 }
 
+// Whether a lease that is assigned to gives its own seat back at once.
+bool gives_back() {
+    auto queue = msq::seat_pool::create(msq::kind::two_lock, nodes, {msq::role::giver, msq::role::giver}).second;
+    auto one = queue.lease(msq::role::giver);
+    auto other = queue.lease(msq::role::giver);
+    const bool are_leased = one && other && !queue.lease(msq::role::giver);
+    one = std::move(other);
+    return are_leased && one && !other && queue.lease(msq::role::giver);
+}
+
 } // namespace
 
 int main(int count, char **words) {
@@ -111,6 +121,10 @@ int main(int count, char **words) {
         return 2;
     }
     auto rounds = static_cast<unsigned>(std::stoul(words[1]));
+    if (!gives_back()) {
+        std::fprintf(stderr, "leases: a lease that is assigned to keeps its seat\n");
+        return 1;
+    }
     for (auto kind : {msq::kind::non_blocking, msq::kind::two_lock, msq::kind::ring}) {
         if (!is_right(kind, rounds)) {
             std::fprintf(stderr, "leases: wrong\n");

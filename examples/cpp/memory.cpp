@@ -1,6 +1,7 @@
 // What the calls that take memory answer where there is none: MSQ_MEMORY, and all stays as it was, so that the same call is done
 // once there is some. Each allocation of the library, and of boxes, is refused in turn, for which the program is linked with --wrap of
-// malloc, calloc and realloc. Prints how many were refused, and how many answers weren't as they should be.
+// malloc, calloc and realloc. A loop that finds no room for a value pops none. Prints how many were refused, and how many answers
+// weren't as they should be.
 #include "msq_lease.hpp"
 #include "msq_queue.hpp"
 
@@ -13,6 +14,7 @@ namespace {
 
 long before = -1; // how many allocations are done before the one that is refused; none is where it is below 0
 unsigned refused, wrong;
+bool refuses_new; // whether operator new finds no memory
 
 bool is_refused() { return before >= 0 && before-- == 0; }
 
@@ -41,6 +43,7 @@ struct large {
     int number = 0;
     char apart[64] = {};
 
+    large() = default;
     explicit large(int number) : number(number) {}
     static void *operator new(size_t size, const std::nothrow_t &) noexcept { return std::malloc(size); }
     static void operator delete(void *at) noexcept { std::free(at); }
@@ -115,6 +118,22 @@ void boxes(msq::kind kind) {
     expect("each came once", count == 4);
 }
 
+// A loop makes room for a value before it pops one.
+void loops(msq::kind kind) {
+    msq::queue<large> queue(8, kind, 2);
+    queue.push(large(7));
+    bool is_thrown = false;
+    refuses_new = true;
+    try {
+        queue.begin();
+    } catch (const std::bad_alloc &) {
+        is_thrown = true;
+    }
+    refuses_new = false;
+    large value;
+    expect("a loop without room pops nothing", is_thrown && queue.try_pop(value) == MSQ_OK && value.number == 7);
+}
+
 } // namespace
 
 extern "C" {
@@ -127,12 +146,23 @@ void *__wrap_calloc(size_t count, size_t size) { return is_refused() ? nullptr :
 void *__wrap_realloc(void *old, size_t size) { return is_refused() ? nullptr : __real_realloc(old, size); }
 }
 
+void *operator new(size_t size) {
+    void *at = refuses_new ? nullptr : __real_malloc(size);
+    if (at == nullptr) {
+        throw std::bad_alloc();
+    }
+    return at;
+}
+void operator delete(void *at) noexcept { std::free(at); }
+void operator delete(void *at, size_t) noexcept { std::free(at); }
+
 int main() {
     for (auto kind : {msq::kind::non_blocking, msq::kind::two_lock, msq::kind::ring}) {
         seats(kind);
         pools(kind);
         queue_of<uint64_t>(kind);
         boxes(kind);
+        loops(kind);
     }
     std::printf("%u allocations were refused, and %u answers were not as they should be\n", refused, wrong);
     return wrong != 0;

@@ -104,6 +104,9 @@ std::string one_by_one(msq::kind kind) {
     if (made.first != MSQ_OK || seats[0].pop_wait_for(value, time) != MSQ_EMPTY) {
         return "a pop of an empty queue";
     }
+    if (seats[0].pop_wait_for(value, std::chrono::duration<int64_t, std::pico>(5000)) != MSQ_EMPTY) {
+        return "a pop for some picoseconds";
+    }
     if (seats[1].push_wait(1) != MSQ_OK || seats[1].push_wait(2) != MSQ_OK) {
         return "a push";
     }
