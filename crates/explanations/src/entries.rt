@@ -39,7 +39,7 @@ what to do: free memory, or take a smaller input; a queue that was to be closed 
         number: "5",
         name: "BadSize",
         text: "5 BadSize
-cause: nodes, greatest count, actors or workers are out of range, or all 2^64 - 1 step numbers are used
+cause: a size is out of its range (nodes or values, greatest count or limit, seats, actors, workers, jobs, letters), or all 2^64 - 1 step numbers are used
 what to do: take sizes in the ranges (docs/FORMATS.md), those of work in its own (docs/FORMATS.md)
 ",
     },
@@ -119,7 +119,7 @@ what to do: hand in each result once
         number: "15",
         name: "Lost",
         text: "15 Lost
-cause: a job has no result, since no worker has a thread, or a worker, or who hands out the jobs, was refused memory or met a worn word; or a letter isn't shown, isn't the next one of its sender, or is missing though no sender was refused, or as one found the queue shut
+cause: a job has no result, since no worker has a thread, or a worker, or who hands out the jobs, was refused memory, met a worn word, or took a number of no job; or a letter isn't shown, isn't the next one of its sender, or is missing though no sender was refused, or as one found the queue shut
 what to do: run the jobs, or send the letters, again
 ",
     },
