@@ -146,15 +146,17 @@ void *__wrap_calloc(size_t count, size_t size) { return is_refused() ? nullptr :
 void *__wrap_realloc(void *old, size_t size) { return is_refused() ? nullptr : __real_realloc(old, size); }
 }
 
-void *operator new(size_t size) {
+// (not inlined, as gcc else takes their calls of the C library for a mix of both)
+[[gnu::noinline]] void *operator new(size_t size) {
     void *at = refuses_new ? nullptr : __real_malloc(size);
     if (at == nullptr) {
         throw std::bad_alloc();
     }
     return at;
 }
-void operator delete(void *at) noexcept { std::free(at); }
-void operator delete(void *at, size_t) noexcept { std::free(at); }
+[[gnu::noinline]] void *operator new(size_t size, const std::nothrow_t &) noexcept { return __real_malloc(size); }
+[[gnu::noinline]] void operator delete(void *at) noexcept { std::free(at); }
+[[gnu::noinline]] void operator delete(void *at, size_t) noexcept { std::free(at); }
 
 int main() {
     for (auto kind : {msq::kind::non_blocking, msq::kind::two_lock, msq::kind::ring}) {
