@@ -1,13 +1,15 @@
 /*
  * A queue of pointers for any threads, which share it by its address: an msq_queue of msq_lease.h. Each call leases a seat for as
  * long as it looks, and sleeps without one. So no thread has a seat of its own, and a queue serves more threads than it has
- * seats: one that finds each seat leased yields, and tries again.
+ * seats: one that finds each seat leased yields, and tries again, as long as its time lasts; without a time, until one is free.
  *
  * A pointer that was pushed comes out once. Those of one thread come in its order. It is below 2^48, as each address of a program
  * on x86-64 Linux is that asks for none above.
  *
  * Only tested, as all of msq_lease.h and msq_wait.h. Each push, pop and shut of such a queue is a call of this header, or one of
- * msq_wait.h by a leased seat and the bells of the queue: else nobody is woken. What the caller owes stands in msq.h and msq_lease.h.
+ * msq_wait.h by a leased seat and the bells of the queue: else nobody is woken. A thread that sleeps by a leased seat keeps it: so
+ * there are more seats than such threads, or a push, a pop or a shut waits for one of them. What the caller owes stands in msq.h and
+ * msq_lease.h.
  */
 #ifndef MSQ_QUEUE_H
 #define MSQ_QUEUE_H
@@ -60,8 +62,8 @@ MSQ_INLINE uint32_t msq_queue_left(msq_queue *queue, msq_remaining *left);
 /*
  * Ends a queue that no other call uses. Each pointer left goes to `free_one`, from the front, with the context, unless `free_one`
  * is NULL. There is no queue afterwards.
- * MSQ_OK; MSQ_NO_SEAT where there is none, MSQ_IN_USE where a seat is leased; MSQ_MEMORY, only where a word is worn: the queue
- * then has what no call of `free_one` got.
+ * MSQ_OK; MSQ_NO_SEAT where there is none, MSQ_IN_USE where a seat is leased; MSQ_MEMORY, only where a word is worn or no seat
+ * pops: the queue then has what no call of `free_one` got.
  */
 MSQ_INLINE uint32_t msq_destroy(msq_queue *queue, msq_free_one free_one, void *context);
 
@@ -75,37 +77,60 @@ MSQ_INLINE size_t msq_first_place(void) {
     return mine;
 }
 
-/* A seat that may do what this role does, once one is free; none of no queue, or where there is no such seat. */
-MSQ_INLINE msq_seat *msq_lease_for(msq_queue *queue, uint32_t role) {
-    bool is_there = queue->count > 0;
-    while (is_there) {
-        size_t place = msq_first_place() % queue->count;
-        is_there = false;
-        for (size_t k = 0; k < queue->count; k++) {
-            if ((queue->roles[place] & role) == role) {
-                if (msq_lease_at(queue, place)) {
-                    return &queue->places[place].seat;
-                }
-                is_there = true;
+/* A seat that may do what this role does, if one is free; else none, and whether there is such a seat. */
+MSQ_INLINE msq_seat *msq_lease_free(msq_queue *queue, uint32_t role, bool *is_there) {
+    size_t place = queue->count > 0 ? msq_first_place() % queue->count : 0;
+    *is_there = false;
+    for (size_t k = 0; k < queue->count; k++) {
+        if ((queue->roles[place] & role) == role) {
+            if (msq_lease_at(queue, place)) {
+                return &queue->places[place].seat;
             }
-            place = place + 1 < queue->count ? place + 1 : 0;
+            *is_there = true;
         }
-        sched_yield();
+        place = place + 1 < queue->count ? place + 1 : 0;
     }
     return NULL;
 }
 
-/* A look by a seat that is leased for it. */
-MSQ_INLINE uint32_t msq_look_by_lease(const struct msq_want *want) {
-    msq_queue *queue = (msq_queue *)want->queue;
-    msq_seat *seat = msq_lease_for(queue, want->pops ? MSQ_TAKER : MSQ_GIVER);
-    uint32_t code = MSQ_NO_SEAT;
-    if (seat != NULL) {
-        code = want->pops ? msq_pop_wake(seat, &queue->bells, MSQ_TURNS, want->value)
-                          : msq_push_wake(seat, &queue->bells, want->body, MSQ_TURNS);
-        msq_release(queue, seat);
+/* A seat that may do what this role does, once one is free; none of no queue, or where there is no such seat. */
+MSQ_INLINE msq_seat *msq_lease_for(msq_queue *queue, uint32_t role) {
+    bool is_there;
+    msq_seat *seat = msq_lease_free(queue, role, &is_there);
+    while (seat == NULL && is_there) {
+        sched_yield();
+        seat = msq_lease_free(queue, role, &is_there);
     }
+    return seat;
+}
+
+MSQ_INLINE uint32_t msq_role_for(bool pops) {
+    return pops ? MSQ_TAKER : MSQ_GIVER;
+}
+
+/* A look by a seat that is leased for it, which is then released. */
+MSQ_INLINE uint32_t msq_look_by(const struct msq_want *want, msq_seat *seat) {
+    msq_queue *queue = (msq_queue *)want->queue;
+    const uint32_t code = want->pops ? msq_pop_wake(seat, &queue->bells, MSQ_TURNS, want->value)
+                                     : msq_push_wake(seat, &queue->bells, want->body, MSQ_TURNS);
+    msq_release(queue, seat);
     return code;
+}
+
+/* A look by a seat that is leased for it, once one is free. */
+MSQ_INLINE uint32_t msq_look_by_lease(const struct msq_want *want) {
+    msq_seat *seat = msq_lease_for((msq_queue *)want->queue, msq_role_for(want->pops));
+    return seat != NULL ? msq_look_by(want, seat) : (uint32_t)MSQ_NO_SEAT;
+}
+
+/* The same of a call that waits: while all seats are leased it is busy, and so looks whether its time is over. */
+MSQ_INLINE uint32_t msq_look_if_free(const struct msq_want *want) {
+    bool is_there;
+    msq_seat *seat = msq_lease_free((msq_queue *)want->queue, msq_role_for(want->pops), &is_there);
+    if (seat != NULL) {
+        return msq_look_by(want, seat);
+    }
+    return is_there ? MSQ_BUSY : MSQ_NO_SEAT;
 }
 
 MSQ_INLINE uint32_t msq_queue_open(msq_queue *queue, uint32_t kind, uint32_t capacity, uint16_t threads) {
@@ -132,7 +157,7 @@ MSQ_INLINE uint32_t msq_queue_push(msq_queue *queue, void *object) {
 }
 
 MSQ_INLINE uint32_t msq_queue_push_wait_for(msq_queue *queue, void *object, uint64_t ns) {
-    const struct msq_want want = {NULL, &queue->bells, false, NULL, (uintptr_t)object, msq_look_by_lease, queue};
+    const struct msq_want want = {NULL, &queue->bells, false, NULL, (uintptr_t)object, msq_look_if_free, queue};
     return msq_look_for(&want, ns);
 }
 
@@ -156,7 +181,7 @@ MSQ_INLINE uint32_t msq_queue_pop(msq_queue *queue, void **object) {
 
 MSQ_INLINE uint32_t msq_queue_pop_wait_for(msq_queue *queue, void **object, uint64_t ns) {
     msq_value value = {0, 0};
-    const struct msq_want want = {NULL, &queue->bells, true, &value, 0, msq_look_by_lease, queue};
+    const struct msq_want want = {NULL, &queue->bells, true, &value, 0, msq_look_if_free, queue};
     return msq_objects_code(msq_look_for(&want, ns), &value, object);
 }
 
@@ -207,7 +232,7 @@ MSQ_INLINE uint32_t msq_queue_left(msq_queue *queue, msq_remaining *left) {
     return code;
 }
 
-/* Ends a queue of which a word is worn, so that pops end before it is empty. */
+/* Ends a queue of which a word is worn, so that pops end before it is empty, or no seat of which may pop. */
 MSQ_INLINE uint32_t msq_destroy_worn(msq_queue *queue, msq_free_one free_one, void *context) {
     msq_rest rest = {0, 0, false, false};
     uint32_t code = MSQ_MEMORY;
@@ -236,7 +261,7 @@ MSQ_INLINE uint32_t msq_destroy(msq_queue *queue, msq_free_one free_one, void *c
         msq_release(queue, &queue->places[place].seat);
     }
     seat = msq_lease_for(queue, MSQ_TAKER);
-    while (code == MSQ_BUSY || code == MSQ_OK) {
+    while (seat != NULL && (code == MSQ_BUSY || code == MSQ_OK)) {
         code = msq_try_pop(seat, MSQ_TURNS, &value);
         if (code == MSQ_OK && free_one != NULL) {
             free_one((void *)(uintptr_t)value.body, context);

@@ -3,8 +3,8 @@
 // Any thread calls it, as often as it likes: no thread has a seat of its own. A value is moved in and moved out, and assigned
 // where it comes back: one of up to 24 bytes, aligned to 8 at most, that may be moved by its bytes, as a number, a pointer or a
 // unique_ptr, lies in the queue itself; any other is in a box, and in a ring each but numbers of up to six bytes and plain pointers.
-// Values of one thread come out in its order, each once, and what is left is destroyed with the queue, or leaked where a word is
-// worn and there is no memory. Only tested, as all of msq_queue.h.
+// (Before C++17 it is aligned to 16 at most, as what `new` gives.) Values of one thread come out in its order, each once, and what is
+// left is destroyed with the queue, or leaked where a word is worn and there is no memory. Only tested, as all of msq_queue.h.
 //
 //     msq::queue<std::string> queue(1000);
 //     queue.push("a string");           // sleeps while the queue is full
@@ -13,13 +13,15 @@
 //     }
 //
 // push, pop, the constructor of a size and the loop throw msq::refused, and are there where exceptions are. All others throw only
-// what moves and copies of T, and `use`, throw; without exceptions, create makes a queue.
+// what moves and copies of T, and `use`, throw: a value that a pop then has, or a refused push, is destroyed, and in the queue no
+// more. Without exceptions, create makes a queue.
 #ifndef MSQ_QUEUE_HPP
 #define MSQ_QUEUE_HPP
 
 #include "msq.hpp"
 #include "msq_words.h"
 
+#include <cstddef>
 #include <cstring>
 #include <iterator>
 #include <memory>
@@ -107,14 +109,18 @@ template <class T> struct by_words {
 
     // The value stays where it isn't pushed; else its bytes are the queue's.
     static uint32_t push(msq_queue *home, T &value, patience how) {
-        alignas(T) unsigned char raw[sizeof(T)];
+        // (bytes that a move leaves as they are, as of a type without any, are zeros)
+        alignas(T) unsigned char raw[sizeof(T)] = {};
         T *moved = ::new (static_cast<void *>(raw)) T(std::move(value));
         words all{};
         std::memcpy(&all, raw, sizeof raw);
         const uint32_t code = width::push(home, all, how);
         if (code != MSQ_OK) {
+            struct ender {
+                T *value;
+                ~ender() { value->~T(); }
+            } end{moved};
             value = std::move(*moved);
-            moved->~T();
         }
         return code;
     }
@@ -182,14 +188,19 @@ template <class T> struct by_numbers {
     static uint32_t left(msq_queue *home, msq_remaining *left) noexcept { return msq_queue_left(home, left); }
 };
 
-// Values that pass in boxes, by their addresses.
+// Values that pass in boxes, by their addresses. A box is of the global new and delete, whatever its type has of its own.
 template <class T> struct by_boxes {
+    struct freed {
+        void operator()(T *value) const noexcept { ::delete value; }
+    };
+    using box_of = std::unique_ptr<T, freed>;
+
     static uint32_t open(msq_queue *home, uint32_t kind, uint32_t capacity, uint16_t threads) noexcept {
         return msq_queue_open(home, kind, capacity, threads);
     }
 
     static uint32_t push(msq_queue *home, T &value, patience how) {
-        std::unique_ptr<T> box(new (std::nothrow) T(std::move(value)));
+        box_of box(::new (std::nothrow) T(std::move(value)));
         if (box == nullptr) {
             return MSQ_MEMORY;
         }
@@ -205,7 +216,7 @@ template <class T> struct by_boxes {
     template <class Use> static uint32_t pop(msq_queue *home, patience how, Use use) {
         void *object = nullptr;
         const uint32_t code = how.waits ? msq_queue_pop_wait_for(home, &object, how.ns) : msq_queue_pop(home, &object);
-        std::unique_ptr<T> box(static_cast<T *>(object));
+        box_of box(static_cast<T *>(object));
         if (box != nullptr) {
             use(std::move(*box));
         }
@@ -219,7 +230,7 @@ template <class T> struct by_boxes {
     static uint32_t left(msq_queue *home, msq_remaining *left) noexcept { return msq_queue_left(home, left); }
 
 private:
-    static void destroy_one(void *object, void *) noexcept { delete static_cast<T *>(object); }
+    static void destroy_one(void *object, void *) noexcept { freed()(static_cast<T *>(object)); }
 };
 
 // How values pass through a ring, and through a queue of another kind. There is no ring of words.
@@ -261,6 +272,9 @@ template <class T> class queue {
 
     struct ender {
         void operator()(detail::home *home) const noexcept {
+#if !defined(__cpp_aligned_new)
+            static_assert(alignof(T) <= alignof(std::max_align_t), "a value of a greater alignment wants C++17");
+#endif
             detail::passed<T>(*home, [](auto how, msq_queue *at) {
                 how.destroy(at);
                 return 0;
@@ -348,7 +362,7 @@ public:
     std::optional<T> try_pop() { return taken({false, 0}); }
 
     // The same, and sleeps while the queue is empty: as long as it takes, so that there is none only where the queue is closed and
-    // empty, or a word is worn; or for some time.
+    // empty, a word is worn, or there is no queue; or for some time.
     std::optional<T> pop_wait() { return taken({true, MSQ_FOREVER}); }
     template <class Rep, class Period> std::optional<T> pop_wait_for(std::chrono::duration<Rep, Period> time) {
         return taken({true, detail::nanoseconds(time)});
@@ -425,7 +439,7 @@ public:
     }
 
     // Pops values one by one, and sleeps while there is none, until the queue is closed and empty. Throws refused, with a worn
-    // word; begin() also std::bad_alloc, before it pops.
+    // word or MSQ_NO_SEAT; begin() also std::bad_alloc, before it pops.
     class iterator {
     public:
         using iterator_category = std::input_iterator_tag;

@@ -79,7 +79,7 @@ MSQ_INLINE uint32_t msq_push_wait_for(msq_seat *seat, msq_bells *bells, uint64_t
  */
 MSQ_INLINE uint32_t msq_push_wake(msq_seat *seat, msq_bells *bells, uint64_t body, uint32_t turns);
 
-/* As msq_try_pop, and wakes one that waits for room. It never sleeps. */
+/* As msq_try_pop, and wakes two that wait for room: it may give two nodes back. It never sleeps. */
 MSQ_INLINE uint32_t msq_pop_wake(msq_seat *seat, msq_bells *bells, uint32_t turns, msq_value *value);
 
 /*
@@ -89,7 +89,7 @@ MSQ_INLINE uint32_t msq_pop_wake(msq_seat *seat, msq_bells *bells, uint32_t turn
 MSQ_INLINE uint32_t msq_push_all_wake(msq_seat *seat, msq_bells *bells, const uint64_t *bodies, size_t bodies_len,
                                       uint32_t turns, size_t *pushed);
 
-/* As msq_pop_up_to, and wakes one that waits for room for each value popped, one at least. It never sleeps. */
+/* As msq_pop_up_to, and wakes as many that wait for room as values are popped, and one more, two at least. It never sleeps. */
 MSQ_INLINE uint32_t msq_pop_up_to_wake(msq_seat *seat, msq_bells *bells, uint32_t turns, msq_value *values,
                                        size_t values_len, size_t *popped);
 
@@ -175,9 +175,9 @@ MSQ_INLINE uint32_t msq_pushed(msq_bells *bells, uint32_t code) {
     return code;
 }
 
-/* What a pop answers, once it has woken: it may give a node back also where it takes no value. */
+/* What a pop answers, once it has woken: it may give back two nodes, of which one waited in its seat, also where it takes no value. */
 MSQ_INLINE uint32_t msq_popped(msq_bells *bells, uint32_t code) {
-    msq_ring(&bells->nodes, 1);
+    msq_ring(&bells->nodes, 2);
     msq_tell_end(bells, code);
     return code;
 }

@@ -371,44 +371,55 @@ MSQ_INLINE void msq_checked_word_drop(msq_word_seat *seat) {
 }
 
 /*
- * A push by a seat that is leased for it. Places for words are tried one a turn, from that of its node on: so a push that is busy
- * has twice the turns, until each place was tried.
+ * A push by a seat that is leased for it. Places for words are tried one a turn: so a push that is busy has twice the turns, up to
+ * `most`.
  */
-MSQ_INLINE uint32_t msq_wide_push_now(const struct msq_width *width, msq_queue *queue, msq_seat *seat, const void *given) {
+MSQ_INLINE uint32_t msq_wide_push_now(const struct msq_width *width, msq_seat *seat, const void *given, size_t most) {
     uint32_t turns = MSQ_TURNS, code;
-    while ((code = msq_wide_push(width, seat, given, turns)) == MSQ_BUSY && turns < queue->room) {
+    while ((code = msq_wide_push(width, seat, given, turns)) == MSQ_BUSY && turns < most) {
         sched_yield();
         turns = turns < UINT32_MAX / 2 ? 2 * turns : UINT32_MAX;
     }
     return code;
 }
 
-/* A look by a seat that is leased for it: a value is given, or an item taken. */
-MSQ_INLINE uint32_t msq_wide_look(const struct msq_width *width, msq_queue *queue, const void *given, void *item) {
-    msq_seat *seat = msq_lease_for(queue, item != NULL ? MSQ_TAKER : MSQ_GIVER);
-    uint32_t code = MSQ_NO_SEAT;
-    if (seat == NULL) {
-        return code;
-    }
-    code = item != NULL ? msq_wide_pop(width, seat, MSQ_TURNS, item) : msq_wide_push_now(width, queue, seat, given);
+/* A look by a seat that is leased for it, and is then released: a value is given, or an item taken. */
+MSQ_INLINE uint32_t msq_wide_look_by(const struct msq_width *width, msq_queue *queue, msq_seat *seat, const void *given,
+                                     void *item, size_t most) {
+    const uint32_t code =
+        item != NULL ? msq_wide_pop(width, seat, MSQ_TURNS, item) : msq_wide_push_now(width, seat, given, most);
     msq_release(queue, seat);
     return item != NULL ? msq_popped(&queue->bells, code) : msq_pushed(&queue->bells, code);
 }
 
-/* A call that may sleep, of a queue of words. */
+/* A look by a seat that is leased for it, once one is free. A push tries each place. */
+MSQ_INLINE uint32_t msq_wide_look(const struct msq_width *width, msq_queue *queue, const void *given, void *item) {
+    msq_seat *seat = msq_lease_for(queue, msq_role_for(item != NULL));
+    return seat != NULL ? msq_wide_look_by(width, queue, seat, given, item, queue->room) : (uint32_t)MSQ_NO_SEAT;
+}
+
+/* A call that may sleep, of a queue of words, and the turns of a look. */
 struct msq_wide_want {
     const struct msq_width *width;
     msq_queue *queue;
     const void *given;
     void *item;
+    size_t most;
 };
 
 MSQ_INLINE uint32_t msq_look_for_words(const struct msq_want *want) {
     const struct msq_wide_want *all = (const struct msq_wide_want *)want->queue;
-    return msq_wide_look(all->width, all->queue, all->given, all->item);
+    bool is_there;
+    msq_seat *seat = msq_lease_free(all->queue, msq_role_for(want->pops), &is_there);
+    if (seat != NULL) {
+        return msq_wide_look_by(all->width, all->queue, seat, all->given, all->item, all->most);
+    }
+    return is_there ? MSQ_BUSY : MSQ_NO_SEAT;
 }
 
+/* A push without a time tries each place; one with a time looks at it after each MSQ_TURNS. */
 MSQ_INLINE uint32_t msq_wide_wait_for(struct msq_wide_want all, uint64_t ns) {
+    all.most = ns == MSQ_FOREVER ? all.queue->room : MSQ_TURNS;
     const struct msq_want want = {NULL, &all.queue->bells, all.item != NULL, NULL, 0, msq_look_for_words, &all};
     return msq_look_for(&want, ns);
 }
@@ -557,7 +568,7 @@ MSQ_INLINE uint32_t msq_words_queue_push(msq_queue *queue, const msq_words *word
     return msq_wide_look(&msq_three, queue, words, NULL);
 }
 MSQ_INLINE uint32_t msq_words_queue_push_wait_for(msq_queue *queue, const msq_words *words, uint64_t ns) {
-    const struct msq_wide_want all = {&msq_three, queue, words, NULL};
+    const struct msq_wide_want all = {&msq_three, queue, words, NULL, 0};
     return msq_wide_wait_for(all, ns);
 }
 MSQ_INLINE uint32_t msq_words_came(uint32_t code, const msq_item *item, msq_words *words) {
@@ -572,7 +583,7 @@ MSQ_INLINE uint32_t msq_words_queue_pop(msq_queue *queue, msq_words *words) {
 }
 MSQ_INLINE uint32_t msq_words_queue_pop_wait_for(msq_queue *queue, msq_words *words, uint64_t ns) {
     msq_item item;
-    const struct msq_wide_want all = {&msq_three, queue, NULL, &item};
+    const struct msq_wide_want all = {&msq_three, queue, NULL, &item, 0};
     return msq_words_came(msq_wide_wait_for(all, ns), &item, words);
 }
 MSQ_INLINE uint32_t msq_words_queue_shut(msq_queue *queue) {
@@ -596,7 +607,7 @@ MSQ_INLINE uint32_t msq_word_queue_push(msq_queue *queue, uint64_t word) {
     return msq_wide_look(&msq_one, queue, &word, NULL);
 }
 MSQ_INLINE uint32_t msq_word_queue_push_wait_for(msq_queue *queue, uint64_t word, uint64_t ns) {
-    const struct msq_wide_want all = {&msq_one, queue, &word, NULL};
+    const struct msq_wide_want all = {&msq_one, queue, &word, NULL, 0};
     return msq_wide_wait_for(all, ns);
 }
 MSQ_INLINE uint32_t msq_word_came(uint32_t code, const msq_value *value, uint64_t *word) {
@@ -611,7 +622,7 @@ MSQ_INLINE uint32_t msq_word_queue_pop(msq_queue *queue, uint64_t *word) {
 }
 MSQ_INLINE uint32_t msq_word_queue_pop_wait_for(msq_queue *queue, uint64_t *word, uint64_t ns) {
     msq_value value;
-    const struct msq_wide_want all = {&msq_one, queue, NULL, &value};
+    const struct msq_wide_want all = {&msq_one, queue, NULL, &value, 0};
     return msq_word_came(msq_wide_wait_for(all, ns), &value, word);
 }
 MSQ_INLINE uint32_t msq_word_queue_shut(msq_queue *queue) {

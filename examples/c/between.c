@@ -1,7 +1,8 @@
 /* What a call answers where another one comes in between, on Linux on x86-64: a call is stopped before each of its machine
  * instructions in turn, by the processor's trap flag, until that of another thread is done. Prints at how many places it answers so.
  *
- * A shut is MSQ_BUSY where a push comes in between, and a look where a pop does. A push answers MSQ_WORN_NEXT behind a pop of its
+ * A shut is MSQ_BUSY where a push comes in between, and a look where a pop does. So is a push of words by one turn that comes into a
+ * pop, where its node is one whose slot that pop hasn't emptied yet; tried again it is done, at another slot. A push answers MSQ_WORN_NEXT behind a pop of its
  * seat: each pop raises Head's count, and a node comes back into use after two pops at the earliest; so only at the limit 1 is the
  * count of a node ever at it. The node must also not pass the free list, which is worn by then: it waits in its seat, whose pop
  * lost the free list to one in between, as it was about to give the node back. */
@@ -24,7 +25,7 @@ enum who { ME, ANOTHER };
 /* Seats of numbers, leased from a queue, or of words, three or one, or of a queue of such: the first thread's, and the other one's. */
 struct seats {
     uint32_t (*open)(uint64_t limit);
-    uint32_t (*push)(enum who who);
+    uint32_t (*push)(enum who who, uint32_t turns);
     uint32_t (*pop)(enum who who, uint32_t turns); /* the number that was pushed goes to `came` */
     void (*drop)(void);
 };
@@ -43,8 +44,8 @@ static uint32_t open_numbers(uint64_t limit) {
     return code;
 }
 
-static uint32_t push_number(enum who who) {
-    return msq_try_push(seats[who], ++pushed, 8);
+static uint32_t push_number(enum who who, uint32_t turns) {
+    return msq_try_push(seats[who], ++pushed, turns);
 }
 
 static uint32_t pop_number(enum who who, uint32_t turns) {
@@ -62,9 +63,9 @@ static uint32_t open_words(uint64_t limit) {
     return msq_words_create(MSQ_NON_BLOCKING, 4, limit, roles, 2, word_seats, 2);
 }
 
-static uint32_t push_words(enum who who) {
+static uint32_t push_words(enum who who, uint32_t turns) {
     const msq_words words = {{++pushed, 0, 0}};
-    return msq_words_push(&word_seats[who], &words, 8);
+    return msq_words_push(&word_seats[who], &words, turns);
 }
 
 static uint32_t pop_words(enum who who, uint32_t turns) {
@@ -83,8 +84,8 @@ static uint32_t open_singles(uint64_t limit) {
     return msq_word_create(MSQ_NON_BLOCKING, 4, limit, roles, 2, single_seats, 2);
 }
 
-static uint32_t push_single(enum who who) {
-    return msq_word_push(&single_seats[who], ++pushed, 8);
+static uint32_t push_single(enum who who, uint32_t turns) {
+    return msq_word_push(&single_seats[who], ++pushed, turns);
 }
 
 static uint32_t pop_single(enum who who, uint32_t turns) {
@@ -104,8 +105,8 @@ static uint32_t open_single_queue(uint64_t limit) {
     return msq_word_open(&queue, MSQ_NON_BLOCKING, 4, 2);
 }
 
-static uint32_t push_to_single_queue(enum who who) {
-    (void)who;
+static uint32_t push_to_single_queue(enum who who, uint32_t turns) {
+    (void)who, (void)turns;
     return msq_word_queue_push(&queue, ++pushed);
 }
 
@@ -124,9 +125,9 @@ static uint32_t open_word_queue(uint64_t limit) {
     return msq_words_open(&queue, MSQ_NON_BLOCKING, 4, 2);
 }
 
-static uint32_t push_to_queue(enum who who) {
+static uint32_t push_to_queue(enum who who, uint32_t turns) {
     const msq_words words = {{++pushed, 0, 0}};
-    (void)who;
+    (void)who, (void)turns;
     return msq_words_queue_push(&queue, &words);
 }
 
@@ -148,7 +149,7 @@ static const struct seats single_queue = {open_single_queue, push_to_single_queu
 
 /* The calls that push, each by the first thread's seat. */
 static uint32_t try_push(void) {
-    return push_number(ME);
+    return push_number(ME, 8);
 }
 
 static uint32_t push_all(void) {
@@ -174,11 +175,11 @@ static uint32_t push_wait_for(void) {
 }
 
 static uint32_t words_push(void) {
-    return push_words(ME);
+    return push_words(ME, 8);
 }
 
 static uint32_t word_push(void) {
-    return push_single(ME);
+    return push_single(ME, 8);
 }
 
 /* These lease a seat: the only one that is free. */
@@ -230,6 +231,15 @@ static uint32_t see_word_queue(void) {
     return msq_words_queue_emptiness(&queue);
 }
 
+/* Pushes of one turn, by the other thread. */
+static uint32_t words_push_in_between(void) {
+    return push_words(ANOTHER, 1);
+}
+
+static uint32_t word_push_in_between(void) {
+    return push_single(ANOTHER, 1);
+}
+
 struct call {
     const char *name;
     const struct seats *seats;
@@ -265,8 +275,16 @@ static const struct call looks[] = {
     {NULL, NULL, NULL},
 };
 
+static const struct call pushes_in_between[] = {
+    {"msq_words_push", &of_words, words_push_in_between},
+    {"msq_word_push", &of_one, word_push_in_between},
+    {NULL, NULL, NULL},
+};
+
 static const struct seats *used; /* by the calls that run */
 static uint32_t (*between)(void);         /* what comes in between */
+static uint32_t (*pushes_there)(void);    /* the push of it, where it is a pop and a push */
+static uint32_t first_answer, last_answer;
 static atomic_int turn;
 static volatile long left; /* how many instructions to go before the stop */
 static volatile sig_atomic_t stopped;
@@ -341,16 +359,27 @@ static uint32_t pop_by_another(void) {
 }
 
 static uint32_t push_by_another(void) {
-    return used->push(ANOTHER);
+    return used->push(ANOTHER, 8);
+}
+
+/* The other thread's pop, whose node comes free, and its push, which is tried again while it is MSQ_BUSY. */
+static uint32_t pop_and_push(void) {
+    int tries = 1;
+    (void)pop_by_another();
+    first_answer = last_answer = pushes_there();
+    while (last_answer == MSQ_BUSY && tries++ < 16) {
+        last_answer = pushes_there();
+    }
+    return last_answer;
 }
 
 /* A push behind a pop in which another one comes. */
 static uint32_t push_behind(const struct call *call, long instruction) {
     uint32_t code;
     expect("create", used->open(1), MSQ_OK);
-    expect("the first push", used->push(ANOTHER), MSQ_OK);
-    expect("the second push", used->push(ANOTHER), MSQ_OK);
-    expect("the third push, whose node waits", used->push(ANOTHER), MSQ_WORN_TAIL);
+    expect("the first push", used->push(ANOTHER, 8), MSQ_OK);
+    expect("the second push", used->push(ANOTHER, 8), MSQ_OK);
+    expect("the third push, whose node waits", used->push(ANOTHER, 8), MSQ_WORN_TAIL);
     (void)with_between(pop_once, pop_by_another, instruction);
     code = call->make();
     if (code == MSQ_WORN_NEXT) {
@@ -375,13 +404,27 @@ static uint32_t shut_beside(const struct call *call, long instruction) {
 static uint32_t look_beside(const struct call *call, long instruction) {
     uint32_t code;
     expect("create", used->open(MSQ_MOST_COUNT), MSQ_OK);
-    expect("the first push", used->push(ANOTHER), MSQ_OK);
-    expect("the second push", used->push(ANOTHER), MSQ_OK);
+    expect("the first push", used->push(ANOTHER, 8), MSQ_OK);
+    expect("the second push", used->push(ANOTHER, 8), MSQ_OK);
     code = with_between(call->make, pop_by_another, instruction);
     if (code == MSQ_BUSY) {
         expect("a look behind it", call->make(), MSQ_OK);
     }
     return code;
+}
+
+/* A push, behind a pop, in a pop. */
+static uint32_t push_inside(const struct call *call, long instruction) {
+    uint32_t code;
+    expect("create", used->open(MSQ_MOST_COUNT), MSQ_OK);
+    expect("the first push", used->push(ANOTHER, 8), MSQ_OK);
+    expect("the second push", used->push(ANOTHER, 8), MSQ_OK);
+    first_answer = last_answer = MSQ_OK;
+    pushes_there = call->make;
+    code = with_between(pop_once, pop_and_push, instruction);
+    expect("a push that is tried again", last_answer, MSQ_OK);
+    expect("the pop", code == MSQ_BUSY ? pop_once() : code, MSQ_OK);
+    return first_answer;
 }
 
 /* At how many places each of these calls answers so. */
@@ -408,6 +451,7 @@ int main(void) {
     try_each(pushes, push_behind, MSQ_WORN_NEXT);
     try_each(shuts, shut_beside, MSQ_BUSY);
     try_each(looks, look_beside, MSQ_BUSY);
+    try_each(pushes_in_between, push_inside, MSQ_BUSY);
     atomic_store(&turn, OVER);
     pthread_join(other, NULL);
     return wrong != 0;

@@ -61,7 +61,12 @@ static void a_queue_answers(uint32_t kind) {
     msq_length length = {9, 9};
     msq_remaining left = {0, 0, 0, 0};
     size_t count = 2;
+    msq_seat *seat;
     expect("open", msq_queue_open(&queue, kind, 2, 1), MSQ_OK);
+    seat = msq_lease_for(&queue, MSQ_BOTH);
+    expect("a push while each seat is leased", msq_queue_push_wait_for(&queue, objects, MILLISECOND), MSQ_BUSY);
+    expect("a pop", msq_queue_pop_wait_for(&queue, &object, MILLISECOND), MSQ_BUSY);
+    msq_release(&queue, seat);
     expect("it is empty", msq_queue_emptiness(&queue), MSQ_EMPTY);
     expect("a pop of nothing", msq_queue_pop(&queue, &object), MSQ_EMPTY);
     expect("one that waits", msq_queue_pop_wait_for(&queue, &object, MILLISECOND), MSQ_EMPTY);
@@ -112,6 +117,19 @@ static void what_is_left_is_freed(uint32_t kind) {
     expect("its end", msq_destroy(&queue, count_one, objects), MSQ_OK);
     expect("all were freed", freed, 100);
     expect("there is none", msq_queue_pop(&queue, (void **)&seat), MSQ_NO_SEAT);
+}
+
+/* So is what is left where no seat may pop. */
+static void what_no_seat_pops_is_freed(uint32_t kind) {
+    const uint8_t roles[] = {MSQ_GIVER, MSQ_GIVER};
+    msq_queue queue = {0};
+    freed = 0;
+    expect("create", msq_queue_create(&queue, kind, 8, MSQ_MOST_COUNT, roles, 2), MSQ_OK);
+    expect("a push", msq_queue_push(&queue, &objects[0]), MSQ_OK);
+    expect("a push", msq_queue_push(&queue, &objects[1]), MSQ_OK);
+    expect("a pop", msq_queue_pop(&queue, &(void *){NULL}), MSQ_NO_SEAT);
+    expect("its end", msq_destroy(&queue, count_one, objects), MSQ_OK);
+    expect("both were freed", freed, 2);
 }
 
 /* Seats are leased one by one, and a queue ends once all are back. */
@@ -177,6 +195,7 @@ int main(void) {
         sizes_have_their_ranges(kind);
         a_queue_answers(kind);
         what_is_left_is_freed(kind);
+        what_no_seat_pops_is_freed(kind);
         seats_are_leased(kind);
     }
     for (uint32_t kind = MSQ_NON_BLOCKING; kind <= MSQ_TWO_LOCK; kind++) {

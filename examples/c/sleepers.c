@@ -1,7 +1,7 @@
 /* Runs the calls of msq_wait.h in random interleavings of their steps, one access of memory that threads share at a time: two
- * to four threads with two calls each, over a queue of its own with room for one or two values, which may be busy, worn or
- * shut. Where only sleepers are left, none may sleep beside what it waits for; no call ends before its time, and each value
- * comes once.
+ * to four threads with one call or two each, over a queue of its own with room for one or two values, which may be busy, worn or
+ * shut, and whose nodes may wait in seats. Where only sleepers are left, none may sleep beside what it waits for; no call ends
+ * before its time, and each value comes once.
  *
  *     sleepers RUNS: prints the first run in which that isn't so, or that there is none */
 #include <sched.h>
@@ -32,13 +32,14 @@ static const char *const names[KINDS] = {"pop", "pop_for", "push", "push_for", "
 struct thread {
     ucontext_t at;
     char *stack;
-    unsigned calls[CALLS], call;
+    unsigned calls[CALLS], count, call;
     bool over, sleeps, in_time; /* whether it is at its end, sleeps, and does so for some time */
+    bool keeps;                 /* whether a node waits in its seat */
     msq_seat seat;
 };
 
 static struct thread threads[MOST];
-static unsigned count, current;
+static unsigned count, current, late; /* who goes on last, in half of the runs */
 static ucontext_t scheduler;
 static msq_bells bells;
 static uint64_t random_state, now;
@@ -58,40 +59,54 @@ static void step(void) {
     swapcontext(&threads[current].at, &scheduler);
 }
 
-/* A push takes a node, and then links it. */
+/* A push takes a node, unless one waits in its seat, and then links it; where it can't, the node waits there. */
 uint32_t(msq_try_push)(msq_seat *seat, uint64_t body, uint32_t turns) {
+    struct thread *me = &threads[current];
     (void)seat, (void)turns;
     step();
     if (any(8) < busy) {
         return MSQ_BUSY;
     }
-    if (freed == 0) {
-        return MSQ_NO_NODE;
+    if (!me->keeps) {
+        if (freed == 0) {
+            return MSQ_NO_NODE;
+        }
+        if (pushes == 0) {
+            is_worn = true;
+            return MSQ_WORN_FREE;
+        }
+        freed--;
+        me->keeps = true;
+        step();
     }
-    if (pushes == 0) {
-        is_worn = true;
-        return MSQ_WORN_FREE;
-    }
-    freed--;
-    step();
-    if (any(32) < aside) {
-        return MSQ_WORN_NEXT;
+    if (any(8) < busy) {
+        return MSQ_BUSY;
     }
     if (is_shut) {
         return MSQ_CLOSED;
     }
-    pushes--;
+    me->keeps = false;
+    if (any(32) < aside) {
+        return MSQ_WORN_NEXT;
+    }
+    pushes -= pushes > 0;
     bodies[left++] = body;
     pushed[body] = true;
     return MSQ_OK;
 }
 
-/* A pop takes a value, and then gives its node back. */
+/* A pop gives back a node that waits in its seat, takes a value, and then gives its node back, unless others keep it from that. */
 uint32_t(msq_try_pop)(msq_seat *seat, uint32_t turns, msq_value *value) {
+    struct thread *me = &threads[current];
     (void)seat, (void)turns;
     step();
     if (any(8) < busy) {
         return MSQ_BUSY;
+    }
+    if (me->keeps) {
+        me->keeps = false;
+        freed++;
+        step();
     }
     if (left == 0) {
         return is_shut ? MSQ_CLOSED : MSQ_EMPTY;
@@ -104,7 +119,8 @@ uint32_t(msq_try_pop)(msq_seat *seat, uint32_t turns, msq_value *value) {
     value->body = bodies[0];
     memmove(bodies, bodies + 1, --left * sizeof *bodies);
     step();
-    freed++;
+    me->keeps = any(2) < busy;
+    freed += !me->keeps;
     return MSQ_OK;
 }
 
@@ -185,7 +201,7 @@ static uint32_t call(enum does does, msq_seat *seat, msq_value *value, uint64_t 
 
 static void run_calls(void) {
     struct thread *me = &threads[current];
-    for (me->call = 0; me->call < CALLS; me->call++) {
+    for (me->call = 0; me->call < me->count; me->call++) {
         const enum does does = (enum does)me->calls[me->call];
         const uint64_t body = next_body++, began = now;
         msq_value value = {63, 0};
@@ -218,11 +234,18 @@ static bool is_left(void) {
 /* A thread that can go on; `count` where there is none. One that sleeps for some time can; others may for no reason. */
 static unsigned picked(void) {
     const bool for_no_reason = any(64) == 0;
+    unsigned last = count;
     for (unsigned first = any(count), k = 0; k < count; k++) {
         const unsigned one = (first + k) % count;
         if (!threads[one].over && (!threads[one].sleeps || for_no_reason)) {
-            return one;
+            if (one != late || any(64) == 0) {
+                return one;
+            }
+            last = one;
         }
+    }
+    if (last < count) {
+        return last;
     }
     for (unsigned k = 0; k < count; k++) {
         if (!threads[k].over && threads[k].in_time) {
@@ -237,7 +260,8 @@ static unsigned picked(void) {
 static void set_out(void) {
     for (unsigned k = 0; k < count; k++) {
         struct thread *one = &threads[k];
-        one->over = one->sleeps = one->in_time = false;
+        one->over = one->sleeps = one->in_time = one->keeps = false;
+        one->count = 1 + any(CALLS);
         for (unsigned j = 0; j < CALLS; j++) {
             one->calls[j] = any(any(3) ? SHUT : KINDS);
         }
@@ -267,8 +291,13 @@ static bool run(uint64_t seed) {
         bodies[k] = next_body++;
     }
     count = 2 + any(MOST - 1);
+    late = any(2 * count);
     fault = NULL;
     set_out();
+    if (freed > 0 && any(2)) {
+        freed--;
+        threads[any(count)].keeps = true;
+    }
     for (current = picked(); current < count && fault == NULL; current = picked()) {
         threads[current].sleeps = threads[current].in_time = false;
         swapcontext(&scheduler, &threads[current].at);
@@ -288,7 +317,10 @@ int main(int argc, char **argv) {
         if (!run(seed)) {
             printf("run %llu: %s:", (unsigned long long)seed, fault);
             for (unsigned k = 0; k < count; k++) {
-                printf(" %s, %s%s", names[threads[k].calls[0]], names[threads[k].calls[1]], k + 1 < count ? ";" : "\n");
+                for (unsigned j = 0; j < threads[k].count; j++) {
+                    printf("%s %s", j > 0 ? "," : "", names[threads[k].calls[j]]);
+                }
+                printf("%s", k + 1 < count ? ";" : "\n");
             }
             return 1;
         }

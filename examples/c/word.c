@@ -208,7 +208,7 @@ static void count_one(uint64_t word, void *count) {
 static void what_is_left_is_freed(void) {
     msq_queue shared = {0};
     msq_length length = {0, 0};
-    msq_seat *seat;
+    msq_seat *seat, *other;
     uint64_t count = 0, word = 3;
     expect("none with a length", msq_word_queue_len(&shared, &length), MSQ_NO_SEAT);
     expect("no queue", msq_word_destroy(&shared, count_one, &count), MSQ_NO_SEAT);
@@ -218,6 +218,12 @@ static void what_is_left_is_freed(void) {
     expect("again", msq_word_open(&shared, kind, 10, 2), MSQ_IN_USE);
     expect("empty", msq_word_queue_pop_wait_for(&shared, &word, MILLISECOND), MSQ_EMPTY);
     expect("nothing is written", word, 3);
+    seat = msq_lease_for(&shared, MSQ_BOTH);
+    other = msq_lease_for(&shared, MSQ_BOTH);
+    expect("a push while each seat is leased", msq_word_queue_push_wait_for(&shared, 1, MILLISECOND), MSQ_BUSY);
+    expect("a pop", msq_word_queue_pop_wait_for(&shared, &word, MILLISECOND), MSQ_BUSY);
+    msq_release(&shared, seat);
+    msq_release(&shared, other);
     for (uint64_t number = 0; number < 10; number++) {
         expect("a push", msq_word_queue_push(&shared, key_of(5, number)), MSQ_OK);
     }

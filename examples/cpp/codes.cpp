@@ -179,7 +179,72 @@ static void a_sleeper_is_woken() {
     expect("each came", came == 1000);
 }
 
+// A type with a new of its own, which may not move by its bytes, and one without a byte that a move writes.
+struct own_room : large {
+    using large::large;
+    static void *operator new(size_t) = delete;
+    static void operator delete(void *) {}
+};
+struct nothing {
+    bool operator==(const nothing &) const { return true; }
+};
+
+static void values_of_odd_types_pass() {
+    for (auto kind : kinds) {
+        auto queue = msq::queue<own_room>::create(4, kind).second;
+        own_room found(0);
+        expect("a push of one with a new of its own", queue.try_push(own_room(7)) == MSQ_OK);
+        expect("and its pop", queue.try_pop(found) == MSQ_OK && *found == 7);
+        expect("one that is left", queue.try_push(own_room(8)) == MSQ_OK);
+    }
+    expect("a value without a state", comes(nothing{}));
+}
+
 #if defined(__cpp_exceptions)
+// Counts how many there are, and throws where one is assigned.
+struct thrower {
+    static int alive;
+    uint64_t number = 0;
+    thrower() { alive++; }
+    thrower(thrower &&other) noexcept : number(other.number) { alive++; }
+    thrower &operator=(thrower &&) { throw 1; }
+    ~thrower() { alive--; }
+};
+int thrower::alive = 0;
+
+struct boxed_thrower : thrower {
+    char apart[64] = {};
+};
+
+namespace msq {
+template <> struct is_trivially_relocatable<thrower> : std::true_type {};
+} // namespace msq
+
+template <class T> static void a_throw_destroys_one(msq::kind kind) {
+    {
+        auto queue = msq::queue<T>::create(1, kind, 1).second;
+        unsigned pushed = 0, thrown = 0;
+        for (int turn = 0; turn < 70; turn++) {
+            try {
+                T value;
+                pushed += queue.try_push(std::move(value)) == MSQ_OK;
+            } catch (int) {
+                thrown++;
+            }
+        }
+        expect("a refused push whose value can't come back", pushed > 0 && thrown > 0 && pushed + thrown == 70);
+        expect("ends that value", T::alive == static_cast<int>(pushed));
+        try {
+            T value;
+            queue.try_pop(value);
+            expect("a pop that can't give its value", false);
+        } catch (int) {
+            expect("ends that value too", T::alive == static_cast<int>(pushed) - 1);
+        }
+    }
+    expect("all have ended", T::alive == 0);
+}
+
 template <class Call> static msq_code thrown(Call call) {
     try {
         call();
@@ -268,11 +333,16 @@ int main() {
     no_queue_answers<middle>();
     no_queue_answers<large>();
     small_values_pass();
+    values_of_odd_types_pass();
     copies_are_pushed();
     a_sleeper_is_woken();
     values_are_consumed();
 #if defined(__cpp_exceptions)
     calls_throw();
+    for (auto kind : kinds) {
+        a_throw_destroys_one<thrower>(kind);
+        a_throw_destroys_one<boxed_thrower>(kind);
+    }
 #endif
 #if __cplusplus >= 201703L
     for (auto kind : kinds) {

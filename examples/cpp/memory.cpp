@@ -38,16 +38,13 @@ template <class Call> void is_done_at_last(const char *what, Call call) {
     expect(what, code == MSQ_OK && allocations > 0);
 }
 
-// A queue has it in a box, whose memory is of the C library too.
+// A queue has it in a box.
 struct large {
     int number = 0;
     char apart[64] = {};
 
     large() = default;
     explicit large(int number) : number(number) {}
-    static void *operator new(size_t size, const std::nothrow_t &) noexcept { return std::malloc(size); }
-    static void operator delete(void *at) noexcept { std::free(at); }
-    static void operator delete(void *at, const std::nothrow_t &) noexcept { std::free(at); }
 };
 
 const std::vector<msq::role> two{msq::role::giver, msq::role::taker};
@@ -154,7 +151,7 @@ void *__wrap_realloc(void *old, size_t size) { return is_refused() ? nullptr : _
     }
     return at;
 }
-[[gnu::noinline]] void *operator new(size_t size, const std::nothrow_t &) noexcept { return __real_malloc(size); }
+[[gnu::noinline]] void *operator new(size_t size, const std::nothrow_t &) noexcept { return std::malloc(size); }
 [[gnu::noinline]] void operator delete(void *at) noexcept { std::free(at); }
 [[gnu::noinline]] void operator delete(void *at, size_t) noexcept { std::free(at); }
 

@@ -116,12 +116,13 @@ impl<C: Carrier> Carrier for BlockingCarrier<C> {
         }
     }
 
-    // (A pop gives nodes back also where it takes no value.)
+    // (A pop gives a node back also where it takes no value, and where it takes one maybe two: so it wakes two that wait.)
     fn try_pop(&self, seat: &mut C::Seat, turns: u32) -> Result<Option<ItemOf<C::Item>>, Refusal> {
         let answer = self.queue.try_pop(seat, turns);
         if let Err(Refusal::WornOut(_)) = &answer {
             self.values.ring();
         }
+        self.nodes.ring();
         self.nodes.ring();
         answer
     }

@@ -104,13 +104,14 @@ impl<Q: Fifo> Fifo for BlockingQueue<Q> {
         answer
     }
 
-    // (A pop gives nodes back also where it takes no value.)
+    // (A pop gives a node back also where it takes no value, and where it takes one maybe two: so it wakes two that wait.)
     #[inline(always)]
     fn try_pop(&self, seat: &mut Q::Seat, turns: u32) -> Result<Option<Taken>, Refusal> {
         let answer = self.queue.try_pop(seat, turns);
         if let Err(Refusal::WornOut(_)) = answer {
             self.values.ring();
         }
+        self.nodes.ring();
         self.nodes.ring();
         answer
     }

@@ -1,18 +1,21 @@
 //! What shuts a channel's queue where one of its sides ends.
 ghost use Rattle.std.specs.Prelude.{◌≡◌, IfErr, OnOk};
 ghost use Rattle.history.specs.Answers.{StopsShut};
-ghost use Rattle.carriers.specs.Answers.{DidShutOf, PushRefusedOf};
+ghost use Rattle.carriers.specs.Answers.{DidShutOf, PushRefusedOf, EndsByTryOf};
 ghost use Rattle.blocking_carrier.specs.Queues.{queue_of};
 ghost use Rattle.channels.specs.Seats.{IsGiver};
 
+use crate::TURNS;
 use blocking_carrier::BlockingCarrier;
 use carriers::Carrier;
+use crossbeam_utils::Backoff;
 use history::Refusal;
 use std::alloc::Global;
 use std::sync::Arc;
 
-/// In how many turns the last handle of a side shuts the queue, at most.
-const TURNS: u32 = 65_536;
+/// How often the last handle of a side tries to shut the queue, at most. Between two tries other threads run: as one that has a
+/// lock, and that the system put aside.
+const TRIES: u32 = 65_536;
 
 /// Who shuts a queue, once, since that takes it. (A trait's: the `drop` of a side calls it, and the borrow checker covers no call
 /// there that rests on `Seat: Send`, but of a trait's methods.)
@@ -51,17 +54,24 @@ impl<C: Carrier + Drop> Shuts for Closer<C> {
 
     fn shut(self) -> (Result<(), Refusal>, C::Seat)
         //= carriers/channel_ended (shut, refused, refusal, caused): A side's closer has shut its queue by one deed, or is
-        //=   refused, with the cause of a `try_shut` of 65,536 turns. That the drop of the last sender, or receiver, calls it, no
-        //=   clause says.
+        //=   refused, with the cause of a try of 8 turns. That the drop of the last sender, or receiver, calls it, and how
+        //=   often it tries, no clause says.
         ensures shut { OnOk result.0
             (DidShutOf (C.known (closer_seat self)) (C.known result.1)) }
         ensures refused { IfErr result.0
             (λ refusal. PushRefusedOf (C.known (closer_seat self)) refusal (C.known result.1)) }
         ensures refusal { IfErr result.0 StopsShut }
-        ensures caused { IfErr result.0
-            (C.shut_cause (closer_queue self) (closer_seat self) result.1 65536) }
+        ensures caused { IfErr result.0 (EndsByTryOf C.is_seat C.known C.shut_cause
+            (closer_queue self) (closer_seat self) result.1 8) }
     {
         let Closer { queue, mut seat } = self;
+        let backoff = Backoff::new();
+        for _ in 1..TRIES {
+            match queue.try_shut(&mut seat, TURNS) {
+                Err(Refusal::Busy) => backoff.snooze(),
+                answer => return (answer, seat),
+            }
+        }
         let answer = queue.try_shut(&mut seat, TURNS);
         (answer, seat)
     }

@@ -8,7 +8,6 @@ use Rattle.carriers.specs.Deeds.{Deed, did_push, did_pop, did_shut, item}
 use Rattle.carriers.specs.Values.{value_pushed, value_popped, values_pushed, values_popped}
 use Rattle.carriers.specs.Knowledge.{KnownOf}
 use Rattle.carriers.specs.Answers.{PopRefusedOf}
-use Rattle.blocking_carrier.specs.Answers.{RecvRefusedOf}
 use Rattle.tasks.specs.Offers.{EndsShutBy}
 use Rattle.fed_pool.specs.Answered.{value_in}
 
@@ -56,9 +55,6 @@ module _ {N : Type 0} where
   pub pop_refused_mine : (k k' : KnownOf N) (refusal : Refusal) → PopRefusedOf k refusal k' → k'.mine ≡ k.mine
   pop_refused_mine k k' Closed h = h.mine
   pop_refused_mine k k' _ h = h.mine
-
-  pub recv_refused_mine : (k k' : KnownOf N) (refusal : Refusal) → RecvRefusedOf k refusal k' → k'.mine ≡ k.mine
-  recv_refused_mine k k' refusal h = pop_refused_mine h.last k' refusal h.refused ∙ h.waited.mine
 
   -- a shut pushes and pops nothing
   pub shut_values : (k k' : KnownOf N) (unshut : Option Refusal) → EndsShutBy k k' unshut → (values_pushed k'.mine ≡ values_pushed k.mine) × (values_popped k'.mine ≡ values_popped k.mine)

@@ -6,11 +6,12 @@ ghost use Rattle.tasks.specs.Offers.{EndsShutBy};
 ghost use Rattle.fed_pool.specs.Leaders.{IsLeading, GoesOn, HasEnded};
 
 use crate::feeds::Feed;
+use crate::worker::take;
 use blocking_carrier::BlockingCarrier;
 use carriers::{Carrier, Unpushed};
 use history::Refusal;
 use std::sync::Wait;
-use tasks::{Done, Numbered, Stop, Task};
+use tasks::{Done, End, Numbered, Stop, Task};
 
 /// Who hands out the tasks: its seats of both queues, the feed, how many tasks were given, and of how many tasks that were
 /// handed out the result wasn't told yet.
@@ -130,7 +131,15 @@ fn help<
     }
 }
 
-// Tells the next result, and sleeps until it comes.
+// Why no result was taken: `Closed` where workers were told to stop, as by one that couldn't send its result.
+fn untaken(end: End) -> Refusal {
+    match end {
+        End::Refused(refusal) => refusal,
+        _ => Refusal::Closed,
+    }
+}
+
+// Tells the next result, and sleeps until it comes, or until workers are told to stop.
 fn wait_for<
     R: Wait,
     T: Task,
@@ -142,6 +151,7 @@ fn wait_for<
     tasks: &BlockingCarrier<C>,
     results: &BlockingCarrier<D>,
     leader: &mut Leader<C::Seat, D::Seat, F>,
+    stop: &Stop,
 ) -> Result<(), Refusal>
     requires leading { IsLeading C.is_seat C.permits C.known D.is_seat D.permits D.known T.answers
         F.stands (queue_of tasks.now) (queue_of results.now) leader.old }
@@ -150,10 +160,14 @@ fn wait_for<
         F.stands (queue_of tasks.now) (queue_of results.now) leader.old leader.new }
     ensures kept { F.kept leader.new.feed ≡ F.kept leader.old.feed }
 {
-    let front = results.recv(rt, &mut leader.results)?;
-    leader.awaited -= 1;
-    leader.feed.tell(front.value);
-    Ok(())
+    match take(rt, results, &mut leader.results, stop) {
+        Ok(front) => {
+            leader.awaited -= 1;
+            leader.feed.tell(front.value);
+            Ok(())
+        }
+        Err(end) => Err(untaken(end)),
+    }
 }
 
 // Tells a result, hands out a task, runs one, or sleeps until a result comes; false where all is told and no task is given.
@@ -168,6 +182,7 @@ fn turn<
     tasks: &BlockingCarrier<C>,
     results: &BlockingCarrier<D>,
     leader: &mut Leader<C::Seat, D::Seat, F>,
+    stop: &Stop,
 ) -> Result<bool, Refusal>
     requires { IsLeading C.is_seat C.permits C.known D.is_seat D.permits D.known T.answers F.stands
         (queue_of tasks.now) (queue_of results.now) leader.old }
@@ -184,7 +199,7 @@ fn turn<
         return Ok(false);
     }
     if !help(rt, tasks, results, leader)? {
-        wait_for(rt, tasks, results, leader)?;
+        wait_for(rt, tasks, results, leader, stop)?;
     }
     Ok(true)
 }
@@ -201,6 +216,7 @@ fn lead_on<
     tasks: &BlockingCarrier<C>,
     results: &BlockingCarrier<D>,
     leader: &mut Leader<C::Seat, D::Seat, F>,
+    stop: &Stop,
 ) -> Option<Refusal>
     requires { IsLeading C.is_seat C.permits C.known D.is_seat D.permits D.known T.answers F.stands
         (queue_of tasks.now) (queue_of results.now) leader.old }
@@ -211,7 +227,7 @@ fn lead_on<
     ensures idle { result ≡ None → F.idle leader.new.feed }
 {
     for _ in rt.forever() {
-        match turn(rt, tasks, results, leader) {
+        match turn(rt, tasks, results, leader, stop) {
             Ok(true) => {}
             Ok(false) => return None,
             Err(refusal) => return Some(refusal),
@@ -268,7 +284,7 @@ pub(crate) fn lead<
     ensures kept { F.kept result.leader.feed ≡ F.kept leader.feed }
     ensures idle { result.refused ≡ None → F.idle result.leader.feed }
 {
-    let refused = lead_on(rt, tasks, results, &mut leader);
+    let refused = lead_on(rt, tasks, results, &mut leader, stop);
     if refused.is_some() {
         stop.tell();
         results.wake_all();

@@ -18,8 +18,8 @@ use std::alloc::Global;
 use std::sync::Wait;
 use std::thread;
 use std::thread::Threads;
-use tasks::{Done, Numbered, Task};
-use value_queue::QueueOf;
+use tasks::Task;
+use value_queue::{MsValueQueue, QueueOf};
 
 /// The greatest number of workers: the seats are 65,535 at most.
 const MOST_WORKERS: usize = 65_534;
@@ -75,6 +75,22 @@ pub fn line<N, A: Algorithm<B>, const B: u32>(
     Ok(Line { queue, seats })
 }
 
+// The line of a non-blocking queue of so many nodes, whose counts go up to the greatest one.
+fn lasting_line<N>(
+    alloc: Global,
+    nodes: u32,
+    workers: usize,
+) -> Result<Line<MsValueQueue<N>, Seat<N>>, Refusal>
+    requires some { 2 ≤ nodes }
+    requires few { nodes ≤ 16777214 }
+    requires workers { workers ≤ 65534 }
+    ensures line { IfOk result (IsLine IsQueueSeat permits_of known_by) }
+    ensures many { IfOk result (λ line. length line.seats.items ≡ workers + 1) }
+    ensures only_memory { IfErr result (λ refusal. refusal ≡ Refusal.Memory) }
+{
+    line::<N, NonBlockingAlgorithm, 24>(alloc, nodes, MOST_COUNT, workers)
+}
+
 // How many workers there are: as many as are asked for; else as many as run at once here, but for the caller's thread.
 fn workers_for<R: Threads>(rt: &R, asked: Option<usize>) -> usize
     ensures { result ≤ 65534 }
@@ -128,15 +144,11 @@ pub fn run_feed<R: Threads + Wait + Sync, T: Task, F: Feed<T>>(
 {
     let workers = workers_for(rt, workers);
     let nodes = nodes_for(room);
-    let tasks = match line::<Numbered<T>, NonBlockingAlgorithm, 24>(
-        alloc, nodes, MOST_COUNT, workers,
-    ) {
+    let tasks = match lasting_line(alloc, nodes, workers) {
         Ok(tasks) => tasks,
         Err(refusal) => return Err(Unstarted { refusal, feed }),
     };
-    let results = match line::<Done<Result<T::Output, T::Error>>, NonBlockingAlgorithm, 24>(
-        alloc, nodes, MOST_COUNT, workers,
-    ) {
+    let results = match lasting_line(alloc, nodes, workers) {
         Ok(results) => results,
         Err(refusal) => return Err(Unstarted { refusal, feed }),
     };

@@ -34,8 +34,8 @@ pub(crate) struct Unsendable<A> {
     pub(crate) end: End,
 }
 
-// Takes the next task, and sleeps while there is none; how the worker ends where none comes.
-fn take<R: Wait, C: Carrier>(
+/// Takes the next value, and sleeps while there is none; how the worker ends where none comes.
+pub(crate) fn take<R: Wait, C: Carrier>(
     rt: &R,
     queue: &BlockingCarrier<C>,
     seat: &mut C::Seat,
@@ -56,7 +56,8 @@ fn take<R: Wait, C: Carrier>(
     }
 }
 
-// Sends a result, and sleeps while there is no room for it; it comes back where it can't be sent.
+// Sends a result, and sleeps while there is no room for it. Where it can't be sent it comes back, and all are told to stop: who
+// hands out the tasks waits for no result then.
 fn send<R: Wait, A, D: Carrier<Item = Done<A>>>(
     rt: &R,
     queue: &BlockingCarrier<D>,
@@ -76,10 +77,14 @@ fn send<R: Wait, A, D: Carrier<Item = Done<A>>>(
             done: unsent.value,
             end: End::Stopped,
         }),
-        Err(Unpushed { refusal, value }) => Err(Unsendable {
-            done: value,
-            end: End::Refused(refusal),
-        }),
+        Err(Unpushed { refusal, value }) => {
+            stop.tell();
+            queue.wake_all();
+            Err(Unsendable {
+                done: value,
+                end: End::Refused(refusal),
+            })
+        }
     }
 }
 

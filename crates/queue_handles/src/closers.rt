@@ -1,16 +1,19 @@
 //! What shuts a queue where one of its sides ends.
 ghost use Rattle.std.specs.Prelude.{◌≡◌, IfErr, OnOk};
 ghost use Rattle.history.specs.Seats.{MayPush};
-ghost use Rattle.history.specs.Answers.{DidShut, PushRefused, StopsShut};
+ghost use Rattle.history.specs.Answers.{DidShut, PushRefused, StopsShut, EndsByTry};
 ghost use Rattle.blocking_queue.specs.Queues.{queue_of as queue_within};
 
+use crate::TURNS;
 use blocking_queue::BlockingQueue;
+use crossbeam_utils::Backoff;
 use history::{Fifo, Refusal};
 use std::alloc::Global;
 use std::sync::Arc;
 
-/// In how many turns the last handle of a side shuts the queue, at most.
-const TURNS: u32 = 65_536;
+/// How often the last handle of a side tries to shut the queue, at most. Between two tries other threads run: as one that has a
+/// lock, and that the system put aside.
+const TRIES: u32 = 65_536;
 
 /// Who shuts a queue, once, since that takes it. (A trait's: the `drop` of a side calls it, and the borrow checker covers no call
 /// there that rests on `Seat: Send`, but of a trait's methods.)
@@ -46,15 +49,23 @@ impl<Q: Fifo + Drop> Shuts for Closer<Q> {
 
     fn shut(self) -> (Result<(), Refusal>, Q::Seat)
         //= queues/ended (shut, refused, refusal, caused): A side's closer has shut its queue by one entry, or is refused, with
-        //=   the cause of a `try_shut` of 65,536 turns. That the drop of the side's last handle calls it, no clause says.
+        //=   the cause of a try of 8 turns. That the drop of the side's last handle calls it, and how often it tries, no clause
+        //=   says.
         ensures shut { OnOk result.0 (DidShut (Q.known (closer_seat self)) (Q.known result.1)) }
         ensures refused { IfErr result.0
             (λ refusal. PushRefused (Q.known (closer_seat self)) refusal (Q.known result.1)) }
         ensures refusal { IfErr result.0 StopsShut }
-        ensures caused { IfErr result.0
-            (Q.shut_cause (closer_queue self) (closer_seat self) result.1 65536) }
+        ensures caused { IfErr result.0 (EndsByTry Q.is_seat Q.known Q.shut_cause
+            (closer_queue self) (closer_seat self) result.1 8) }
     {
         let Closer { queue, mut seat } = self;
+        let backoff = Backoff::new();
+        for _ in 1..TRIES {
+            match queue.try_shut(&mut seat, TURNS) {
+                Err(Refusal::Busy) => backoff.snooze(),
+                answer => return (answer, seat),
+            }
+        }
         let answer = queue.try_shut(&mut seat, TURNS);
         (answer, seat)
     }

@@ -50,6 +50,8 @@ impl<T> RingQueue<T> {
                 TailLook::Room => return Ok(()),
                 TailLook::Full(tail) => {
                     if self.finds_full(seat, tail) {
+                        // (A value that isn't pushed leaves its slot, which is the seat's next one then.)
+                        seat.near = seat.near.wrapping_sub(1);
                         return Err(Refusal::NoNode);
                     }
                 }

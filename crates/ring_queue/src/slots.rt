@@ -69,8 +69,8 @@ impl<T> RingQueue<T> {
         Err(Refusal::Busy)
     }
 
-    /// Gets an empty slot for a seat that has none: one from where its last one lay, each by one compare-exchange of its flag. A
-    /// try that fails is a turn.
+    /// Gets an empty slot for a seat that has none: one from where its last push stopped on, each by one compare-exchange of its
+    /// flag. A try that fails is a turn.
     ///
     /// Refused by `Busy` alone, where so many turns failed. Takes no memory and doesn't wait.
     pub fn get_slot(&self, seat: &mut Seat<T>, turns: u32) -> Result<Got, Refusal>
@@ -89,9 +89,17 @@ impl<T> RingQueue<T> {
         ensures busy { IfErr result (λ _. FailedTries self.now.plan seat.old turns) }
     {
         let first = self.slot_of(seat.near);
-        let got = self.find_slot(seat, first, turns)?;
-        seat.near = got.slot as u64 + 1;
-        Ok(got)
+        match self.find_slot(seat, first, turns) {
+            Ok(got) => {
+                seat.near = got.slot as u64 + 1;
+                Ok(got)
+            }
+            Err(refusal) => {
+                // (The next call looks at other slots.)
+                seat.near = seat.near.wrapping_add(u64::from(turns));
+                Err(refusal)
+            }
+        }
     }
 
     /// Puts a value into the empty slot of a seat. Takes no memory and doesn't wait.

@@ -52,8 +52,8 @@ impl<T: Send> Carrier for RingValues<T> {
     ghost seat_prop = { λ q s. IsQueueSeat-prop q s };
 
     /// Refusals: those of a push of a number, with their causes; and `Busy` also where turns failed at slots that others have: a push
-    /// tries the slot behind its seat's last one, and then the next ones, a turn each. A slot is used again as soon as the pop of
-    /// its value has taken that out. Takes no memory and doesn't wait.
+    /// tries slots one after another, a turn each, from where its seat's last push stopped, so that one that is tried again comes to
+    /// each slot. A slot is used again as soon as the pop of its value has taken that out. Takes no memory and doesn't wait.
     fn try_push(&self, seat: &mut Seat<T>, value: T, turns: u32) -> Result<(), Unpushed<T>>
         requires seat { IsQueueSeat self.now seat.old }
         requires role { MayPush (permits_of self.now) (known_by seat.old).number }

@@ -111,7 +111,7 @@ module _ {T : Type 0} (worn : WornWord → Option Held → Type 0) (r : Arena) (
       by_cause (WornOut OfFree) x = x
       by_cause _ x = absurd x
 
-  module _ (u v : Seat T) (held : Held) (spent : ℕ) (h : HasNode r s u turns (Ok (held, spent))) where
+  module _ (u v : Seat T) (held : Held) (spent : ℕ) (h : HasNode r s u turns (Ok (held, spent))) (first : ℕ) where
     -- since then a seat knows the same
     seen_since : KeepsKnown u v → SeesMore (known_of s) (known_of v)
     seen_since k = subst (λ (w : SeatView). SeesMore (known_of s) (seeing.known_by w)) (sym k.view) (sees_on (view s) (view u) (added s u) h.lines)
@@ -119,11 +119,11 @@ module _ {T : Type 0} (worn : WornWord → Option Held → Type 0) (r : Arena) (
     more_since : KeepsKnown u v → SeesMoreDeeds s v
     more_since k = record { between = h.slots.more.between; deeds = k.deeds ∙ h.slots.more.deeds }
 
-    missed_since : (tries : ℕ) → FailedTries r u held.node tries → MissedSlots r s tries
-    missed_since tries missed = record { seat = u; more = sees_on (view s) (view u) (added s u) h.lines; node = held.node; missed = missed }
+    missed_since : (tries : ℕ) → FailedTries r u first tries → MissedSlots r s tries
+    missed_since tries missed = record { seat = u; more = sees_on (view s) (view u) (added s u) h.lines; node = first; missed = missed }
 
     -- there was no slot
-    pub no_slot : (refusal : Refusal) → IsReady r v → KeepsKnown u v → (refusal ≡ Busy) × HasNoSlot v → FailedTries r u held.node (turns - spent)
+    pub no_slot : (refusal : Refusal) → IsReady r v → KeepsKnown u v → (refusal ≡ Busy) × HasNoSlot v → FailedTries r u first (turns - spent)
         → AnswersPush worn r s v value turns (Err (back_with refusal value))
     no_slot refusal ready k its missed =
         let busy : Busy ≡ refusal = sym its.0 in
@@ -145,7 +145,7 @@ module _ {T : Type 0} (worn : WornWord → Option Held → Type 0) (r : Arena) (
           );
         }
 
-    module _ (got : Got) (k : KeepsKnown u v) (has : HasSlot r v got.slot (Some value)) (missed : FailedTries r u held.node got.failed) (body : ℕ) where
+    module _ (got : Got) (k : KeepsKnown u v) (has : HasSlot r v got.slot (Some value)) (missed : FailedTries r u first got.failed) (body : ℕ) where
       same_name : KeepsName u v
       same_name = record { number = k.stored.number; role = k.stored.role; keeps = k.stored.keeps }
 

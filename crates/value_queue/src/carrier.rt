@@ -7,6 +7,7 @@ use arena_queue::Algorithm;
 use carriers::{Carrier, ItemOf, Unpushed};
 use history::Refusal;
 use node_arena::Seat;
+use std::sync::atomic::Ordering::Relaxed;
 
 // A refusal as the answer of a pop. It is a function of its own, since a refusal that is written where a value may stand would
 // have LLVM move each value in parts.
@@ -52,9 +53,10 @@ impl<T: Send, A: Algorithm<B>, const B: u32> Carrier for QueueOf<T, A, B> {
     ghost seat_prop = { λ q s. IsQueueSeat-prop (arena_of q) s };
 
     /// Refusals: those of a push of a number, with their causes; and `Busy` also where turns failed at slots that others
-    /// have: a push tries the slot of its node's number, and then the next ones, a turn each. A slot is used again as soon
-    /// as the pop of its value has taken that out. A node that the call got stays in the seat's pocket, unless the
-    /// algorithm says otherwise. Takes no memory and doesn't wait.
+    /// have: a push tries slots one after another, a turn each, from that of its node's number on. Every second one that is
+    /// tried again after that begins behind the slots that were tried before, so that it comes to each slot. A slot is used
+    /// again as soon as the pop of its value has taken that out. A node that the call got stays in the seat's pocket, unless
+    /// the algorithm says otherwise. Takes no memory and doesn't wait.
     fn try_push(&self, seat: &mut Seat<T>, value: T, turns: u32) -> Result<(), Unpushed<T>>
         requires seat { IsQueueSeat self.now seat.old }
         requires role { MayPush (permits_of self.now) (known_by seat.old).number }
@@ -82,10 +84,16 @@ impl<T: Send, A: Algorithm<B>, const B: u32> Carrier for QueueOf<T, A, B> {
             Ok(node) => node,
             Err(refusal) => return unpushed(refusal, value),
         };
-        let got = match self.arena.get_slot(seat, held.node, turns - spent) {
+        let moved = self.moved.load(Relaxed);
+        let first = self.first_slot(held.node, moved);
+        let got = match self.arena.get_slot(seat, first, turns - spent) {
             Ok(got) => got,
-            Err(refusal) => return unpushed(refusal, value),
+            Err(refusal) => {
+                self.move_on(moved, turns - spent);
+                return unpushed(refusal, value);
+            }
         };
+        self.settle(moved);
         self.arena.put_value(seat, got.slot, value);
         match A::push_with_node(
             &self.arena,

@@ -75,6 +75,7 @@ impl<T, A: Algorithm<B>, const B: u32> QueueOf<T, A, B> {
         let QueueOf {
             arena,
             algorithm: _,
+            moved: _,
         } = self;
         arena.close_values(numbers, slots, seats)
     }

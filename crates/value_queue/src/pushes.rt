@@ -11,6 +11,7 @@ use carriers::Unpushed;
 use free_list::take;
 use history::{Body, Refusal};
 use node_arena::{Held, Seat};
+use std::sync::atomic::Ordering::Relaxed;
 
 // The number of a slot, as what is pushed.
 pub(crate) fn body_of(slot: usize) -> Body
@@ -36,6 +37,44 @@ impl<T, A: Algorithm<B>, const B: u32> QueueOf<T, A, B> {
                 let held = take(&self.arena, seat, turns)?;
                 Ok((held, seat.failed()))
             }
+        }
+    }
+
+    // Where a push of this node looks for a slot first: at that of its number; of pushes that are tried again every second one elsewhere.
+    pub(crate) fn first_slot(&self, node: u32, moved: u64) -> u32 {
+        if moved % 2 == 0 {
+            return node;
+        }
+        let slots = u64::from(self.arena.setup().size);
+        let slot = u64::from(node).wrapping_add(moved / 2);
+        if slot < slots {
+            slot as u32
+        } else {
+            u32::try_from(slot - slots).unwrap_or(0)
+        }
+    }
+
+    // After a push that tried so many slots in vain the next one looks elsewhere, behind those that were tried so far, or at its node's
+    // slot again, by turns. (Where another push was done or failed meanwhile, that will do.)
+    #[cold]
+    #[inline(never)]
+    pub(crate) fn move_on(&self, moved: u64, failed: u32) {
+        let failed = u64::from(failed);
+        let behind = moved / 2;
+        let next = if moved % 2 == 0 {
+            behind.max(failed).wrapping_mul(2).wrapping_add(1)
+        } else if behind.wrapping_add(failed) < u64::from(self.arena.setup().size) {
+            behind.wrapping_add(failed).wrapping_mul(2)
+        } else {
+            0
+        };
+        let _ = self.moved.compare_exchange(moved, next, Relaxed, Relaxed);
+    }
+
+    // After a push that found a slot the next one looks at its node's.
+    pub(crate) fn settle(&self, moved: u64) {
+        if moved != 0 {
+            self.moved.store(0, Relaxed);
         }
     }
 

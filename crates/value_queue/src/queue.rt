@@ -12,6 +12,7 @@ use node_arena::{ArenaOf, Role, Seat};
 use nonblocking::NonBlockingAlgorithm;
 use std::alloc::Global;
 use std::marker::PhantomData;
+use std::sync::atomic::AtomicU64;
 use two_lock::TwoLockAlgorithm;
 
 /// A queue of values that runs an algorithm on an arena whose slots hold them. Threads share it by reference, each with a
@@ -22,6 +23,8 @@ use two_lock::TwoLockAlgorithm;
 pub struct QueueOf<T, A: Algorithm<B>, const B: u32> {
     pub(crate) arena: ArenaOf<B, T>,
     pub(crate) algorithm: PhantomData<A>,
+    // Where the next push looks for a slot first: if it is odd, half of it behind that of its node's number. 0 unless a push failed.
+    pub(crate) moved: AtomicU64,
     ghost runs: { IsOfKind arena A.kind },
     ghost carries: { carries_of arena ≡ true },
 }
@@ -80,6 +83,7 @@ impl<T, A: Algorithm<B>, const B: u32> QueueOf<T, A, B> {
             QueueOf {
                 arena,
                 algorithm: PhantomData,
+                moved: AtomicU64::new(0),
             },
             seats,
         ))

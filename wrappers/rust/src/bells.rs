@@ -74,7 +74,7 @@ impl Bell {
         }
     }
 
-    fn listen(&self) -> u32 {
+    pub fn listen(&self) -> u32 {
         self.listeners.fetch_add(1, SeqCst);
         self.rings.load(SeqCst)
     }
@@ -202,9 +202,9 @@ impl Bells {
         self.popped(code);
     }
 
-    /// After a pop, which may have given a node back also where it took no value.
+    /// After a pop, which may have given back two nodes, of which one waited in its seat, also where it took no value.
     pub fn popped(&self, code: u32) {
-        self.nodes.ring(1);
+        self.nodes.ring(2);
         self.tell_end(code);
     }
 

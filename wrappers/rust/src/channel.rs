@@ -15,8 +15,9 @@
 //! ```
 //!
 //! A value of up to 24 bytes, aligned to 8 at most, as a `String` or a `Box`, lies in the channel itself; any other, and over a ring
-//! each, is in a box. Values of one thread come in its order, each once, and what is left is dropped with the last end. How long a
-//! channel lasts docs/QUEUES.md says of its queue, up to 65,469 places for years; one that is worn out refuses sends as disconnected.
+//! each, is in a box. Values of one thread come in its order, each once, and what is left is dropped with the last receiver. How long a
+//! channel lasts docs/QUEUES.md says of its queue, up to 65,469 places for years; one that is worn out refuses sends as disconnected,
+//! and what is left of it is dropped with the last end.
 use crate::bells::{after, Deadline};
 use crate::pooled::{Pooled, THREADS};
 use crate::{Kind, Refusal};
@@ -344,7 +345,8 @@ pub fn bounded_for<T: Send>(
 }
 
 /// As [`bounded_for`], over a queue of this kind: a ring takes the least time, and of a ring a thread that stops in a push holds up
-/// those that pop.
+/// those that pop, and the last receiver that is dropped; over a two-lock queue it holds up those that push, and the last end of a
+/// side that is dropped.
 ///
 /// ```
 /// let (sender, receiver) = msq::channel::bounded_of(msq::Kind::Ring, 2, 8).unwrap();
@@ -394,7 +396,16 @@ pub struct Sender<T> {
 }
 
 /// The receiving end of a channel. A clone is a further one: each value comes to one of them. With the last one that is dropped
-/// sends end, and what is in the channel is dropped with the last end of all.
+/// sends end, and what is in the channel is dropped.
+///
+/// ```
+/// use msq::channel::{bounded, RecvError};
+/// let (asks, asked) = bounded(8).unwrap();
+/// let (answers, answered) = bounded::<u32>(1).unwrap();
+/// asks.send(answers).unwrap();
+/// drop(asked); // and with it the other channel's sender
+/// assert_eq!(answered.recv(), Err(RecvError));
+/// ```
 pub struct Receiver<T> {
     shared: Arc<Shared<T>>,
 }
@@ -567,7 +578,7 @@ impl<T> Receiver<T> {
 
 // What both ends tell of the channel.
 macro_rules! ends {
-    ($end:ident, $count:ident, $other:ident) => {
+    ($end:ident, $count:ident, $other:ident, $last:expr) => {
         impl<T> $end<T> {
             /// How many values the channel held, at a moment of the call, at least; 0 over a two-lock queue, which counts none.
             ///
@@ -583,7 +594,7 @@ macro_rules! ends {
                 })
             }
 
-            /// Whether the channel is empty.
+            /// Whether the channel is empty. Of a ring without a sender, or a receiver, it waits while the push at its front hasn't ended.
             ///
             /// ```
             /// let (sender, receiver) = msq::channel::bounded(8).unwrap();
@@ -645,6 +656,7 @@ macro_rules! ends {
                 if self.shared.$count.fetch_sub(1, SeqCst) == 1 {
                     // (refused where the other side was gone before, or a word is worn: it is then at its end too)
                     let _ = self.shared.queue.shut();
+                    $last(&self.shared);
                 }
             }
         }
@@ -657,13 +669,25 @@ macro_rules! ends {
     };
 }
 
-ends!(Sender, senders, Receiver);
-ends!(Receiver, receivers, Sender);
+// Drops the values that no receiver takes any more.
+fn drain<T>(shared: &Shared<T>) {
+    while let Ok(Some(value)) = shared.queue.try_pop() {
+        drop(value);
+    }
+}
+
+ends!(Sender, senders, Receiver, |_| ());
+ends!(Receiver, receivers, Sender, drain);
 
 /// The values that come to a [`Receiver`], until all senders are gone.
-#[derive(Debug)]
 pub struct Iter<'a, T> {
     receiver: &'a Receiver<T>,
+}
+
+impl<T> fmt::Debug for Iter<'_, T> {
+    fn fmt(&self, f: &mut fmt::Formatter<'_>) -> fmt::Result {
+        f.pad("Iter { .. }")
+    }
 }
 
 impl<T> Iterator for Iter<'_, T> {
@@ -677,9 +701,14 @@ impl<T> Iterator for Iter<'_, T> {
 impl<T> FusedIterator for Iter<'_, T> {}
 
 /// The values that are there for a [`Receiver`], until the channel is found empty.
-#[derive(Debug)]
 pub struct TryIter<'a, T> {
     receiver: &'a Receiver<T>,
+}
+
+impl<T> fmt::Debug for TryIter<'_, T> {
+    fn fmt(&self, f: &mut fmt::Formatter<'_>) -> fmt::Result {
+        f.pad("TryIter { .. }")
+    }
 }
 
 impl<T> Iterator for TryIter<'_, T> {
@@ -691,9 +720,14 @@ impl<T> Iterator for TryIter<'_, T> {
 }
 
 /// The values that come to a [`Receiver`] that is then no more, until all senders are gone.
-#[derive(Debug)]
 pub struct IntoIter<T> {
     receiver: Receiver<T>,
+}
+
+impl<T> fmt::Debug for IntoIter<T> {
+    fn fmt(&self, f: &mut fmt::Formatter<'_>) -> fmt::Result {
+        f.pad("IntoIter { .. }")
+    }
 }
 
 impl<T> Iterator for IntoIter<T> {

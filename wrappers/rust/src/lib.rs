@@ -5,7 +5,8 @@
 //! queue of boxes that is worn is dropped. Threads that come and go each have a clone of a [`SeatPool`], and lease its seats.
 //!
 //! Where no thread is to have a seat of its own, a [`Queue`] passes values of any type that may go to another thread, which any
-//! thread pushes and pops, and [`channel::bounded`] makes a channel, as crossbeam-channel does.
+//! thread pushes and pops, and [`channel::bounded`] makes a channel, as crossbeam-channel does. These take memory as they are made, for
+//! a value that lies in a box, and where one is dropped that is worn.
 //!
 //! ```
 //! let (mut senders, mut receivers) = msq::queue(msq::Kind::NonBlocking, 64, 1, 1).unwrap();

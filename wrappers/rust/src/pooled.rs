@@ -5,6 +5,8 @@ use crate::raw::Words;
 use crate::{answer, raw, Kind, Length, Refusal};
 use std::cell::{Cell, UnsafeCell};
 use std::marker::PhantomData;
+use std::mem;
+use std::panic::{RefUnwindSafe, UnwindSafe};
 use std::sync::atomic::Ordering::SeqCst;
 use std::sync::atomic::{AtomicBool, AtomicUsize};
 use std::thread;
@@ -34,6 +36,9 @@ pub struct Pooled<T> {
 unsafe impl<T: Send> Send for Pooled<T> {}
 // SAFETY: a seat is used by the call alone that leased it, and a value goes from one thread to another, to whom alone it is then.
 unsafe impl<T: Send> Sync for Pooled<T> {}
+// No code of a user's runs while a seat is leased, and a lease ends where a call panics.
+impl<T> UnwindSafe for Pooled<T> {}
+impl<T> RefUnwindSafe for Pooled<T> {}
 
 // The place where this thread begins to look for a seat.
 fn first_place() -> usize {
@@ -91,44 +96,44 @@ impl<T> Pooled<T> {
         self.capacity
     }
 
-    fn lease(&self) -> Leased<'_> {
-        let first = first_place() % self.places.len();
-        loop {
-            let (before, behind) = self.places.split_at(first);
-            let mut places = behind.iter().chain(before);
-            if let Some(place) = places.find(|place| !place.leased.swap(true, SeqCst)) {
-                return Leased { place };
-            }
-            thread::yield_now();
-        }
+    // A seat that no other call has; none where each was found leased.
+    fn lease(&self) -> Option<Leased<'_>> {
+        let (before, behind) = self.places.split_at(first_place() % self.places.len());
+        let mut places = behind.iter().chain(before);
+        let place = places.find(|place| !place.leased.swap(true, SeqCst))?;
+        Some(Leased { place })
     }
 
-    // A call by a leased seat.
-    fn call(&self, call: impl FnOnce(*mut raw::Seat) -> u32) -> u32 {
-        let leased = self.lease();
-        call(leased.place.seat.get())
+    // A call by a leased seat; busy, with nothing done, where other calls have all seats.
+    fn call(&self, call: impl FnOnce(*mut raw::Seat) -> u32) -> Result<u32, Refusal> {
+        let leased = self.lease().ok_or(Refusal::Busy)?;
+        Ok(call(leased.place.seat.get()))
     }
 
-    // Places for words are tried one a turn, from that of the seat's node on: so a push that is busy has twice the turns, until each
-    // place was tried.
-    fn push_once(&self, words: &Words) -> Result<(), Refusal> {
+    // Places for words are tried one a turn: so a push that is busy, and has no time, has twice the turns, until each place was tried.
+    fn push_once(&self, words: &Words, until: Deadline) -> Result<(), Refusal> {
+        let most = if until.is_some() { TURNS } else { self.nodes };
         let mut turns = TURNS;
         loop {
             // SAFETY: the seat is full, and leased by this call alone.
-            let code = self.call(|seat| unsafe { self.passing.push(seat, words, turns) });
-            if code != raw::BUSY || turns >= self.nodes {
-                return self.bells.pushed(code);
+            match self.call(|seat| unsafe { self.passing.push(seat, words, turns) }) {
+                Ok(raw::BUSY) if turns < most => turns = turns.saturating_mul(2),
+                Ok(code) => return self.bells.pushed(code),
+                Err(refusal) if until.is_some() => return Err(refusal),
+                Err(_) => {}
             }
             thread::yield_now();
-            turns = turns.saturating_mul(2);
         }
     }
 
     fn pop_once(&self) -> Result<Option<T>, Refusal> {
         let mut words = Words::of(());
         // SAFETY: as for a push.
-        let code = self.call(|seat| unsafe { self.passing.pop(seat, &mut words, TURNS) });
-        self.bells.popped(code);
+        let code = self.call(|seat| unsafe { self.passing.pop(seat, &mut words, TURNS) })?;
+        // (a pop that was busy took no value, and there is room for `capacity` of them beside the nodes that wait in seats)
+        if code != raw::BUSY {
+            self.bells.popped(code);
+        }
         if code == raw::EMPTY {
             return Ok(None);
         }
@@ -155,7 +160,7 @@ impl<T> Pooled<T> {
     /// Pushes a value, and tries again while others are in the way; refused `NoNode` where the queue is full.
     pub fn try_push(&self, value: T) -> Result<(), (Refusal, T)> {
         self.push(value, |words| loop {
-            match self.push_once(words) {
+            match self.push_once(words, None) {
                 Err(Refusal::Busy) => thread::yield_now(),
                 answer => return answer,
             }
@@ -168,7 +173,7 @@ impl<T> Pooled<T> {
             let pushed = self
                 .bells
                 .nodes()
-                .wait(until, || match self.push_once(words) {
+                .wait(until, || match self.push_once(words, until) {
                     Err(Refusal::NoNode) => Ok(None),
                     answer => answer.map(Some),
                 })?;
@@ -195,8 +200,8 @@ impl<T> Pooled<T> {
     pub fn shut(&self) -> Result<(), Refusal> {
         loop {
             // SAFETY: as for a push.
-            let code = self.call(|seat| unsafe { self.passing.shut(seat, TURNS) });
-            match self.bells.shut(code) {
+            let told = self.call(|seat| unsafe { self.passing.shut(seat, TURNS) });
+            match told.and_then(|code| self.bells.shut(code)) {
                 Err(Refusal::Busy) => thread::yield_now(),
                 answer => return answer,
             }
@@ -206,12 +211,18 @@ impl<T> Pooled<T> {
     /// Bounds of how many values the queue holds; none of the two-lock queue.
     pub fn len(&self) -> Option<Length> {
         let mut len = raw::Length { least: 0, most: 0 };
-        // SAFETY: as for a push.
-        let code = self.call(|seat| unsafe { self.passing.len(seat, &mut len) });
-        (code == raw::OK).then_some(Length {
-            least: len.least,
-            most: len.most,
-        })
+        loop {
+            // SAFETY: as for a push.
+            match self.call(|seat| unsafe { self.passing.len(seat, &mut len) }) {
+                Err(_) => thread::yield_now(),
+                Ok(code) => {
+                    return (code == raw::OK).then_some(Length {
+                        least: len.least,
+                        most: len.most,
+                    })
+                }
+            }
+        }
     }
 
     /// Whether the queue held no value, at a moment of the call; looks again where pops took effect meanwhile.
@@ -219,27 +230,77 @@ impl<T> Pooled<T> {
         loop {
             // SAFETY: as for a push.
             match self.call(|seat| unsafe { self.passing.emptiness(seat) }) {
-                raw::BUSY => thread::yield_now(),
-                code => return code != raw::OK,
+                Err(_) | Ok(raw::BUSY) => thread::yield_now(),
+                Ok(code) => return code != raw::OK,
             }
+        }
+    }
+}
+
+impl<T> Pooled<T> {
+    // Drops what is left where a word is worn, so that pops ended before the queue was empty: a close gives it, and takes memory.
+    fn drop_rest(&self, places: &mut [Place]) {
+        let taken = |place: &mut Place| mem::replace(place.seat.get_mut(), raw::Seat::EMPTY);
+        let mut seats: Vec<raw::Seat> = places.iter_mut().map(taken).collect();
+        for words in self.passing.closed(&mut seats, self.nodes) {
+            drop(self.unpacked(words));
+        }
+        for (place, seat) in places.iter_mut().zip(seats) {
+            *place.seat.get_mut() = seat;
         }
     }
 }
 
 impl<T> Drop for Pooled<T> {
     fn drop(&mut self) {
-        while let Ok(Some(value)) = self.try_pop() {
-            drop(value);
+        let is_worn = loop {
+            match self.try_pop() {
+                Ok(Some(value)) => drop(value),
+                told => break !matches!(told, Ok(None) | Err(Refusal::Closed)),
+            }
+        };
+        let mut places = mem::take(&mut self.places);
+        if is_worn {
+            self.drop_rest(&mut places);
         }
-        // (where a word is worn pops end before the queue is empty, but not the close)
-        let places = self.places.drain(..);
-        let mut seats: Vec<raw::Seat> = places.map(|place| place.seat.into_inner()).collect();
-        for words in self.passing.closed(&mut seats, self.nodes) {
-            drop(self.unpacked(words));
-        }
-        for seat in &mut seats {
+        for place in &mut places {
             // SAFETY: the seat is what the last call left, and in no call.
-            unsafe { self.passing.drop(seat) }
+            unsafe { self.passing.drop(place.seat.get_mut()) }
         }
+    }
+}
+
+#[cfg(test)]
+mod tests {
+    use super::Pooled;
+    use crate::bells::after;
+    use crate::{channel, Kind, Queue, Refusal};
+    use std::cell::Cell;
+    use std::panic::{RefUnwindSafe, UnwindSafe};
+    use std::time::{Duration, Instant};
+
+    #[test]
+    fn queues_and_channels_go_through_a_catch_of_a_panic() {
+        fn is_safe<T: UnwindSafe + RefUnwindSafe>() {}
+        is_safe::<Queue<Cell<u8>>>();
+        is_safe::<channel::Sender<Cell<u8>>>();
+        is_safe::<channel::Receiver<Cell<u8>>>();
+    }
+
+    #[test]
+    fn a_call_ends_with_its_time_though_others_have_all_seats() {
+        let queue = Pooled::new(Kind::NonBlocking, 4, 1).unwrap();
+        let leased = queue.lease();
+        assert!(leased.is_some() && queue.lease().is_none());
+        let time = Duration::from_millis(20);
+        let began = Instant::now();
+        let heard = queue.bells.nodes().listen();
+        assert_eq!(queue.pop_until(after(time)), Err(Refusal::Busy));
+        assert_eq!(queue.bells.nodes().listen(), heard, "it wakes nobody");
+        assert_eq!(queue.push_until(7, after(time)), Err((Refusal::Busy, 7)));
+        assert!(began.elapsed() >= 2 * time);
+        drop(leased);
+        assert_eq!(queue.push_until(7, after(time)), Ok(()));
+        assert_eq!(queue.pop_until(after(time)), Ok(Some(7)));
     }
 }

@@ -213,7 +213,8 @@ impl<T> Queue<T> {
         self.queue.len()
     }
 
-    /// Whether the queue held no value at a moment of the call.
+    /// Whether the queue held no value at a moment of the call. Of a ring that is closed it waits while the push at its front hasn't
+    /// ended.
     ///
     /// ```
     /// let queue = msq::Queue::new(8).unwrap();

@@ -42,7 +42,7 @@ pub struct Value {
     pub from: u16,
 }
 
-/// Three words, with the bytes of a value of any type that they have room for; the others are zeros.
+/// Three words, with the bytes of a value of any type that they have room for; those behind it are zeros.
 #[repr(transparent)]
 #[derive(Clone, Copy)]
 pub struct Words(MaybeUninit<[u64; 3]>);

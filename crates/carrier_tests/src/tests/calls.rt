@@ -6,6 +6,7 @@ use carriers::{Carrier, ItemOf, Unpushed};
 use history::Refusal;
 use std::fmt::Debug;
 use std::process::Abort;
+use std::sync::Wait;
 
 /// How many turns each call has.
 const TURNS: u32 = 3;
@@ -26,6 +27,25 @@ pub fn push<C: Carrier>(
         });
     }
     queue.try_push(seat, value, TURNS)
+}
+
+/// Pushes a value, and tries again while slots are in the way. A seat that may not push answers `BadSize`, which no queue does.
+pub fn push_in_the_end<R: Wait, C: Carrier>(
+    rt: &R,
+    queue: &C,
+    seat: &mut C::Seat,
+    value: C::Item,
+) -> Result<(), Unpushed<C::Item>>
+    requires { C.is_seat queue.now seat.old }
+    ensures { C.is_seat queue.now seat.new }
+{
+    if !queue.may_push(seat) {
+        return Err(Unpushed {
+            refusal: Refusal::BadSize,
+            value,
+        });
+    }
+    queue.push(rt, seat, value)
 }
 
 /// The value at the front, with its pusher. A seat that may not pop answers `BadSize`, which no queue does.

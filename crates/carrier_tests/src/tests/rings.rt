@@ -3,11 +3,11 @@ ghost use Rattle.std.specs.Prelude.{◌≡◌, IfOk, length};
 ghost use Rattle.std.specs.List.{All};
 ghost use Rattle.ring_values.specs.Queues.{IsQueueSeat, permits_of};
 
-use super::calls::{last, pop, push, same};
+use super::calls::{last, pop, push, push_in_the_end, same};
 use super::handed::{goes, texts, texts_are_left};
 use super::memory::{Counted, mark};
 use super::whole::{Ticket, told};
-use carriers::{CloseCarrier, ItemOf};
+use carriers::{CloseCarrier, ItemOf, Unpushed};
 use history::{Refusal, Unclosed};
 use ring_queue::{Role, Seat};
 use ring_values::{LeftValues, RingValues};
@@ -19,6 +19,9 @@ const MOST_PLACE: u64 = (1 << 62) - 1;
 
 /// How many values go through where they are many.
 const ROUNDS: u64 = 1000;
+
+/// How many values a ring of 64 slots has room for beside two reserves of one place.
+const FULL: u32 = 62;
 
 /// Room for all slots of a ring of two values and one seat.
 const ROOM: usize = 6;
@@ -72,6 +75,64 @@ fn slots_of_a_ring_are_used_again(rt: HostRuntime) -> Result<(), Fail> {
             return Err(Fail::from("no text"));
         };
         same(&rt, item.value, format!(in rt.alloc(); "{i}")?);
+    }
+    Ok(())
+}
+
+/// A seat comes to a slot though another one's values lie where it looks first.
+#[test]
+fn a_seat_looks_on_for_a_slot_in_a_ring(rt: HostRuntime) -> Result<(), Fail> {
+    let roles = [Role::Taker, Role::Giver, Role::Giver];
+    let (queue, mut seats) = RingValues::<u64>::new(
+        rt.alloc(),
+        ROUNDS as u32,
+        1,
+        MOST_PLACE,
+        &roles,
+    )?;
+    let mut second = last(&queue, &mut seats)?;
+    let mut first = last(&queue, &mut seats)?;
+    let mut taker = last(&queue, &mut seats)?;
+    for i in 0..ROUNDS / 2 {
+        same(&rt, push(&queue, &mut first, i).is_ok(), true);
+    }
+    for i in ROUNDS / 2..ROUNDS {
+        let pushed = push_in_the_end(&rt, &queue, &mut second, i);
+        same(&rt, pushed.is_ok(), true);
+    }
+    for i in 0..ROUNDS {
+        let Ok(Some(item)) = pop(&queue, &mut taker) else {
+            return Err(Fail::from("no value"));
+        };
+        same(&rt, item.value, i);
+    }
+    Ok(())
+}
+
+/// A full ring says so each time, to each seat.
+#[test]
+fn a_full_ring_of_values_says_so(rt: HostRuntime) -> Result<(), Fail> {
+    let roles = [Role::Giver, Role::Giver];
+    let (queue, mut seats) = RingValues::<u64>::new(rt.alloc(), FULL, 1, MOST_PLACE, &roles)?;
+    let mut second = last(&queue, &mut seats)?;
+    let mut first = last(&queue, &mut seats)?;
+    let mut pushed = 0;
+    for i in 0..ROUNDS {
+        if push_in_the_end(&rt, &queue, &mut first, i).is_ok() {
+            pushed = i + 1;
+        }
+    }
+    same(&rt, pushed, u64::from(FULL));
+    for i in 0..ROUNDS {
+        match push_in_the_end(&rt, &queue, &mut second, i) {
+            Err(
+                Unpushed {
+                    refusal: Refusal::NoNode,
+                    value,
+                },
+            ) => same(&rt, value, i),
+            _ => return Err(Fail::from("it isn't full")),
+        }
     }
     Ok(())
 }

@@ -1,12 +1,14 @@
 //! Pools that are fed: tasks are asked for as there is room for them, and each result is told as it comes.
 use super::counted_tasks::{Calls, Counting, Third, calls, others, same, task_of, wanted};
-use fed_pool::{Fed, Feed, run_feed};
+use fed_pool::{Fed, Feed, Unfed, line, run_fed, run_feed};
 use history::Refusal;
+use node_arena::MOST_COUNT;
+use nonblocking::NonBlockingAlgorithm;
 use std::alloc::Global;
 use std::sync::{Arc, Wait};
 use std::test::Fail;
 use std::thread::Threads;
-use tasks::{Done, End, Task};
+use tasks::{Done, End, Numbered, Task};
 
 /// So many tasks, one after another; how many results were told, and how many of them weren't their task's own.
 #[derive(Drop)]
@@ -58,6 +60,9 @@ impl Feed<Counting> for Row {
     }
 }
 
+/// How many tasks there are where results wear out.
+const ROW: u64 = 500;
+
 /// How many tasks there are, how many workers, and for how many tasks there is room.
 const ROWS: [(u64, Option<usize>, u32); 9] = [
     (0, None, 1),
@@ -82,6 +87,45 @@ fn rows_are_told_once(rt: HostRuntime) -> Result<(), Fail> {
         same(&rt, found, (most, 0, 0), (most, workers, room));
         let ended = fed.ends.iter().filter(|end| **end == End::Finished).count();
         same(&rt, ended, fed.ends.len(), "each worker finished");
+    }
+    Ok(())
+}
+
+/// Where a word of the queue of results wears out, all threads end, and each task's own result was told, or it comes back unrun.
+#[test]
+fn a_fed_pool_ends_where_results_wear_out(rt: HostRuntime) -> Result<(), Fail> {
+    for limit in [1, 2, 3, 20, 201] {
+        let calls = calls(rt.alloc(), ROW)?;
+        let row = Row::new(Arc::try_clone(&calls)?, ROW);
+        let tasks = line::<Numbered<Counting>, NonBlockingAlgorithm, 24>(
+            rt.alloc(),
+            64,
+            MOST_COUNT,
+            3,
+        )?;
+        let results = line::<Done<Result<u64, Third>>, NonBlockingAlgorithm, 24>(
+            rt.alloc(),
+            8,
+            limit,
+            3,
+        )?;
+        match run_fed(&rt, rt.alloc(), row, tasks, results) {
+            Ok(mut fed) => {
+                let back = fed.left.by_ref().count() as u64;
+                let found = (fed.feed.told + back, fed.feed.wrong);
+                same(&rt, found, (fed.feed.given, 0), limit);
+                let unsent = fed.ends.iter().any(|end| matches!(end, End::Refused(_)));
+                same(&rt, unsent && fed.refused.is_none(), false, limit);
+            }
+            Err(unfed) => {
+                let Unfed {
+                    feed: _,
+                    tasks: _,
+                    results: _,
+                } = unfed;
+                return Err(Fail::from(Refusal::Memory));
+            }
+        }
     }
     Ok(())
 }

@@ -48,6 +48,33 @@ fn the_last_sender_that_goes_ends_a_ring(rt: HostRuntime) -> Result<(), Fail> {
     Ok(())
 }
 
+/// A sender of a ring sends though another one's letters lie where it looks for a slot first.
+#[test]
+fn senders_of_a_ring_look_on_for_a_slot(rt: HostRuntime) -> Result<(), Fail> {
+    let alloc = rt.alloc();
+    let (_office, mut senders, mut receivers) = PostOffice::<Ring>::open_ring(alloc, 200, 2, 1)?;
+    let (Some(mut second), Some(mut first), Some(mut receiver)) = (
+        senders.pop(),
+        senders.pop(),
+        receivers.pop(),
+    ) else {
+        return Ok(());
+    };
+    for _ in 0..100 {
+        first.send(&rt, text(alloc, "a")?)?;
+    }
+    for _ in 0..100 {
+        second.send(&rt, text(alloc, "b")?)?;
+    }
+    let mut from_each = [0u64; 2];
+    for _ in 0..200 {
+        let letter = receiver.recv(&rt)?;
+        from_each[if letter.value.as_str() == "a" { 0 } else { 1 }] += 1;
+    }
+    assert_eq!(rt; from_each, [100, 100]);
+    Ok(())
+}
+
 #[test]
 fn sizes_of_a_ring_out_of_range_are_refused(rt: HostRuntime) -> Result<(), Fail> {
     for (senders, receivers) in [(32_765, 0), (20_000, 20_000), (usize::MAX, usize::MAX)] {

@@ -1,7 +1,9 @@
 //! Who sleeps is woken, and no call ends before its time.
 use super::common::{AMPLE_COUNT, EACH, EARLY, FIVE, LONG, PAUSE, got, now, pause, sent, took};
+use arena_queue::{Algorithm, ArenaQueue};
 use blocking_queue::{BlockingQueue, InTime};
 use history::{Body, Fifo, Refusal, WornWord};
+use node_arena::Seat;
 use nonblocking::MsQueue;
 use std::process::Abort;
 use std::sync::Wait;
@@ -59,6 +61,20 @@ fn pops_one_late<R: Wait + Clock, Q: Fifo>(
     queue: &BlockingQueue<Q>,
     mut seat: Q::Seat,
 ) -> Result<(), Refusal> {
+    pause(rt);
+    queue.recv(rt, &mut seat)?;
+    Ok(())
+}
+
+// Takes a value and keeps its node, lets the others fall asleep, and then takes one and gives both nodes back.
+fn gives_two_back_late<R: Wait + Clock, A: Algorithm<24>>(
+    rt: &R,
+    queue: &BlockingQueue<ArenaQueue<A>>,
+    mut seat: Seat,
+) -> Result<(), Refusal> {
+    seat.keep_nodes(true);
+    queue.recv(rt, &mut seat)?;
+    seat.keep_nodes(false);
     pause(rt);
     queue.recv(rt, &mut seat)?;
     Ok(())
@@ -194,11 +210,13 @@ fn sends_late<R: Wait + Clock, Q: Fifo>(
     (sent(answer), took(rt, start))
 }
 
-// Two senders sleep beside a full queue, and another thread lets them go on: what came to them, and how long that took.
+// Two senders sleep beside a queue that so many pushes fill, and another thread lets them go on: what came to them, and how long
+// that took.
 fn wakes_both<R: Threads + Wait + Clock + Sync, Q: Fifo + Sync + Drop>(
     rt: &R,
     queue: Q,
     mut seats: Vec<Q::Seat>,
+    room: u64,
     wakes: fn(&R, &BlockingQueue<Q>, Q::Seat) -> Result<(), Refusal>,
 ) -> Result<(Result<bool, Refusal>, Result<bool, Refusal>, u64), Fail> {
     let queue = &BlockingQueue::new(queue);
@@ -208,7 +226,9 @@ fn wakes_both<R: Threads + Wait + Clock + Sync, Q: Fifo + Sync + Drop>(
     let (Some(a), Some(b), Some(mut c)) = (seats.pop(), seats.pop(), seats.pop()) else {
         return Err(Refusal::BadSize.into());
     };
-    queue.push(rt, &mut c, body)?;
+    for _ in 0..room {
+        queue.push(rt, &mut c, body)?;
+    }
     let ((one, other), woken) = join(
         rt,
         || join(
@@ -295,12 +315,26 @@ fn senders_are_woken(rt: HostRuntime) -> Result<(), Fail> {
 fn all_are_told_of_a_worn_word(rt: HostRuntime) -> Result<(), Fail> {
     let worn = Err(Refusal::WornOut(WornWord::Free));
     let (queue, seats) = MsQueue::new(rt.alloc(), 2, 1, &FIVE)?;
-    let (one, other, time) = wakes_both(&rt, queue, seats, pops_one_late)?;
+    let (one, other, time) = wakes_both(&rt, queue, seats, 1, pops_one_late)?;
     assert_eq!(rt; (one, other), (worn, worn));
     assert!(rt; time < EARLY, "{time} ms");
     let (queue, seats) = TwoLockQueue::new(rt.alloc(), 2, 1, &FIVE)?;
-    let (one, other, time) = wakes_both(&rt, queue, seats, pops_one_late)?;
+    let (one, other, time) = wakes_both(&rt, queue, seats, 1, pops_one_late)?;
     assert_eq!(rt; (one, other), (worn, worn));
+    assert!(rt; time < EARLY, "{time} ms");
+    Ok(())
+}
+
+/// A pop that gives back two nodes, of which its seat had kept one, wakes two.
+#[test]
+fn two_are_woken_by_two_nodes(rt: HostRuntime) -> Result<(), Fail> {
+    let (queue, seats) = MsQueue::new(rt.alloc(), 3, AMPLE_COUNT, &FIVE)?;
+    let (one, other, time) = wakes_both(&rt, queue, seats, 2, gives_two_back_late)?;
+    assert_eq!(rt; (one, other), (Ok(true), Ok(true)));
+    assert!(rt; time < EARLY, "{time} ms");
+    let (queue, seats) = TwoLockQueue::new(rt.alloc(), 3, AMPLE_COUNT, &FIVE)?;
+    let (one, other, time) = wakes_both(&rt, queue, seats, 2, gives_two_back_late)?;
+    assert_eq!(rt; (one, other), (Ok(true), Ok(true)));
     assert!(rt; time < EARLY, "{time} ms");
     Ok(())
 }

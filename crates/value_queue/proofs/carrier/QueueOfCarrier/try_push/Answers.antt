@@ -21,7 +21,7 @@ slotless : (g : Over) (c : goal.After-unpushed-in-Err-get_slot g) → AnswersPus
 slotless g c =
     let e = c.in-Err-get_slot.ensures in
     no_slot g.A.Algorithm.push_worn _ c.args.self.now.carries _ c.requires.seat.0 c.requires.seat.1 c.args.value c.args.turns c.node.new.seat
-    c.get_slot.new.seat c.in-Ok.node.0 c.in-Ok.node.1 c.in-Ok.ensures c.in-Err-get_slot.refusal (e.ready c.in-Ok.ensures.ready) e.keeps e.refused e.busy
+    c.get_slot.new.seat c.in-Ok.node.0 c.in-Ok.node.1 c.in-Ok.ensures c.first_slot-first.result c.in-Err-get_slot.refusal (e.ready c.in-Ok.ensures.ready) e.keeps e.refused e.busy
 
 pub returns-in-Err-get_slot-clause-refused : goal.returns-in-Err-get_slot-clause-refused
 returns-in-Err-get_slot-clause-refused g c = handed c.unpushed-in-Err-get_slot.result (back_with c.in-Err-get_slot.refusal c.args.value) _ c.unpushed-in-Err-get_slot.ensures (slotless g c).refused
@@ -42,14 +42,14 @@ pub returns-in-Ok-push_with_node-clause-pushed : goal.returns-in-Ok-push_with_no
 returns-in-Ok-push_with_node-clause-pushed g c =
     let k = keeps_on c.node.new.seat c.get_slot.new.seat c.put_value.new.seat c.in-Ok-get_slot.ensures.keeps c.put_value.ensures.keeps in
     (value_pushed g.A.Algorithm.push_worn _ c.args.self.now.carries _ c.requires.seat.0 c.requires.seat.1 c.args.value c.args.turns c.node.new.seat c.put_value.new.seat c.in-Ok.node.0 c.in-Ok.node.1
-    c.in-Ok.ensures c.in-Ok-get_slot.got k c.put_value.ensures.has c.in-Ok-get_slot.ensures.failed c.body_of.result c.push_with_node.new.seat c.in-Ok-push_with_node.ensures).pushed
+    c.in-Ok.ensures c.first_slot-first.result c.in-Ok-get_slot.got k c.put_value.ensures.has c.in-Ok-get_slot.ensures.failed c.body_of.result c.push_with_node.new.seat c.in-Ok-push_with_node.ensures).pushed
 
 came_back : (g : Over) (c : goal.After-taken_back g) → AnswersPush g.A.Algorithm.push_worn (arena_of c.args.self.now) c.args.seat.now c.taken_back.new.seat c.args.value
     c.args.turns (Err (back_with c.in-Err-push_with_node.refusal c.taken_back.ensures.value))
 came_back g c =
     let k = keeps_on c.node.new.seat c.get_slot.new.seat c.put_value.new.seat c.in-Ok-get_slot.ensures.keeps c.put_value.ensures.keeps in
     value_back g.A.Algorithm.push_worn _ c.args.self.now.carries _ c.requires.seat.0 c.requires.seat.1 c.args.value c.args.turns c.node.new.seat c.put_value.new.seat
-    c.in-Ok.node.0 c.in-Ok.node.1 c.in-Ok.ensures c.in-Ok-get_slot.got k c.put_value.ensures.has c.in-Ok-get_slot.ensures.failed c.body_of.result c.push_with_node.new.seat
+    c.in-Ok.node.0 c.in-Ok.node.1 c.in-Ok.ensures c.first_slot-first.result c.in-Ok-get_slot.got k c.put_value.ensures.has c.in-Ok-get_slot.ensures.failed c.body_of.result c.push_with_node.new.seat
     c.taken_back.new.seat c.in-Err-push_with_node.refusal c.taken_back.result c.in-Err-push_with_node.ensures c.taken_back.ensures
 
 pub returns-in-Err-push_with_node-clause-refused : goal.returns-in-Err-push_with_node-clause-refused

@@ -1,0 +1,10 @@
+use Rattle.carriers.specs.Answers.{SeesMoreOf}
+use Rattle.blocking_carrier.specs.Queues.{queue_of}
+use Rattle.channels.specs.Seats.{IsGiver}
+use Rattle.channels.proofs.closers.CloserShuts.shut.Given as goal
+
+abbrev pub invariant-loop : goal.invariant-loop
+invariant-loop g l = record {
+  sits : IsGiver g.C.Carrier.is_seat g.C.Carrier.permits g.C.Carrier.known (queue_of l.queue.value) l.seat;
+  more : SeesMoreOf (g.C.Carrier.known l.initial.seat) (g.C.Carrier.known l.seat);
+}
