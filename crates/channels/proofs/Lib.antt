@@ -1,3 +1,4 @@
 mod Dealt
 mod MetSeats
 pub mod Shares
+pub mod Tries

@@ -4,6 +4,7 @@ ghost use Rattle.history.specs.Answers.{StopsShut};
 ghost use Rattle.carriers.specs.Answers.{DidShutOf, PushRefusedOf, EndsByTryOf};
 ghost use Rattle.blocking_carrier.specs.Queues.{queue_of};
 ghost use Rattle.channels.specs.Seats.{IsGiver};
+ghost use Rattle.channels.specs.Tries.{TriedInVain};
 
 use crate::TURNS;
 use blocking_carrier::BlockingCarrier;
@@ -22,7 +23,7 @@ const TRIES: u32 = 65_536;
 pub(crate) trait Shuts {
     type Seat;
 
-    /// Shuts the queue by one call: what that answers, and the seat as it is then.
+    /// Shuts the queue: what the last try answers, and the seat as it is then.
     fn shut(self) -> (Result<(), Refusal>, Self::Seat);
 }
 
@@ -53,9 +54,9 @@ impl<C: Carrier + Drop> Shuts for Closer<C> {
     type Seat = C::Seat;
 
     fn shut(self) -> (Result<(), Refusal>, C::Seat)
-        //= carriers/channel_ended (shut, refused, refusal, caused): A side's closer has shut its queue by one deed, or is
-        //=   refused, with the cause of a try of 8 turns. That the drop of the last sender, or receiver, calls it, and how
-        //=   often it tries, no clause says.
+        //= carriers/channel_ended (shut, refused, refusal, caused, busy): A side's closer has shut its queue by one deed, or
+        //=   is refused, with the cause of a try of 8 turns; `Busy` only after 65,536 such tries, one after another, each of
+        //=   which had that cause. That the drop of the last sender, or receiver, calls it, no clause says.
         ensures shut { OnOk result.0
             (DidShutOf (C.known (closer_seat self)) (C.known result.1)) }
         ensures refused { IfErr result.0
@@ -63,6 +64,9 @@ impl<C: Carrier + Drop> Shuts for Closer<C> {
         ensures refusal { IfErr result.0 StopsShut }
         ensures caused { IfErr result.0 (EndsByTryOf C.is_seat C.known C.shut_cause
             (closer_queue self) (closer_seat self) result.1 8) }
+        ensures busy { IfErr result.0 (λ refusal. refusal ≡ Refusal.Busy
+            → TriedInVain C.is_seat C.known C.shut_cause (closer_queue self) 65536 8
+            (closer_seat self) result.1) }
     {
         let Closer { queue, mut seat } = self;
         let backoff = Backoff::new();

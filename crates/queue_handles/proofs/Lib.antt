@@ -1,2 +1,3 @@
 pub mod HandleClones
 pub mod Shares
+pub mod Tries

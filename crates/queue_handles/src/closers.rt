@@ -3,6 +3,7 @@ ghost use Rattle.std.specs.Prelude.{◌≡◌, IfErr, OnOk};
 ghost use Rattle.history.specs.Seats.{MayPush};
 ghost use Rattle.history.specs.Answers.{DidShut, PushRefused, StopsShut, EndsByTry};
 ghost use Rattle.blocking_queue.specs.Queues.{queue_of as queue_within};
+ghost use Rattle.queue_handles.specs.Tries.{TriedInVain};
 
 use crate::TURNS;
 use blocking_queue::BlockingQueue;
@@ -20,7 +21,7 @@ const TRIES: u32 = 65_536;
 pub(crate) trait Shuts {
     type Seat;
 
-    /// Shuts the queue by one call: what that answers, and the seat as it is then.
+    /// Shuts the queue: what the last try answers, and the seat as it is then.
     fn shut(self) -> (Result<(), Refusal>, Self::Seat);
 }
 
@@ -48,15 +49,18 @@ impl<Q: Fifo + Drop> Shuts for Closer<Q> {
     type Seat = Q::Seat;
 
     fn shut(self) -> (Result<(), Refusal>, Q::Seat)
-        //= queues/ended (shut, refused, refusal, caused): A side's closer has shut its queue by one entry, or is refused, with
-        //=   the cause of a try of 8 turns. That the drop of the side's last handle calls it, and how often it tries, no clause
-        //=   says.
+        //= queues/ended (shut, refused, refusal, caused, busy): A side's closer has shut its queue by one entry, or is
+        //=   refused, with the cause of a try of 8 turns; `Busy` only after 65,536 such tries, one after another, each of
+        //=   which had that cause. That the drop of the side's last handle calls it, no clause says.
         ensures shut { OnOk result.0 (DidShut (Q.known (closer_seat self)) (Q.known result.1)) }
         ensures refused { IfErr result.0
             (λ refusal. PushRefused (Q.known (closer_seat self)) refusal (Q.known result.1)) }
         ensures refusal { IfErr result.0 StopsShut }
         ensures caused { IfErr result.0 (EndsByTry Q.is_seat Q.known Q.shut_cause
             (closer_queue self) (closer_seat self) result.1 8) }
+        ensures busy { IfErr result.0 (λ refusal. refusal ≡ Refusal.Busy
+            → TriedInVain Q.is_seat Q.known Q.shut_cause (closer_queue self) 65536 8
+            (closer_seat self) result.1) }
     {
         let Closer { queue, mut seat } = self;
         let backoff = Backoff::new();
