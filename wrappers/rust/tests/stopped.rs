@@ -78,7 +78,8 @@ fn locks_are_held() {
             assert_eq!(sender.send_timeout(Body::from(7), SOON), busy);
             assert_eq!(sender.try_push_all(&[Body::from(7)], TURNS), (0, busy));
             assert_eq!(sender.try_shut(TURNS), busy);
-        } else if told.is_ok() {
+        } else {
+            // (So that the queue isn't full at last, where a push lacks a node before it looks at the lock.)
             let _ = receiver.try_pop(TURNS);
         }
         told == busy
@@ -138,10 +139,11 @@ fn locks_of_values_are_held() {
     };
     stop_within(act, || {
         let told = queue.push_timeout(7, SOON).map_err(|it| it.refusal);
-        if told.is_ok() {
+        let is_busy = told == Err(Refusal::Busy);
+        if !is_busy {
             let _ = queue.pop_timeout(SOON);
         }
-        told == Err(Refusal::Busy)
+        is_busy
     });
     stop_within(act, || queue.pop_timeout(SOON) == Err(Refusal::Busy));
 }
