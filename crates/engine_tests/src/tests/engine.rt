@@ -1,9 +1,9 @@
+use crate::tests::schedules::RUNS;
 use crate::tests::trials::{
     Engine, does, does_by_any_piece, tells_each_end, writes_a_prefix, writes_nothing,
 };
 use std::alloc::{AllocError, Global};
 use std::test::Fail;
-use worked_texts::{RUNS, SHUTS};
 
 const LINES: [&str; 10] = [
     "msq schedule 1",
@@ -75,34 +75,6 @@ fn text_with(
 fn writes_each_history_whatever_the_pieces(rt: HostRuntime) -> Result<(), Fail> {
     for run in &RUNS {
         does_by_any_piece(&rt, rt.alloc(), Engine::Run, run.schedule, 0, run.history)?;
-    }
-    Ok(())
-}
-
-// This schedule of version 2, where so many bits hold a node.
-fn with_bits(alloc: Global, schedule: &str, bits: u32) -> Result<String, Fail> {
-    let (head, rest) = schedule.split_once("bits ").ok_or("a line of bits")?;
-    let (_, sizes) = rest.split_once('\n').ok_or("the end of a line")?;
-    Ok(format!(in alloc; "{head}bits {bits}\n{sizes}")?)
-}
-
-#[test]
-fn shuts_a_queue_by_the_same_steps_whatever_bits_hold_a_node(rt: HostRuntime) -> Result<(), Fail> {
-    for run in &SHUTS {
-        for bits in [16, 17, 24, 31, 32] {
-            let text = with_bits(rt.alloc(), run.schedule, bits)?;
-            let want = (0, run.history, "");
-            let text = text.as_str();
-            does(
-                &rt,
-                rt.alloc(),
-                Engine::Run,
-                text.as_bytes(),
-                4096,
-                want,
-                text,
-            )?;
-        }
     }
     Ok(())
 }

@@ -1,4 +1,5 @@
 use crate::tests::comparisons::same;
+use crate::tests::schedules::{FIRST_HISTORY, FIRST_TABLE, RUNS};
 use crate::tests::trials::{
     Engine, answers, does, does_by_any_piece, tells_each_end, writes_a_prefix, writes_nothing,
 };
@@ -7,85 +8,10 @@ use history::{Cause, Refusal, TextCause, Verdict};
 use std::alloc::{AllocError, Global};
 use std::test::Fail;
 use text_io::{Script, Trouble};
-use worked_texts::RUNS;
-
-const FOUR: &str = "history 4
-1 enq 1 first 1 last 10 at 9 reply done
-1 enq 2 first 11 last 12 at 12 reply refused 1
-1 deq first 13 last 21 at 18 reply value 1 1
-1 enq 2 first 22 last 32 at 31 reply done
-";
-
-const THEIR_TABLE: &str = "yes
-         9      1 enq 1 -> done
-        12      1 enq 2 -> refused 1
-        18      1 deq -> value 1 1
-        31      1 enq 2 -> done
-done             2
-refused          1
-value            1
-";
-
-const OLD_EMPTY: &str = "history 2
-1 deq first 1 last 14 at 3 reply empty
-2 enq 9 first 4 last 13 at 12 reply done
-";
-
-const ITS_TABLE: &str = "yes
-         3      1 deq -> empty
-        12      2 enq 9 -> done
-empty            1
-done             1
-";
 
 const LATE_EMPTY: &str = "history 2
 1 deq first 1 last 14 at 14 reply empty
 2 enq 9 first 4 last 13 at 12 reply done
-";
-
-const SHUT: &str = "history 5
-1 enq 5 first 1 last 10 at 9 reply done
-2 shut first 11 last 14 at 14 reply done
-1 enq 6 first 15 last 22 at 22 reply refused 16
-2 deq first 23 last 31 at 28 reply value 1 5
-2 deq first 32 last 35 at 35 reply refused 16
-";
-
-const TABLE_OF_A_SHUT: &str = "yes
-         9      1 enq 5 -> done
-        14      2 shut -> done
-        22      1 enq 6 -> refused 16
-        28      2 deq -> value 1 5
-        35      2 deq -> refused 16
-done             2
-refused          2
-value            1
-";
-
-const OVERTAKEN_PUSH: &str = "history 2
-1 enq 7 first 1 last 16 at 16 reply refused 16
-2 shut first 9 last 12 at 12 reply done
-";
-
-const TABLE_OF_AN_OVERTAKEN_PUSH: &str = "yes
-        12      2 shut -> done
-        16      1 enq 7 -> refused 16
-refused          1
-done             1
-";
-
-const OVERTAKEN_SHUT: &str = "history 3
-1 enq 5 first 1 last 11 at 9 reply done
-2 shut first 8 last 15 at 14 reply done
-1 enq 6 first 16 last 24 at 24 reply refused 16
-";
-
-const TABLE_OF_AN_OVERTAKEN_SHUT: &str = "yes
-         9      1 enq 5 -> done
-        14      2 shut -> done
-        24      1 enq 6 -> refused 16
-done             2
-refused          1
 ";
 
 const PUSHED_AFTER_A_SHUT: &str = "history 2
@@ -123,20 +49,13 @@ const NO_REPLY: &str = "history 1
 1 deq first 1 last 4 at 3 reply -
 ";
 
-/// Histories, the status, and what is written.
-const JUDGED: [(&str, u8, &str); 12] = [
-    (FOUR, 0, THEIR_TABLE),
-    (OLD_EMPTY, 0, ITS_TABLE),
-    ("history 0\n", 0, "yes\n"),
-    (LATE_EMPTY, 3, "no 1 Reply\n"),
-    (SHUT, 0, TABLE_OF_A_SHUT),
-    (OVERTAKEN_PUSH, 0, TABLE_OF_AN_OVERTAKEN_PUSH),
-    (OVERTAKEN_SHUT, 0, TABLE_OF_AN_OVERTAKEN_SHUT),
-    (PUSHED_AFTER_A_SHUT, 3, "no 2 Reply\n"),
-    (ONE_PLACE, 3, "no 2 Shared\n"),
-    (OUTSIDE, 3, "no 1 Span\n"),
-    (EMPTY_TOO_SOON, 3, "no 2 Reply\n"),
-    (NO_REPLY, 3, "no 1 Shape\n"),
+/// Histories that are judged no, and what is written.
+const JUDGED: [(&str, &str); 5] = [
+    (PUSHED_AFTER_A_SHUT, "no 2 Reply\n"),
+    (ONE_PLACE, "no 2 Shared\n"),
+    (OUTSIDE, "no 1 Span\n"),
+    (EMPTY_TOO_SOON, "no 2 Reply\n"),
+    (NO_REPLY, "no 1 Shape\n"),
 ];
 
 #[test]
@@ -149,15 +68,15 @@ fn tables_each_history_whatever_the_pieces(rt: HostRuntime) -> Result<(), Fail> 
 
 #[test]
 fn judges_histories_whatever_the_pieces(rt: HostRuntime) -> Result<(), Fail> {
-    for (text, status, want) in &JUDGED {
-        does_by_any_piece(&rt, rt.alloc(), Engine::Check, text, *status, want)?;
+    for (text, want) in &JUDGED {
+        does_by_any_piece(&rt, rt.alloc(), Engine::Check, text, 3, want)?;
     }
     Ok(())
 }
 
 /// Histories, the verdict, and what is written.
 const VERDICTS: [(&str, Verdict, &str); 5] = [
-    (FOUR, Verdict::Yes, THEIR_TABLE),
+    (FIRST_HISTORY, Verdict::Yes, FIRST_TABLE),
     (
         LATE_EMPTY,
         Verdict::No {
@@ -304,12 +223,14 @@ fn tells_the_end_of_each_truncated_history(rt: HostRuntime) -> Result<(), Fail> 
 
 #[test]
 fn writes_nothing_where_a_read_fails(rt: HostRuntime) -> Result<(), Fail> {
-    writes_nothing(&rt, rt.alloc(), Engine::Check, FOUR)?;
+    for run in &RUNS {
+        writes_nothing(&rt, rt.alloc(), Engine::Check, run.history)?;
+    }
     Ok(())
 }
 
 /// Histories, and what is written.
-const BEGUN: [(&str, &str); 2] = [(FOUR, THEIR_TABLE), (ONE_PLACE, "no 2 Shared\n")];
+const BEGUN: [(&str, &str); 2] = [(FIRST_HISTORY, FIRST_TABLE), (ONE_PLACE, "no 2 Shared\n")];
 
 #[test]
 fn writes_a_prefix_where_a_write_fails(rt: HostRuntime) -> Result<(), Fail> {

@@ -1,10 +1,10 @@
 use crate::tests::comparisons::same;
+use crate::tests::schedules::TEXTS;
 use history::Refusal;
 use schedule_text::parse;
 use std::alloc::{AllocError, Global};
 use std::test::Fail;
 use text_lines::TextCause;
-use worked_texts::RUNS;
 
 /// The lines of a text of version 1.
 pub const LINES: [&str; 10] = [
@@ -171,8 +171,8 @@ fn tells_the_first_faulty_line_of_version_two(rt: HostRuntime) -> Result<(), Fai
 
 #[test]
 fn a_truncated_text_ends_too_early(rt: HostRuntime) -> Result<(), Fail> {
-    for run in &RUNS {
-        let text = run.schedule.as_bytes();
+    for text in &TEXTS {
+        let text = text.as_bytes();
         let mut feeds = 0u64;
         for (place, byte) in text.iter().enumerate() {
             let want = Some(Refusal::Text(feeds.saturating_add(1), TextCause::End));

@@ -6,7 +6,6 @@ use std::alloc::Global;
 use std::process::Abort;
 use std::test::Fail;
 use text_io::Script;
-use worked_texts::RUNS;
 
 const WIDEST: &str = "msq schedule 1
 queue nonblocking
@@ -30,8 +29,8 @@ begin 1 enq 0
 step 1 B6
 ";
 
-/// The greatest sizes where 16 bits hold a node.
-pub const WIDEST_OF_16: &str = "msq schedule 2
+// The greatest sizes where 16 bits hold a node.
+const WIDEST_OF_16: &str = "msq schedule 2
 queue two-lock
 bits 16
 nodes 65534
@@ -45,8 +44,8 @@ steps 65535 1000000
 give 65535
 ";
 
-/// The greatest sizes where 32 bits hold a node.
-pub const WIDEST_OF_32: &str = "msq schedule 2
+// The greatest sizes where 32 bits hold a node.
+const WIDEST_OF_32: &str = "msq schedule 2
 queue nonblocking
 bits 32
 nodes 4294967294
@@ -55,8 +54,8 @@ actors 1
 events 0
 ";
 
-/// A shut behind a push, and a push behind that.
-pub const SHUTS: &str = "msq schedule 2
+// A shut behind a push, and a push behind that.
+const SHUTS: &str = "msq schedule 2
 queue nonblocking
 bits 24
 nodes 3
@@ -75,12 +74,12 @@ steps 1 8
 begin 2 deq
 ";
 
+/// Texts that are right, with each kind of event.
+pub const TEXTS: [&str; 5] = [WIDEST, LEAST, WIDEST_OF_16, WIDEST_OF_32, SHUTS];
+
 #[test]
 fn prints_each_schedule_as_it_was_read(rt: HostRuntime) -> Result<(), Fail> {
-    for run in &RUNS {
-        prints_as_read(&rt, rt.alloc(), run.schedule)?;
-    }
-    for text in [WIDEST, LEAST, WIDEST_OF_16, WIDEST_OF_32, SHUTS] {
+    for text in &TEXTS {
         prints_as_read(&rt, rt.alloc(), text)?;
     }
     Ok(())

@@ -1,7 +1,7 @@
 //! Schedules from sources that give few bytes a call, or fail.
 use crate::tests::comparisons::same;
 use crate::tests::schedule_faults::{FAULTS, FAULTS_OF_TWO, LINES, LINES_OF_TWO, text_with};
-use crate::tests::schedules::{SHUTS, WIDEST_OF_16, WIDEST_OF_32};
+use crate::tests::schedules::TEXTS;
 use history::{Body, Op, Refusal};
 use schedule_text::{Event, EventStream, print, read_schedule};
 use std::alloc::Global;
@@ -9,7 +9,6 @@ use std::process::Abort;
 use std::test::Fail;
 use text_io::{Script, Trouble};
 use text_lines::TextCause;
-use worked_texts::RUNS;
 
 const PIECES: [usize; 3] = [1, 7, 4096];
 
@@ -56,10 +55,7 @@ fn told_by_pieces(
 
 #[test]
 fn reads_each_schedule_from_pieces(rt: HostRuntime) -> Result<(), Fail> {
-    for run in &RUNS {
-        read_by_pieces(&rt, rt.alloc(), run.schedule)?;
-    }
-    for text in [WIDEST_OF_16, WIDEST_OF_32, SHUTS] {
+    for text in &TEXTS {
         read_by_pieces(&rt, rt.alloc(), text)?;
     }
     Ok(())
