@@ -36,9 +36,9 @@ pub fn deal<Q: Fifo + Drop>(
         let Ok(share) = Arc::try_clone(&queue) else {
             return Err(Refusal::Memory);
         };
-        if owned.push(OwnedSeat::new(share, seat)).is_err() {
+        let Ok(()) = owned.push(OwnedSeat::new(share, seat)) else {
             return Err(Refusal::Memory);
-        }
+        };
     }
     Ok(owned)
 }
