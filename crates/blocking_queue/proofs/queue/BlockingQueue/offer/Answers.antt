@@ -1,5 +1,12 @@
 use Rattle.history.proofs.Learning.{push_refused_then, sees_then}
+use Rattle.blocking_queue.proofs.Waiting.{refused_after}
 use Rattle.blocking_queue.proofs.queue.BlockingQueue.offer.Goals as goal
+
+pub loop-preserved : goal.loop-preserved
+loop-preserved g c = record {
+  seat = c.push.ensures.seat;
+  more = refused_after _ _ _ _ c.loop.invariant.more c.in-Err-NoNode.field-0-is c.in-Err-NoNode.ensures.refused;
+}
 
 pub returns-in-Err-clause-refused : goal.returns-in-Err-clause-refused
 returns-in-Err-clause-refused g c = push_refused_then _ _ _ c.in-Err.refusal c.loop.invariant.more c.in-Err.ensures.refused

@@ -3,6 +3,17 @@ use Rattle.history.proofs.Learning.{push_refused_then, sees_then}
 use Rattle.blocking_queue.proofs.Waiting.{refused_after, looked_after, full_after, late_then}
 use Rattle.blocking_queue.proofs.queue.BlockingQueue.send_until.Goals as goal
 
+pub loop-preserved : goal.loop-preserved
+loop-preserved g c =
+    let tried = c.in-Err-NoNode-push in
+    record {
+      can = tt;
+      finite = tt;
+      seat = c.push.ensures.seat;
+      more = full_after _ _ _ _ _ _ _ c.loop.invariant.more c.in-Err-NoNode.field-0-is c.in-Err-NoNode.ensures.refused c.in-Ok-look_for_shut.ensures.more
+          tried.field-0-is tried.ensures.refused;
+    }
+
 pub returns-in-Err-clause-refused : goal.returns-in-Err-clause-refused
 returns-in-Err-clause-refused g c = push_refused_then _ _ _ _ c.loop.invariant.more c.in-Err.ensures.refused
 
