@@ -1,6 +1,18 @@
 use Rattle.std.proofs.Common.{rules}
-use Rattle.history.proofs.Learning.{pop_refused_then}
+use Rattle.history.proofs.Learning.{pop_refused_then, sees_then}
 use Rattle.draining.proofs.until_empty.UntilEmptyIterator.next.Goals as goal
+
+pub loop-preserved : goal.loop-preserved
+loop-preserved g c = record {
+  can = tt;
+  finite = tt;
+  queue = c.loop.invariant.queue;
+  same = c.loop.invariant.same;
+  turns = c.loop.invariant.turns;
+  goes = c.loop.invariant.goes;
+  seat = c.try_pop.ensures.seat;
+  more = sees_then _ _ _ c.loop.invariant.more (rw c.in-Err-Busy.field-0-is at c.in-Err-Busy.ensures.refused);
+}
 
 pub returns-in-Err : goal.returns-in-Err
 returns-in-Err g c = record {
