@@ -1,5 +1,13 @@
-use Rattle.carriers.proofs.Learning.{push_refused_then}
+use Rattle.carriers.proofs.Learning.{sees_then, push_refused_then}
 use Rattle.carriers.proofs.queues.Carrier.shut.Goals as goal
+
+pub loop-preserved : goal.loop-preserved
+loop-preserved g c = record {
+  can = tt;
+  finite = tt;
+  seat = c.try_shut.ensures.seat;
+  more = sees_then _ _ _ c.loop.invariant.more (rw c.in-Err-Busy.field-0-is at c.in-Err-Busy.ensures.refused);
+}
 
 pub returns-in-Err-clause-refused : goal.returns-in-Err-clause-refused
 returns-in-Err-clause-refused g c = push_refused_then _ _ _ c.in-Err.refusal c.loop.invariant.more c.in-Err.ensures.refused
