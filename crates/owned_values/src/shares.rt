@@ -37,9 +37,9 @@ pub fn deal<C: Carrier + Drop>(
         let Ok(share) = Arc::try_clone(&queue) else {
             return Err(Refusal::Memory);
         };
-        if owned.push(ValueSeat::new(share, seat)).is_err() {
+        let Ok(()) = owned.push(ValueSeat::new(share, seat)) else {
             return Err(Refusal::Memory);
-        }
+        };
     }
     Ok(owned)
 }
