@@ -1,19 +1,19 @@
 //! The words after the program's name.
-ghost use Rattle.std.specs.Prelude.{◌≡◌, [], IfErr, IfOk, map, option_map, string_bytes, codes, true, false};
-ghost use Rattle.clap.specs.Words.{HasKind, app_of, first_of, found_of, kind_of, one_of, rows_of, rule_of, subcommand_rows_of, takes, with_subcommand};
-ghost use Rattle.command_line.specs.Commands.{command_line_app, explain_app, faults_in, file_app, file_met, held_met, flag_rule, kind_named, number_rule};
-ghost use Rattle.command_line.specs.Commands.{place_app, post_app, queue_rule, run_app, show_app, work_app, AreQueues, AreTaken, IsAsked, IsAskedSomewhere};
+ghost use Rattle.std.specs.Prelude.{◌≡◌, [], IfErr, IfOk, Some, map, option_map, string_bytes, codes, true, false};
+ghost use Rattle.clap.specs.Words.{App, HasKind, Rule, app_of, first_of, found_of, kind_of, one_of, rows_of, rule_of, subcommand_rows_of, takes, with_rule, with_subcommand};
+ghost use Rattle.command_line.specs.Commands.{bare_app, command_line_app, explain_app, faults_in, file_app, file_met, held_met, flag_rule, kind_named, number_rule};
+ghost use Rattle.command_line.specs.Commands.{run_app, AreQueues, AreTaken, IsAsked, IsAskedSomewhere};
 ghost use Rattle.command_line.specs.Commands.{IsCrewOf, IsStatusOf, IsTask, IsViewOf, SaysFlag, SaysNumber};
 
 use crate::helps;
 use crate::messages::told;
 use crate::options::{Placing, crew_in, explains_in, flag_in, kind_in, placing_in, view_in};
 use crate::places::{held_in, place_command};
+use crate::queue_commands::{post_command, work_command};
 use crate::show_options::show_command;
 use clap::builder::ValueParser;
 use clap::error::ErrorKind;
 use clap::{Arg, ArgAction, ArgMatches};
-use counted_ref::MOST_NODE;
 use queue_kinds::QueueKind;
 use std::alloc::{AllocError, Global};
 
@@ -27,7 +27,7 @@ static QUEUES: [&str; 3] = ["two-lock", "nonblocking", "ring"];
 static WHENS: [&str; 3] = ["auto", "always", "never"];
 
 /// How `work` does jobs.
-#[derive(Clone, Copy, Debug)]
+#[derive(Clone, Copy)]
 pub struct Crew {
     /// How many workers there are.
     pub workers: u32,
@@ -38,7 +38,7 @@ pub struct Crew {
 }
 
 /// When a picture has colours.
-#[derive(Clone, Copy, Debug, PartialEq, Eq)]
+#[derive(Clone, Copy)]
 pub enum Colours {
     /// Where it is shown on a terminal.
     Auto,
@@ -47,7 +47,7 @@ pub enum Colours {
 }
 
 /// What `show` shows.
-#[derive(Clone, Copy, Debug)]
+#[derive(Clone, Copy)]
 pub struct ShowOptions {
     /// How many columns a row has at most.
     pub width: u32,
@@ -70,7 +70,7 @@ pub struct ShowOptions {
 }
 
 /// What is done with a file.
-#[derive(Clone, Copy, Debug)]
+#[derive(Clone, Copy)]
 pub enum Task {
     /// Runs the schedule in it.
     Run,
@@ -93,7 +93,7 @@ pub enum Task {
 }
 
 /// What the program is asked to do.
-#[derive(Debug, Drop)]
+#[derive(Drop)]
 pub struct Command {
     pub task: Task,
     /// The file's name; `-` is standard input.
@@ -128,21 +128,6 @@ pub fn read_words(alloc: Global, words: &[String]) -> Result<Command, (u8, Strin
     }
 }
 
-/// The program with one more command, of this name and with a FILE.
-fn with_command<'a>(
-    alloc: Global,
-    program: clap::Command<'a>,
-    name: &'a str,
-    about: &'a str,
-    file: &'a str,
-    after: &'a str,
-) -> Result<clap::Command<'a>, AllocError>
-    ensures { IfOk result (λ more.
-        app_of more ≡ with_subcommand (app_of program.entry) (file_app name.entry.now).top) }
-{
-    program.subcommand(command_on(alloc, name, about, file, after)?)
-}
-
 /// A command of this name, with a FILE.
 pub(crate) fn command_on<'a>(
     alloc: Global,
@@ -157,9 +142,26 @@ pub(crate) fn command_on<'a>(
     let command = clap::Command::new(alloc, name)
         .about(about)
         .after_help(after)
-        .arg(file)?;
+        .arg(file);
     let explain = flag_option(alloc, "EXPLAIN", "explain");
-    command.arg(explain.help("Explains a refusal on standard error, as on a terminal"))
+    with_arg(
+        command,
+        explain,
+        "Explains a refusal on standard error, as on a terminal",
+    )
+}
+
+/// A command with one more option, of this help, where memory was refused for neither.
+pub(crate) fn with_arg<'a>(
+    command: Result<clap::Command<'a>, AllocError>,
+    arg: Arg<'a>,
+    help: &'a str,
+) -> Result<clap::Command<'a>, AllocError>
+    ensures { (app : App) (rule : Rule) → arg.entry.global ≡ false → rule_of arg.entry ≡ rule
+        → IfOk command.entry (λ c. app_of c ≡ app)
+        → IfOk result (λ r. app_of r ≡ with_rule app rule) }
+{
+    command?.arg(arg.help(help))
 }
 
 /// The command `explain`.
@@ -202,18 +204,6 @@ pub(crate) fn flag_option<'a>(alloc: Global, id: &'a str, long: &'a str) -> Arg<
     Arg::new(alloc, id).long(long).action(ArgAction::SetTrue)
 }
 
-/// The option with one of the names of the queues.
-fn queue_option<'a>(alloc: Global, queues: &'a [&'a str]) -> Arg<'a>
-    ensures rule { rule_of result ≡ queue_rule queues.entry }
-    ensures local { result.global ≡ false }
-{
-    Arg::new(alloc, "QUEUE")
-        .long("queue")
-        .value_parser(queues)
-        .default_value("nonblocking")
-        .help("The queue")
-}
-
 /// The command `run`.
 fn run_command<'a>(alloc: Global) -> Result<clap::Command<'a>, AllocError>
     ensures { IfOk result (λ command. app_of command ≡ run_app) }
@@ -224,43 +214,13 @@ fn run_command<'a>(alloc: Global) -> Result<clap::Command<'a>, AllocError>
         "Runs a schedule and writes its history",
         "The schedule; - is standard input",
         helps::RUN,
-    )?;
+    );
     let expand = flag_option(alloc, "EXPAND", "expand");
-    command.arg(expand.help("Writes the schedule that a recipe, of version 3, stands for"))
-}
-
-/// The command `work`, with the names of the queues.
-fn work_command<'a>(alloc: Global, queues: &'a [&'a str]) -> Result<clap::Command<'a>, AllocError>
-    ensures { IfOk result (λ command. app_of command ≡ work_app queues.entry) }
-{
-    let command = command_on(
-        alloc,
-        "work",
-        "Does jobs by workers over a queue, and writes the table of their results",
-        "The jobs; - is standard input",
-        helps::WORK,
-    )?;
-    let workers = number_option(alloc, "WORKERS", "workers", (1, 64), "4");
-    let command = command.arg(workers.help("How many workers there are, each a thread, 1 to 64"))?;
-    let command = command.arg(queue_option(alloc, queues))?;
-    let nodes = number_option(alloc, "NODES", "nodes", (2, MOST_NODE as u64), "1024");
-    command.arg(nodes.help(
-        "How many nodes the queue has, or values a ring is full of, from 3 more than workers to 2^24 - 2",
-    ))
-}
-
-/// The command `post`, with the names of the queues.
-fn post_command<'a>(alloc: Global, queues: &'a [&'a str]) -> Result<clap::Command<'a>, AllocError>
-    ensures { IfOk result (λ command. app_of command ≡ post_app queues.entry) }
-{
-    let command = command_on(
-        alloc,
-        "post",
-        "Sends letters, each sender's in a thread, over a queue to one receiver, and writes them",
-        "The letters; - is standard input",
-        helps::POST,
-    )?;
-    command.arg(queue_option(alloc, queues))
+    with_arg(
+        command,
+        expand,
+        "Writes the schedule that a recipe, of version 3, stands for",
+    )
 }
 
 /// The command line: `run`, `trace`, `show`, `check`, `place`, `work` and `post` with a FILE, `explain` with a refusal,
@@ -272,37 +232,66 @@ fn command_line<'a>(
 ) -> Result<clap::Command<'a>, AllocError>
     ensures { IfOk result (λ command. app_of command ≡ command_line_app queues.entry whens.entry) }
 {
-    let program = clap::Command::new(alloc, "msq")
+    let program = joined(Ok(bare_program(alloc)), run_command(alloc));
+    let program = joined(program, trace_command(alloc));
+    let program = joined(program, show_command(alloc, whens));
+    let program = joined(program, check_command(alloc));
+    let program = joined(program, place_command(alloc));
+    let program = joined(program, work_command(alloc, queues));
+    let program = joined(program, post_command(alloc, queues));
+    joined(program, explain_command(alloc))?.bin_name("msq")
+}
+
+/// The program before its commands are added.
+fn bare_program<'a>(alloc: Global) -> clap::Command<'a>
+    ensures { app_of result ≡ bare_app }
+{
+    clap::Command::new(alloc, "msq")
         .about(
             "Runs concurrent queues line by line, judges and places histories, does jobs, posts letters",
         )
         .version(VERSION)
         .after_help(helps::PROGRAM)
         .no_binary_name(true)
-        .subcommand_required(true);
-    let program = program.subcommand(run_command(alloc)?)?;
-    let program = with_command(
+        .subcommand_required(true)
+}
+
+/// The command `trace`.
+fn trace_command<'a>(alloc: Global) -> Result<clap::Command<'a>, AllocError>
+    ensures { IfOk result (λ command. app_of command ≡ file_app (codes "trace")) }
+{
+    command_on(
         alloc,
-        program,
         "trace",
         "Runs a schedule and writes each of its steps",
         "The schedule; - is standard input",
         helps::TRACE,
-    )?;
-    let program = program.subcommand(show_command(alloc, whens)?)?;
-    let program = with_command(
+    )
+}
+
+/// The command `check`.
+fn check_command<'a>(alloc: Global) -> Result<clap::Command<'a>, AllocError>
+    ensures { IfOk result (λ command. app_of command ≡ file_app (codes "check")) }
+{
+    command_on(
         alloc,
-        program,
         "check",
         "Judges a history: writes its table, or what is wrong with it",
         "The history; - is standard input",
         helps::CHECK,
-    )?;
-    let program = program.subcommand(place_command(alloc)?)?;
-    let program = program.subcommand(work_command(alloc, queues)?)?;
-    let program = program.subcommand(post_command(alloc, queues)?)?;
-    let program = program.subcommand(explain_command(alloc)?)?;
-    program.bin_name("msq")
+    )
+}
+
+/// A program with one more command, where memory was refused for neither.
+fn joined<'a>(
+    program: Result<clap::Command<'a>, AllocError>,
+    more: Result<clap::Command<'a>, AllocError>,
+) -> Result<clap::Command<'a>, AllocError>
+    ensures { (app sub : App) → sub.top.is_plain ≡ true → IfOk program.entry (λ p. app_of p ≡ app)
+        → IfOk more.entry (λ m. app_of m ≡ sub)
+        → IfOk result (λ r. app_of r ≡ with_subcommand app sub.top) }
+{
+    program?.subcommand(more?)
 }
 
 /// The command, or what clap says instead.
@@ -340,9 +329,16 @@ fn file_in<'a>(matches: &ArgMatches<'a>) -> Option<&'a str>
 fn task_in(matches: &ArgMatches<'_>) -> Task
     ensures { IsTask (subcommand_rows_of matches.now) result }
 {
-    let Some((name, options)) = matches.subcommand() else {
-        return Task::Run;
-    };
+    match matches.subcommand() {
+        Some((name, options)) => task_of(name, options),
+        None => Task::Run,
+    }
+}
+
+/// The task of a command of this name, with these options.
+fn task_of(name: &str, options: &ArgMatches<'_>) -> Task
+    ensures { IsTask (Some (name.now, rows_of (found_of options.now))) result }
+{
     if name == "trace" {
         Task::Trace
     } else if name == "show" {

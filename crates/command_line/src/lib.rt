@@ -6,6 +6,7 @@ mod helps;
 mod messages;
 mod options;
 mod places;
+mod queue_commands;
 mod show_options;
 
 pub use commands::{Colours, Command, Crew, ShowOptions, Task, read_words};

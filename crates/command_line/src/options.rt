@@ -24,7 +24,7 @@ const USUAL_STEPS: u32 = 1_000_000;
 const USUAL_FROM: u64 = 1;
 
 /// How `place` looks for points.
-#[derive(Clone, Copy, Debug)]
+#[derive(Clone, Copy)]
 pub struct Placing {
     /// How many steps a search takes at most.
     pub steps: u32,

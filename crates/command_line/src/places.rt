@@ -3,7 +3,7 @@ ghost use Rattle.std.specs.Prelude.{◌≡◌, IfOk, false, option_map};
 ghost use Rattle.clap.specs.Words.{app_of, rule_of, subcommand_rows_of};
 ghost use Rattle.command_line.specs.Commands.{held_met, held_rule, place_app};
 
-use crate::commands::{command_on, flag_option, number_option};
+use crate::commands::{command_on, flag_option, number_option, with_arg};
 use crate::helps;
 use clap::{Arg, ArgMatches};
 use std::alloc::{AllocError, Global};
@@ -18,16 +18,24 @@ pub(crate) fn place_command<'a>(alloc: Global) -> Result<clap::Command<'a>, Allo
         "Finds linearization points for a recorded history, or a reason why there are none",
         "The history, whose points are not read; - is standard input",
         helps::PLACE,
-    )?;
+    );
     let steps = number_option(alloc, "STEPS", "steps", (0, 1_000_000_000), "1000000");
-    let command = command.arg(steps.help(
+    let command = with_arg(
+        command,
+        steps,
         "How many steps a search may take, where values are repeated, 0 to 10^9",
-    ))?;
+    );
     let why = flag_option(alloc, "WHY", "why");
-    let command = command.arg(why.help(
+    let command = with_arg(
+        command,
+        why,
         "Writes the lines of a reason's operations, with their numbers",
-    ))?;
-    command.arg(held_option(alloc))
+    );
+    with_arg(
+        command,
+        held_option(alloc),
+        "What the queue of a recording holds at the start, the front first, as tea,milk",
+    )
 }
 
 /// The option with a list of what the queue holds at the start.
@@ -35,9 +43,7 @@ fn held_option<'a>(alloc: Global) -> Arg<'a>
     ensures rule { rule_of result ≡ held_rule }
     ensures local { result.global ≡ false }
 {
-    Arg::new(alloc, "HOLDS").long("holds").help(
-        "What the queue of a recording holds at the start, the front first, as tea,milk",
-    )
+    Arg::new(alloc, "HOLDS").long("holds")
 }
 
 /// The list of what the queue holds at the start, of the command that clap met.

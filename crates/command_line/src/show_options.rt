@@ -3,7 +3,7 @@ ghost use Rattle.std.specs.Prelude.{◌≡◌, IfOk, false};
 ghost use Rattle.clap.specs.Words.{app_of, rule_of};
 ghost use Rattle.command_line.specs.Commands.{color_rule, show_app};
 
-use crate::commands::{command_on, flag_option, number_option};
+use crate::commands::{command_on, flag_option, number_option, with_arg};
 use crate::helps;
 use clap::Arg;
 use std::alloc::{AllocError, Global};
@@ -21,32 +21,56 @@ pub(crate) fn show_command<'a>(
         "Runs a schedule and draws it: an actor a column, a step a row; or draws a history",
         "The schedule, or the history; - is standard input",
         helps::SHOW,
-    )?;
+    );
     let width = number_option(alloc, "WIDTH", "width", (40, 190), "80");
-    let command = command.arg(width.help("How many columns a row has at most, 40 to 190"))?;
+    let command = with_arg(
+        command,
+        width,
+        "How many columns a row has at most, 40 to 190",
+    );
     let from = number_option(alloc, "FROM", "from", (1, u64::MAX), "1");
-    let command = command.arg(from.help("The first step that is shown, 1 to 2^64 - 1"))?;
+    let command = with_arg(command, from, "The first step that is shown, 1 to 2^64 - 1");
     let to = number_option(alloc, "TO", "to", (0, u64::MAX), "0");
-    let command = command.arg(to.help("The last step that is shown; 0 for a hundred steps"))?;
+    let command = with_arg(
+        command,
+        to,
+        "The last step that is shown; 0 for a hundred steps",
+    );
     let actor = number_option(alloc, "ACTOR", "actor", (0, 65_535), "0");
-    let command = command.arg(actor.help(
+    let command = with_arg(
+        command,
+        actor,
         "The one actor that is shown; 0 for as many as have room",
-    ))?;
+    );
     let history = flag_option(alloc, "HISTORY", "history");
-    let command = command.arg(history.help("Draws the timeline of a history: an operation a row"))?;
+    let command = with_arg(
+        command,
+        history,
+        "Draws the timeline of a history: an operation a row",
+    );
     let page = flag_option(alloc, "HTML", "html");
-    let command = command.arg(page.help(
+    let command = with_arg(
+        command,
+        page,
         "Writes a page for a browser that goes through the run or the history",
-    ))?;
+    );
     let why = flag_option(alloc, "WHY", "why");
-    let command = command.arg(why.help(
+    let command = with_arg(
+        command,
+        why,
         "Draws the reason why a history or a recording isn't linearizable",
-    ))?;
+    );
     let lines = flag_option(alloc, "LINES", "lines");
-    let command = command.arg(lines.help(
+    let command = with_arg(
+        command,
+        lines,
         "Tells behind a picture what each line in its rows does",
-    ))?;
-    command.arg(color_option(alloc, whens))
+    );
+    with_arg(
+        command,
+        color_option(alloc, whens),
+        "When a picture or a timeline has colours; auto: on a terminal, unless NO_COLOR is set",
+    )
 }
 
 /// The option with one of the times at which a picture has colours.
@@ -58,7 +82,4 @@ fn color_option<'a>(alloc: Global, whens: &'a [&'a str]) -> Arg<'a>
         .long("color")
         .value_parser(whens)
         .default_value("auto")
-        .help(
-            "When a picture or a timeline has colours; auto: on a terminal, unless NO_COLOR is set",
-        )
 }
