@@ -3,8 +3,8 @@
 The key of an edit is a digest of the toolchain's line of identity, behind a point, and before it one of
 - the edit, and the src, specs and proofs of its crate, without the lines that are comments;
 - the lines of crates.txt of the crate and of the crates below it, and HANDLES;
-- the files of this tool, but for those that only choose, count and write down: main.py, record.py, report.py, runs.py, turns.py; and
-  but for this one, since a key that reads other texts is another one;
+- the files of this tool, but for those that only choose, count and write down: main.py, record.py, report.py, runs.py; and but for
+  this one, since a key that reads other texts is another one;
 - of the crates below, what a check of this crate can read.
 
 Other edits of its group aren't in it: none of them disturbs it, which --true-bodies checks (groups.py).
@@ -39,7 +39,7 @@ from mutants.sources import NO_CODE, Function, Homes, blanked, closed, functions
 
 LENGTH = 16
 LENGTH_OF_TOOLCHAIN = 8
-JUDGE_NOTHING = ("keys.py", "main.py", "record.py", "report.py", "runs.py", "turns.py")
+JUDGE_NOTHING = ("keys.py", "main.py", "record.py", "report.py", "runs.py")
 WORD = re.compile(r"\w+")
 # A file of a crate's specs/ or proofs/, as an import writes it, or an attribute.
 PATH = re.compile(r"\b(\w+)(?:\.|::)(specs|proofs)((?:(?:\.|::)[\w+]+)*)(?:(?:\.|::)\{([^}]*))?")

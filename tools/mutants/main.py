@@ -1,19 +1,22 @@
 """The run: which edits are tried, side by side, and what becomes of the record."""
 import argparse
 import functools
+import math
 import os
-import re
+import time
 from collections.abc import Callable, Iterable
 from concurrent.futures import FIRST_COMPLETED, Future, ThreadPoolExecutor, wait
 
-from mutants.edits import Edit, edits_in
+from mutants.edits import edits_in
 from mutants.keys import keys_of, units_of
 from mutants.kit import Kit, have_libraries, stop
 from mutants.record import Record
 from mutants.report import Report
 from mutants.runs import try_all, try_alone, try_read, try_true
 from mutants.trials import Trials
-from mutants.turns import MINUTES, Ceiling, Rank, is_due, number, own_change, seed_at
+
+# After so many minutes by the clock a run begins no group, where it isn't told to try all or all that is new.
+MINUTES = 10
 
 
 def side_by_side(kit: Kit, tasks: Iterable[tuple[int, Callable[[], None]]], lanes: int) -> None:
@@ -32,14 +35,6 @@ def side_by_side(kit: Kit, tasks: Iterable[tuple[int, Callable[[], None]]], lane
                 it.result()
 
 
-def part_told(text: str) -> slice:
-    """Returns which of a list's elements are in a part K/N of it."""
-    told = re.fullmatch(r"([1-9]\d*)/([1-9]\d*)", text)
-    if not told or int(told[1]) > int(told[2]):
-        raise argparse.ArgumentTypeError("a part is K/N, K from 1 to N")
-    return slice(int(told[1]) - 1, None, int(told[2]))
-
-
 def words_told(head: str) -> argparse.Namespace:
     told = argparse.ArgumentParser(description=head, formatter_class=argparse.RawDescriptionHelpFormatter)
     told.add_argument("names", nargs="*", metavar="NAME", help="a crate, or with --alone an edit's file")
@@ -48,11 +43,9 @@ def words_told(head: str) -> argparse.Namespace:
     told.add_argument("--true-bodies", action="store_true", help="check the functions without their edits, which must be proved")
     told.add_argument("--read", action="store_true", help="only look that the checker can read the edits, and prove nothing")
     told.add_argument("--over-out", action="store_true", help="over what rt check kept in out/")
+    told.add_argument("--new", action="store_true", help="try what the record doesn't have, however long it takes")
     told.add_argument("--all", action="store_true", help="try those too that the record has as refused, however long it takes")
-    told.add_argument("--new", action="store_true", help="try only what the record doesn't have")
     told.add_argument("--record", action="store_true", help="write into the record what this run saw")
-    told.add_argument("--part", type=part_told, default=slice(None), metavar="K/N", help="of the crates only the K-th of N parts, which together are all")
-    told.add_argument("--minutes", type=float, metavar="N", help=f"try for at most so many processor minutes ({MINUTES:.0f}; with --all or --alone, all)")
     told.add_argument("--jobs", type=int, metavar="N", help="so many checks at a time (one a processor)")
     words = told.parse_args()
     if words.record and (words.groups or words.read or words.true_bodies or words.over_out):
@@ -73,13 +66,11 @@ class Recorded:
             unknown = {*words.names} - {it.name for it in crates}
             if unknown:
                 stop(f"no crate is named {', '.join(sorted(unknown))}")
-            names = sorted(it.name for it in crates if not words.names or it.name in words.names)
-            chosen = {it.folder: edits_in(it.folder) for it in crates if it.name in names[words.part]}
+            chosen = {it.folder: edits_in(it.folder) for it in crates if not words.names or it.name in words.names}
         self.trials = [Trials(kit, it, chosen[it.folder], words.over_out) for it in crates if chosen.get(it.folder)]
         self.records = {it.name: Record(it.folder) for it in crates if it.folder in chosen and (chosen[it.folder] or not words.alone)}
         self.folders = {it.name: it.folder for it in crates}
         self.keys = {} if words.groups or words.read or words.true_bodies else self.keys_now()
-        self.seed = seed_at(self.top)
         self.untried = 0
 
     def keys_now(self) -> dict[str, str]:
@@ -89,41 +80,21 @@ class Recorded:
         return {edit.label(): keys[it.crate.name].of(edit) for it in self.trials for edit in it.edits}
 
     def choose(self, report: Report) -> None:
-        """Leaves the edits that are to be tried, in their order: those that the record doesn't have with their present keys, by their ranks,
-        and those whose turn it is."""
-        found: list[tuple[tuple[Rank, float], Trials]] = []
+        """Leaves the edits that are to be tried: those that the record doesn't have with their present keys, or all. Crates with one that it never
+        had come first."""
+        first: list[Trials] = []
+        others: list[Trials] = []
         for it in self.trials:
-            own, record = own_change(self.top, it.crate.folder), self.records[it.crate.name]
-            marks = {edit.name: record.mark(edit.name, self.keys[edit.label()]) for edit in it.edits}
-            it.marks = {name: mark for name, mark in marks.items() if mark}
-            parts: dict[Rank, list[Edit]] = {}
-            for edit in it.edits:
-                rank = self.rank(edit, bool(own), report)
-                if rank is None:
-                    self.untried += 1
-                else:
-                    parts.setdefault(rank, []).append(edit)
-            drawn = self.draw(it)
-            found += [((rank, -own if rank == Rank.CHANGED else drawn), it.part(edits)) for rank, edits in parts.items()]
-        self.trials = [it for _, it in sorted(found, key=lambda it: it[0])]
-
-    def rank(self, edit: Edit, is_changed: bool, report: Report) -> Rank | None:
-        """Returns why an edit is to be tried, or None where it isn't. is_changed: its crate did since its record was written."""
-        key, record = self.keys[edit.label()], self.records[edit.crate]
-        is_recorded = not edit.fault and record.has(edit.name, key)
-        if is_recorded:
-            report.recorded.add(edit.label())
-        if self.words.all or self.words.alone:
-            return Rank.UNKNOWN
-        if is_recorded:
-            return Rank.DRAWN if not self.words.new and is_due(self.seed, edit.crate, edit.label()) else None
-        if is_changed:
-            return Rank.CHANGED
-        return Rank.ELSEWHERE if record.has_elsewhere(edit.name, key) else Rank.UNKNOWN
-
-    def draw(self, trials: Trials) -> float:
-        """Returns a crate's place in the order that is drawn."""
-        return number(self.seed, trials.crate.name)
+            record = self.records[it.crate.name]
+            key = {edit.name: self.keys[edit.label()] for edit in it.edits}
+            it.marks = {name: mark for name in key if (mark := record.mark(name, key[name]))}
+            known = {edit.label() for edit in it.edits if not edit.fault and record.has(edit.name, key[edit.name])}
+            report.recorded |= known
+            left = [edit for edit in it.edits if self.words.all or self.words.alone or edit.label() not in known]
+            self.untried += len(it.edits) - len(left)
+            if left:
+                (others if all(record.knows(edit.name) for edit in left) else first).append(it.part(left))
+        self.trials = first + others
 
     def tell_gone(self, report: Report) -> None:
         """Names the lines of the record whose edit is gone: a fault, unless this run mends the record."""
@@ -166,15 +137,12 @@ def main(head: str) -> int:
     if is_recorded:
         recorded.choose(report)
         recorded.tell_gone(report)
-    else:
-        recorded.trials.sort(key=recorded.draw)
     if not words.read:
         have_libraries(kit, [it.crate for it in recorded.trials])
-    ceiling = Ceiling(words.minutes if words.minutes is not None or words.all or words.alone or words.read else MINUTES)
+    is_bounded = is_recorded and not (words.new or words.all or words.alone)
+    until = time.monotonic() + 60 * MINUTES if is_bounded else math.inf
     way = try_read if words.read else try_alone if words.alone else try_true if words.true_bodies else try_all
-    tasks = [(kit.need(it.crate), functools.partial(way, it, report, ceiling)) for it in recorded.trials]
-    if ceiling.minutes is None:
-        tasks.sort(key=lambda it: -it[0])
+    tasks = [(kit.need(it.crate), functools.partial(way, it, report, until)) for it in recorded.trials]
     side_by_side(kit, tasks, words.jobs or kit.processors())
     if words.record:
         recorded.mend(report)

@@ -33,9 +33,9 @@ class Record:
         """Returns whether an edit was refused with this key."""
         return any(it[:2] == (name, key) and it[2] for it in self.lines)
 
-    def has_elsewhere(self, name: str, key: str) -> bool:
-        """Returns whether another toolchain refused an edit as it stands."""
-        return any(it[0] == name and it[2] and is_of_another_toolchain(it[1], key) for it in self.lines)
+    def knows(self, name: str) -> bool:
+        """Returns whether an edit was ever refused, with whatever key."""
+        return any(it[0] == name for it in self.lines)
 
     def mark(self, name: str, key: str) -> str:
         """Returns what a second try said of an edit as it stands, by any toolchain, or nothing."""
