@@ -1,8 +1,14 @@
-use Rattle.blocking_carrier.proofs.Waiting.{waits_not, waits_on, sees}
+use Rattle.blocking_carrier.proofs.Waiting.{waits_not, waits_on, sees, finds, none_found}
 use Rattle.blocking_carrier.proofs.queue.BlockingCarrier.look.Goals as goal
 
 pub loop-init : goal.loop-init
 loop-init g c = record { seat = c.requires.seat; waited = waits_not _ }
+
+pub loop-preserved : goal.loop-preserved
+loop-preserved g c = record {
+  seat = c.pop.ensures.seat;
+  waited = waits_on _ _ _ c.loop.invariant.waited (finds _ _ (none_found _ _ _ c.in-Ok-None.field-0-is c.in-Ok-None.ensures.answer));
+}
 
 pub returns-in-Err-clause-caused : goal.returns-in-Err-clause-caused
 returns-in-Err-clause-caused g c =

@@ -1,5 +1,14 @@
+use Rattle.std.proofs.Common.{◌∙◌}
 use Rattle.carriers.proofs.Learning.{push_refused_then, sees_then}
+use Rattle.blocking_carrier.proofs.Waiting.{refused_after}
 use Rattle.blocking_carrier.proofs.queue.BlockingCarrier.offer.Goals as goal
+
+pub loop-preserved : goal.loop-preserved
+loop-preserved g c = record {
+  seat = c.push.ensures.seat;
+  more = refused_after _ _ _ _ c.loop.invariant.more c.in-NoNode.is c.in-Err.ensures.refused;
+  value = c.in-Err.ensures.back ∙ c.loop.invariant.value;
+}
 
 pub returns-in_default-clause-refused : goal.returns-in_default-clause-refused
 returns-in_default-clause-refused g c = push_refused_then _ _ _ c.in-Err.unpushed.refusal c.loop.invariant.more c.in-Err.ensures.refused

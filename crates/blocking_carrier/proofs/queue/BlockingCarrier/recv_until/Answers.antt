@@ -6,6 +6,15 @@ use Rattle.blocking_carrier.proofs.queue.BlockingCarrier.recv_until.Goals as goa
 pub loop-init : goal.loop-init
 loop-init g c = record { can = tt; finite = tt; seat = c.requires.seat; waited = waits_not _ }
 
+pub loop-preserved : goal.loop-preserved
+loop-preserved g c = record {
+  can = tt;
+  finite = tt;
+  seat = c.pop.ensures.seat;
+  waited = waits_on _ _ _ (waits_on _ _ _ c.loop.invariant.waited (looked_none _ _ _ c.in-Ok-None.field-0-is c.in-Ok-None.ensures.answer))
+      (finds _ _ (none_found _ _ _ c.in-Ok-None-pop.field-0-is c.in-Ok-None-pop.ensures.answer));
+}
+
 pub returns-in-Err-clause-refused : goal.returns-in-Err-clause-refused
 returns-in-Err-clause-refused g c = refused_on _ _ _ _ c.loop.invariant.waited c.in-Err.ensures.refused
 

@@ -4,6 +4,15 @@ use Rattle.blocking_carrier.specs.Queues.{queue_of}
 use Rattle.blocking_carrier.proofs.Waiting.{refused_after, looked_after, full_after, late_then}
 use Rattle.blocking_carrier.proofs.queue.BlockingCarrier.send_until.Goals as goal
 
+pub loop-preserved : goal.loop-preserved
+loop-preserved g c = record {
+  can = tt;
+  finite = tt;
+  seat = c.push.ensures.seat;
+  more = full_after _ _ _ _ _ _ _ c.loop.invariant.more c.in-NoNode.is c.in-Err.ensures.refused c.in-Ok-look_for_shut.ensures.more c.in-NoNode-refusal.is c.in-Err-push.ensures.refused;
+  value = c.in-Err-push.ensures.back ∙ c.in-Err.ensures.back ∙ c.loop.invariant.value;
+}
+
 pub returns-in_default-clause-refused : goal.returns-in_default-clause-refused
 returns-in_default-clause-refused g c = push_refused_then _ _ _ c.in-Err.unpushed.refusal c.loop.invariant.more c.in-Err.ensures.refused
 
