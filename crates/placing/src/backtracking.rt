@@ -12,7 +12,7 @@ use std::alloc::{AllocError, Global};
 use std::collections::BTreeSet;
 
 /// What comes of a search.
-#[derive(Debug, Drop)]
+#[derive(Drop)]
 pub(crate) enum SearchEnd {
     /// Operations in the order in which they take effect, as indices of the list.
     Order(Vec<usize>),
@@ -23,7 +23,7 @@ pub(crate) enum SearchEnd {
 }
 
 // Where an operation begins or ends. Beginnings come before ends at the same number.
-#[derive(Clone, Copy, Debug, PartialEq, Eq, PartialOrd, Ord)]
+#[derive(Clone, Copy, PartialEq, Eq, PartialOrd, Ord)]
 struct Edge {
     time: u64,
     is_end: bool,
@@ -31,7 +31,7 @@ struct Edge {
 }
 
 // An operation that is in an order: where it begins among the edges, what it did, and how many were left before it.
-#[derive(Clone, Copy, Debug)]
+#[derive(Clone, Copy)]
 struct Tried {
     edge: usize,
     index: usize,
@@ -41,7 +41,7 @@ struct Tried {
 }
 
 // An order in the making. The edges of the operations that are in it are out of the ring.
-#[derive(Debug, Drop)]
+#[derive(Drop)]
 struct Search {
     edges: Vec<Edge>,
     /// Where each operation ends among the edges; behind them where it doesn't.

@@ -5,7 +5,7 @@ use history::Stamped;
 use std::alloc::{AllocError, Global};
 
 /// Times at which no value has to be there, for the pops that were told so.
-#[derive(Debug, Drop)]
+#[derive(Drop)]
 pub(crate) struct Cuts {
     /// The times, each once and in order.
     pub(crate) times: Vec<u64>,
@@ -14,7 +14,7 @@ pub(crate) struct Cuts {
 }
 
 /// What comes of looking for such times.
-#[derive(Debug, Drop)]
+#[derive(Drop)]
 pub(crate) enum Cutting {
     Cuts(Cuts),
     /// This pop has none.

@@ -10,7 +10,7 @@ use history::{Op, Reply, Stamped};
 use std::alloc::{AllocError, Global};
 
 /// A push of a value, or a take of it. They are in order by value, pushes first, by their times.
-#[derive(Clone, Copy, Debug, PartialEq, Eq, PartialOrd, Ord)]
+#[derive(Clone, Copy, PartialEq, Eq, PartialOrd, Ord)]
 pub(crate) struct ValueCall {
     pub(crate) from: u16,
     pub(crate) body: u64,
@@ -28,7 +28,7 @@ impl ValueCall {
 }
 
 /// Indices of the operations by what they are.
-#[derive(Debug, Drop)]
+#[derive(Drop)]
 pub(crate) struct ByKind {
     /// Pushes that weren't refused, and takes, in order.
     pub(crate) calls: Vec<ValueCall>,
@@ -46,7 +46,7 @@ pub(crate) fn place_of(index: usize) -> u64 {
 }
 
 /// What is wrong with an operation by itself.
-#[derive(Clone, Copy, Debug)]
+#[derive(Clone, Copy)]
 pub(crate) enum Fault {
     Shape,
     Span,

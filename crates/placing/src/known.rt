@@ -8,7 +8,7 @@ use std::alloc::{AllocError, Global};
 use std::collections::BTreeSet;
 
 /// Values of a history, each as its pusher and its body.
-#[derive(Debug, Drop)]
+#[derive(Drop)]
 pub(crate) struct Known {
     /// Those that have more than one push.
     again: BTreeSet<(u16, u64)>,

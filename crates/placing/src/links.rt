@@ -6,7 +6,7 @@ use std::alloc::{AllocError, Global};
 
 /// Numbers from 0 on in a ring, with one more that comes before the first and behind the last. One is taken out and put
 /// back, the last that was taken out first.
-#[derive(Debug, Drop)]
+#[derive(Drop)]
 pub(crate) struct Ring {
     next: Vec<usize>,
     before: Vec<usize>,

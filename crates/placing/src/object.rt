@@ -10,7 +10,7 @@ use history::{Op, Reply, Stamped, Taken};
 use std::alloc::{AllocError, Global};
 
 /// What an operation does to the queue.
-#[derive(Clone, Copy, Debug, PartialEq, Eq)]
+#[derive(Clone, Copy, PartialEq, Eq)]
 pub(crate) enum Effect {
     Push,
     Take,
@@ -31,7 +31,7 @@ impl Effect {
 }
 
 // A value that was pushed, and a mark of it and of its place.
-#[derive(Clone, Copy, Debug)]
+#[derive(Clone, Copy)]
 struct Pushed {
     from: u16,
     body: u64,
@@ -39,7 +39,7 @@ struct Pushed {
 }
 
 /// All that was pushed, how much of it was taken, and whether the queue is shut.
-#[derive(Debug, Drop)]
+#[derive(Drop)]
 pub(crate) struct Object {
     pushed: Vec<Pushed>,
     taken: usize,

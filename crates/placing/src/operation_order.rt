@@ -11,7 +11,7 @@ use history::Stamped;
 use std::alloc::{AllocError, Global};
 
 /// When an operation takes effect, and what is before what at the same time.
-#[derive(Clone, Copy, Debug, PartialEq, Eq, PartialOrd, Ord)]
+#[derive(Clone, Copy, PartialEq, Eq, PartialOrd, Ord)]
 struct Event {
     at: When,
     /// How many cuts are before it.

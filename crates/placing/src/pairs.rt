@@ -4,14 +4,14 @@ use crate::kinds::{ValueCall, place_of};
 use std::alloc::{AllocError, Global};
 
 /// A push, and the take of its value where there is one, as indices.
-#[derive(Clone, Copy, Debug)]
+#[derive(Clone, Copy)]
 pub(crate) struct Pair {
     pub(crate) push: usize,
     pub(crate) take: Option<usize>,
 }
 
 /// Pushes with their takes.
-#[derive(Debug, Drop)]
+#[derive(Drop)]
 pub(crate) struct Pairs {
     /// Of the values that were pushed once.
     pub(crate) once: Vec<Pair>,
@@ -20,14 +20,14 @@ pub(crate) struct Pairs {
 }
 
 /// What comes of pairing.
-#[derive(Debug, Drop)]
+#[derive(Drop)]
 pub(crate) enum Pairing {
     Pairs(Pairs),
     Sooner(Reason),
 }
 
 // The calls of one value.
-#[derive(Debug, Drop)]
+#[derive(Drop)]
 struct Group {
     pushes: Vec<ValueCall>,
     takes: Vec<ValueCall>,

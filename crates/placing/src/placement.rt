@@ -26,7 +26,7 @@ use history::{Refusal, Stamped, Verdict, check};
 use std::alloc::{AllocError, Global};
 
 // What is found of a history, before it is judged.
-#[derive(Debug, Drop)]
+#[derive(Drop)]
 enum Found {
     /// Operations in the order in which they take effect, as indices of the list.
     Order(Vec<usize>),

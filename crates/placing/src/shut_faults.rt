@@ -100,7 +100,10 @@ fn late(history: &[Stamped], time: u64, other: u64) -> Option<Reason> {
 fn late_push(calls: &[ValueCall], time: u64, other: u64) -> Option<Reason> {
     let mut pushed: Option<&ValueCall> = None;
     for call in calls {
-        let is_pushed = pushed.is_some_and(|push| push.is_of_value_of(call));
+        let is_pushed = match pushed {
+            Some(push) => push.is_of_value_of(call),
+            None => false,
+        };
         if !call.is_take && call.time <= When::At(time) {
             pushed = Some(call);
         }

@@ -9,7 +9,7 @@ use history::Stamped;
 use std::alloc::{AllocError, Global};
 
 /// How stamps are spread: of the numbers used, in their order, each becomes `width` numbers in a row, the first from 1 on.
-#[derive(Debug, Drop)]
+#[derive(Drop)]
 pub(crate) struct Spread {
     numbers: Vec<u64>,
     width: u64,

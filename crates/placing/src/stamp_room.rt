@@ -5,21 +5,21 @@ use std::alloc::{AllocError, Global};
 use std::collections::BTreeSet;
 
 // One operation takes effect before another one. Both are indices of the order.
-#[derive(Clone, Copy, Debug)]
+#[derive(Clone, Copy)]
 struct Link {
     before: usize,
     after: usize,
 }
 
 // From when to when an operation may have its point.
-#[derive(Clone, Copy, Debug)]
+#[derive(Clone, Copy)]
 struct Room {
     first: u64,
     last: When,
 }
 
 // Operations that have no point yet, as indices of the order.
-#[derive(Debug, Drop)]
+#[derive(Drop)]
 struct Waiting {
     /// From when on each may have its point, in order.
     by_first: Vec<(u64, usize)>,
@@ -157,7 +157,7 @@ fn links_of(alloc: Global, history: &[Stamped], lined: &[usize]) -> Result<Vec<L
 }
 
 // The links of the first operations of an order, and to what those behind are linked.
-#[derive(Debug, Drop)]
+#[derive(Drop)]
 struct Linked {
     links: Vec<Link>,
     pushes: Vec<usize>,
@@ -212,7 +212,7 @@ impl Linked {
 }
 
 // What an operation of an order does to the queue.
-#[derive(Clone, Copy, Debug)]
+#[derive(Clone, Copy)]
 enum Effect {
     Push,
     Take,

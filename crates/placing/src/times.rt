@@ -2,7 +2,7 @@
 use history::Stamped;
 
 /// A time, or never.
-#[derive(Clone, Copy, Debug, PartialEq, Eq, PartialOrd, Ord)]
+#[derive(Clone, Copy, PartialEq, Eq, PartialOrd, Ord)]
 pub(crate) enum When {
     At(u64),
     Never,
@@ -26,14 +26,14 @@ impl When {
 }
 
 /// From when to when something may have its effect.
-#[derive(Clone, Copy, Debug)]
+#[derive(Clone, Copy)]
 pub(crate) struct Window {
     pub(crate) first: When,
     pub(crate) last: When,
 }
 
 /// A value of a history: who pushes it and who takes it, as indices of the list, and when.
-#[derive(Clone, Copy, Debug)]
+#[derive(Clone, Copy)]
 pub(crate) struct Carried {
     pub(crate) push: usize,
     pub(crate) take: Option<usize>,

@@ -5,7 +5,7 @@ use history::Stamped;
 use std::alloc::{AllocError, Global};
 
 /// The values of a history: first those that a pop was told, and then those left whose push ended, as it ended.
-#[derive(Debug, Drop)]
+#[derive(Drop)]
 pub(crate) struct Values {
     pub(crate) all: Vec<Carried>,
     /// How many a pop was told.
@@ -13,7 +13,7 @@ pub(crate) struct Values {
 }
 
 /// An order of values, or two that have none.
-#[derive(Debug, Drop)]
+#[derive(Drop)]
 pub(crate) enum Ordered {
     /// Indices of the values.
     All(Vec<usize>),

@@ -99,7 +99,7 @@ pub(crate) fn full(
 }
 
 // That a value is there, from when its push ends until its take begins.
-#[derive(Clone, Copy, Debug, PartialEq, Eq, PartialOrd, Ord)]
+#[derive(Clone, Copy, PartialEq, Eq, PartialOrd, Ord)]
 struct There {
     from: When,
     until: When,

@@ -50,10 +50,13 @@ fn effective(history: &[Stamped]) -> Option<usize> {
     for (index, operation) in history.iter().enumerate() {
         if matches!(operation.op, Op::Shut) && !is_told_shut(operation.reply) {
             let this = (operation.reply.is_none(), operation.first, index);
-            best = Some(best.map_or(this, |best| best.min(this)));
+            best = Some(match best {
+                Some(best) => best.min(this),
+                None => this,
+            });
         }
     }
-    best.map(|best| best.2)
+    Some(best?.2)
 }
 
 // Whether an operation pushes a value that a pop was told.
