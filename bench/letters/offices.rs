@@ -1,4 +1,4 @@
-//! Letters as `post_stress` sends them, in plain Rust: each sender makes its letters as it sends them, texts or numbers, through a
+//! Letters as `stress office` sends them, in plain Rust: each sender makes its letters as it sends them, texts or numbers, through a
 //! channel of the standard library, or of crossbeam-channel where that is there, to one receiver, which reads each and drops it.
 //!
 //! `offices mpsc|mpsc-bounded|crossbeam|crossbeam-bounded texts|numbers SENDERS LETTERS PLACES` prints how many letters came, and how
@@ -94,7 +94,7 @@ fn main() {
     let came = if kind == "texts" { came::<String>(way, asked, places) } else { came::<u64>(way, asked, places) };
     let time = start.elapsed().as_nanos();
     match came {
-        Some(count) if count == asked.0 * asked.1 => println!("{count} letters, {time} ns"),
+        Some(count) if count == asked.0 * asked.1 => println!("{time}"),
         other => println!("not all came: {other:?}"),
     }
 }

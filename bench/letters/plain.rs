@@ -1,4 +1,4 @@
-//! Letters as `letter_stress` sends them, in plain Rust: each sender's texts through a channel of the standard library, by a
+//! Letters as `stress letters` sends them, in plain Rust: each sender's texts through a channel of the standard library, by a
 //! thread of its own, to one receiver.
 //!
 //! `plain SENDERS LETTERS` prints how many nanoseconds it took to send and take so many letters of each sender: from before

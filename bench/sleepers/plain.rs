@@ -1,4 +1,4 @@
-//! Values handed to a thread that sleeps for them, as `wake_stress` hands them, in plain Rust: through a channel of the standard
+//! Values handed to a thread that sleeps for them, as `stress sleepers` hands them, in plain Rust: through a channel of the standard
 //! library, or of crossbeam-channel where that is there, without a bound or with one, or a `VecDeque` behind a lock with a condition
 //! variable.
 //!

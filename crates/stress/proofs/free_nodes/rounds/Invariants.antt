@@ -1,0 +1,5 @@
+use Rattle.stress.specs.Fresh.{IsFresh}
+use Rattle.stress.proofs.free_nodes.rounds.Given as goal
+
+abbrev pub invariant-loop : goal.invariant-loop
+invariant-loop l = IsFresh l.arena l.seat
