@@ -1,7 +1,7 @@
 //! Threads that take nodes of one arena and give them back.
-ghost use Rattle.std.specs.Prelude.{◌≡◌, None, IsSome, IsTrue, IfOk, IfSome};
+ghost use Rattle.std.specs.Prelude.{◌≡◌, false, None, IsSome, IsTrue, IfSome};
 ghost use Rattle.std.specs.List.{All};
-ghost use Rattle.node_arena.specs.Seats.{IsReady, pocket_of};
+ghost use Rattle.node_arena.specs.Seats.{IsReady, pocket_of, carries_of};
 ghost use Rattle.stress.specs.Fresh.{IsFresh};
 
 use free_list::{give_back, take};
@@ -16,15 +16,14 @@ use std::thread::Threads;
 const TRIES: u32 = 1_000_000;
 
 /// An arena for the non-blocking queue, with a seat for each of these roles.
-pub fn arena_of(
-    alloc: Global,
-    nodes: u32,
-    limit: u64,
-    roles: &[Role],
-) -> Result<(Arena, Vec<Seat>), Refusal>
-    ensures { IfOk result (λ r. All (IsFresh r.0) r.1.items) }
+pub fn seats_of(alloc: Global, nodes: u32, limit: u64, roles: &[Role]) -> Option<(Arena, Vec<Seat>)>
+    ensures fresh { IfSome result (λ r. All (IsFresh r.0) r.1.items) }
+    ensures numbers { IfSome result (λ r. carries_of r.0 ≡ false) }
 {
-    Arena::new(alloc, Kind::NonBlocking, nodes, limit, roles)
+    match Arena::new(alloc, Kind::NonBlocking, nodes, limit, roles) {
+        Ok(made) => Some(made),
+        Err(_) => None,
+    }
 }
 
 // Takes a node, again where it is Busy; whether it got one.
@@ -58,7 +57,7 @@ fn gives(arena: &Arena, seat: &mut Seat) -> bool
     false
 }
 
-/// So many rounds; the seat comes back where each of them succeeded.
+// So many rounds; the seat comes back where each of them succeeded.
 fn rounds(arena: &Arena, mut seat: Seat, pairs: u32) -> Option<Seat>
     requires { IsFresh arena.now seat }
     ensures { IfSome result (IsFresh arena.now) }

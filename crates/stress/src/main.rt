@@ -13,7 +13,7 @@ mod tallies;
 mod tests;
 mod works;
 
-use crate::free_nodes::{all_rounds, arena_of};
+use crate::free_nodes::{all_rounds, seats_of};
 use crate::letters::came;
 use crate::offices::{Office, posted};
 use crate::queues::{Asked, Carried, kind_of, worked_on};
@@ -122,13 +122,12 @@ fn time_nodes<R: Threads + Clock + Sync>(
     alloc: Global,
     words: &mut Args<Global>,
 ) -> Option<u128> {
-    let mut threads = 4;
-    if words.next()?.as_str() == "one" {
-        threads = 1;
-    }
+    let roles: &[Role] = match words.next()?.as_str() {
+        "one" => &[Role::Both],
+        _ => &[Role::Both; 4],
+    };
     let pairs = u32::try_from(number_in(words)?).ok()?;
-    let (arena, mut seats) = arena_of(alloc, 9, MOST_COUNT, &[Role::Both; 4]).ok()?;
-    seats.truncate(threads);
+    let (arena, seats) = seats_of(alloc, 9, MOST_COUNT, roles)?;
     let start = Instant::now(rt).ok()?;
     all_rounds(rt, alloc, &arena, seats, pairs)?;
     Some(start.elapsed(rt).ok()?.as_nanos())

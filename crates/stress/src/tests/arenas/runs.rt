@@ -1,5 +1,5 @@
 //! Takes and give backs in turn, by one seat and by two.
-use crate::free_nodes::arena_of;
+use crate::free_nodes::seats_of;
 use free_list::{give_back, take};
 use history::{Refusal, WornWord};
 use node_arena::{Arena, Held, Role, Seat};
@@ -8,7 +8,7 @@ use std::test::Fail;
 
 // An arena with two seats.
 fn two_seats(alloc: Global, nodes: u32, limit: u64) -> Option<(Arena, Seat, Seat)> {
-    let (arena, mut seats) = arena_of(alloc, nodes, limit, &[Role::Both; 2]).ok()?;
+    let (arena, mut seats) = seats_of(alloc, nodes, limit, &[Role::Both; 2])?;
     let second = seats.pop()?;
     let first = seats.pop()?;
     Some((arena, first, second))
@@ -45,7 +45,9 @@ fn a_node_is_used_until_its_count_is_the_greatest(rt: HostRuntime) -> Result<(),
         (2, 2, Refusal::NoNode),
         (3, 2, Refusal::WornOut(WornWord::Free)),
     ] {
-        let (arena, mut seats) = arena_of(rt.alloc(), 2, limit, &[Role::Both])?;
+        let (arena, mut seats) = seats_of(rt.alloc(), 2, limit, &[Role::Both]).expect(
+            &rt, "an arena",
+        );
         let seat = seats.pop().expect(&rt, "a seat");
         assert_eq!(rt;
             refused_after(&arena, seat),

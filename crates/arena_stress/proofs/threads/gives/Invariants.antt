@@ -1,6 +1,0 @@
-use Rattle.std.proofs.Common.{IsSome}
-use Rattle.node_arena.specs.Seats.{IsReady, pocket_of}
-use Rattle.arena_stress.proofs.threads.gives.Given as goal
-
-abbrev pub invariant-loop : goal.invariant-loop
-invariant-loop l = IsReady l.arena l.seat × IsSome (pocket_of l.seat)

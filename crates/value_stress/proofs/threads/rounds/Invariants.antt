@@ -1,5 +1,0 @@
-use Rattle.value_stress.specs.Seated.{MayCall}
-use Rattle.value_stress.proofs.threads.rounds.Given as goal
-
-abbrev pub invariant-loop-number : goal.invariant-loop-number
-invariant-loop-number g l = MayCall g.Q.Carrier.is_seat g.Q.Carrier.permits g.Q.Carrier.known l.fn.queue l.seat
