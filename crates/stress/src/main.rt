@@ -163,11 +163,12 @@ fn print_few<R: Threads + Wait + Clock + Sync + Print>(rt: &R, alloc: Global) ->
                 works: works_of("four"),
                 count: 100,
             };
-            let sum = worked_on(rt, alloc, kind, carried, asked);
-            println!(rt; "{name}, {what}: what was taken adds up to {sum:?}")?;
+            let sum = worked_on(rt, alloc, kind, carried, asked).unwrap_or(0);
+            println!(rt; "{name}, {what}: what was taken adds up to {sum}")?;
         }
-        let letters = came(rt, alloc, kind, 4, 10).ok().and_then(|it| it.in_order);
-        println!(rt; "{name}: {letters:?} letters in order")?;
+        if let Ok(came) = came(rt, alloc, kind, 4, 10) {
+            println!(rt; "{name}: {} letters in order", came.in_order.unwrap_or(0))?;
+        }
     }
     let asked = Office {
         senders: 4,
@@ -177,8 +178,11 @@ fn print_few<R: Threads + Wait + Clock + Sync + Print>(rt: &R, alloc: Global) ->
     };
     let is_right = matches!(posted::<R, String>(rt, alloc, asked), Ok(it) if it.is_right(40));
     println!(rt; "an office: each letter once, in order: {is_right}")?;
-    let woken = told_of(rt, alloc, Kind::NonBlocking, Task::Wake, 10).map(|it| it.len());
-    println!(rt; "{woken:?} values came to a thread that sleeps")
+    let woken = match told_of(rt, alloc, Kind::NonBlocking, Task::Wake, 10) {
+        Ok(times) => times.len(),
+        Err(_) => 0,
+    };
+    println!(rt; "a thread that sleeps: {woken} values came")
 }
 
 fn main(rt: HostRuntime) -> io::Result<()> {

@@ -84,7 +84,9 @@ fn worked_by<R: Threads + Wait + Sync, T: Load, Q: Keeping<Item = T> + Sync + Dr
 ) -> Result<u64, Refusal>
     requires { All (Q.is_seat queue) seats.items }
 {
-    let jobs = jobs_of(alloc, &queue, seats, asked.works, asked.keeps).ok_or(Refusal::Memory)?;
+    let Some(jobs) = jobs_of(alloc, &queue, seats, asked.works, asked.keeps) else {
+        return Err(Refusal::Memory);
+    };
     worked(rt, alloc, &queue, jobs, asked.count).ok_or(Refusal::Memory)
 }
 
