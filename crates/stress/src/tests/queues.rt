@@ -15,7 +15,7 @@ use std::thread::Threads;
 use two_lock::TwoLockAlgorithm;
 
 /// How often each thread pushes and pops in the long runs.
-const PAIRS: u64 = 500_000;
+const PAIRS: u64 = 50_000;
 
 /// The same in the short runs, where refusals are ordinary.
 const FEW_PAIRS: u64 = 100;
@@ -90,7 +90,7 @@ fn over_places<R: Threads + Wait + Sync>(
     Ok((came, most))
 }
 
-/// Four threads push and pop 500,000 times each over 65 nodes, with kept nodes and without: each value comes once, each sender's
+/// Four threads push and pop 50,000 times each over 65 nodes, with kept nodes and without: each value comes once, each sender's
 /// in order, and each node but the dummy is found again.
 #[test]
 fn each_value_comes_once_and_each_node_is_found(rt: HostRuntime) -> Result<(), Fail> {
