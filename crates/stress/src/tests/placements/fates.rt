@@ -1,7 +1,8 @@
 //! Many small histories, each against a search of all orders.
-use crate::tests::chance::{Chance, Kind, by_chance};
-use crate::tests::comparisons::same;
-use crate::tests::orders::has_order;
+use crate::tests::chance::Chance;
+use crate::tests::placements::comparisons::same;
+use crate::tests::placements::drawn::{Kind, by_chance};
+use crate::tests::placements::orders::has_order;
 use history::Stamped;
 use placing::{Placed, Unknown, place};
 use std::alloc::Global;

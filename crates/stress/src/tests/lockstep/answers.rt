@@ -4,7 +4,7 @@ use line_table::Kind;
 
 /// Which answers came. A call that meets no other is never Busy. Where no seat keeps its nodes, no node's next is worn out
 /// before Free is.
-#[derive(Clone, Copy, PartialEq, Eq)]
+#[derive(Clone, Copy, Debug, PartialEq, Eq)]
 pub struct Answers {
     pub done: bool,
     pub value: bool,

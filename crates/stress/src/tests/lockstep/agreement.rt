@@ -1,5 +1,5 @@
 //! What a queue and a world have to agree in.
-use crate::queues::Watched;
+use crate::tests::lockstep::queues::Watched;
 use step_machine::{Held, WorldOf};
 
 /// Whether the shared words are those of a world, the locks too, and there are no others.

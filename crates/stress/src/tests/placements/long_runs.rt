@@ -1,6 +1,6 @@
 //! Long runs of a queue by some actors, with times around each call.
 use crate::tests::chance::Chance;
-use crate::tests::comparisons::same;
+use crate::tests::placements::comparisons::same;
 use history::{Body, Op, Reply, Stamped, Taken};
 use placing::{Placed, place};
 use std::alloc::{AllocError, Global};

@@ -1,8 +1,4 @@
 //! The queues that can be looked into.
-ghost use Rattle.std.specs.Prelude.{IfOk};
-ghost use Rattle.std.specs.List.{All};
-ghost use Rattle.counted_ref.specs.Ref.{IsSplit};
-
 use arena_queue::{Algorithm, ArenaQueueOf};
 use history::{Fifo, Refusal};
 use line_table::Kind;
@@ -18,9 +14,7 @@ pub trait Watched<const B: u32>: Fifo {
     fn kind() -> Kind;
 
     /// A queue of so many nodes and this greatest count, with its seats 1 and 2.
-    fn made(alloc: Global, nodes: u32, limit: u64) -> Result<(Self, Vec<Self::Seat>), Refusal>
-        requires split { IsSplit B }
-        ensures { IfOk result (λ r. All (Self.is_seat r.0) r.1.items) };
+    fn made(alloc: Global, nodes: u32, limit: u64) -> Result<(Self, Vec<Self::Seat>), Refusal>;
 
     /// What a word holds; none where there is no such word.
     fn peek(&self, word: usize) -> Option<u64>;
@@ -29,9 +23,7 @@ pub trait Watched<const B: u32>: Fifo {
     fn pocket(seat: &Self::Seat) -> Option<Held>;
 
     /// Tells a seat to keep its nodes.
-    fn keep_nodes(&self, seat: &mut Self::Seat)
-        requires { Self.is_seat self.now seat.old }
-        ensures { Self.is_seat self.now seat.new };
+    fn keep_nodes(&self, seat: &mut Self::Seat);
 
     /// Whether a seat keeps its nodes.
     fn keeps_nodes(seat: &Self::Seat) -> bool;
@@ -47,10 +39,7 @@ impl<A: Algorithm<B>, const B: u32> Watched<B> for ArenaQueueOf<A, B> {
         nodes: u32,
         limit: u64,
     ) -> Result<(ArenaQueueOf<A, B>, Vec<Seat>), Refusal> {
-        match ArenaQueueOf::<A, B>::new(alloc, nodes, limit, &ROLES) {
-            Ok(made) => Ok(made),
-            Err(refusal) => Err(refusal),
-        }
+        ArenaQueueOf::<A, B>::new(alloc, nodes, limit, &ROLES)
     }
 
     fn peek(&self, word: usize) -> Option<u64> {

@@ -23,7 +23,7 @@ pub enum Call {
 }
 
 /// What ten enqueues and ten dequeues of actor 2 come to, by turns.
-#[derive(Clone, Copy, PartialEq, Eq)]
+#[derive(Clone, Copy, Debug, PartialEq, Eq)]
 pub struct Told {
     pub done: u32,
     pub no_node: u32,

@@ -1,12 +1,14 @@
 //! An actor that stops for good right before a line, in the runs of the table, while another one goes on.
-use crate::stopped_actors::{
+use crate::tests::lockstep::stopped_actors::{
     DEQUEUE_STEPS, ENQUEUE_STEPS, PAIRS, SHUT_STEPS, lags, line_of, world_of,
 };
-use crate::stops::{ALL_END, Before, Call, NON_BLOCKING, NONE, TWO_LOCK, Told};
-use crate::world_calls::{goes, told};
+use crate::tests::lockstep::stops::{ALL_END, Before, Call, NON_BLOCKING, NONE, TWO_LOCK, Told};
+use crate::tests::lockstep::world_calls::{goes, told};
 use history::{Reply, Verdict, check};
 use line_table::{Kind, Line};
 use std::alloc::Global;
+use std::process::Abort;
+use std::test::Fail;
 use step_machine::World;
 
 // What comes before the call of actor 1.
@@ -66,27 +68,35 @@ fn told_beside(
     Some(all)
 }
 
-/// Before how many lines of a queue actor 1 stopped so that the calls of actor 2 came to what the table says, and the
-/// history is judged Yes.
-pub fn halted(alloc: Global, kind: Kind) -> Option<u32> {
-    let mut right = 0u32;
-    match kind {
-        Kind::NonBlocking => {
-            for row in NON_BLOCKING {
-                let mut world = world_of(alloc, kind)?;
-                if told_beside(alloc, &mut world, row) == Some(ALL_END) {
-                    right = right.wrapping_add(1);
-                }
-            }
-        }
-        Kind::TwoLock => {
-            for (line, before, call, steps, due) in TWO_LOCK {
-                let mut world = world_of(alloc, kind)?;
-                if told_beside(alloc, &mut world, (line, before, call, steps)) == Some(due) {
-                    right = right.wrapping_add(1);
-                }
-            }
-        }
+// In a run the calls of actor 2 come to what is due, and the history is judged Yes.
+fn comes_to(
+    rt: &(impl AllocGlobal + Abort),
+    kind: Kind,
+    row: (Line, Before, Call, u32),
+    due: Told,
+) -> Result<(), Fail> {
+    let mut world = world_of(rt.alloc(), kind).ok_or("no world")?;
+    let told = told_beside(rt.alloc(), &mut world, row);
+    assert_eq!(rt; told, Some(due), "{kind:?}, stopped before {:?}", row.0);
+    Ok(())
+}
+
+#[test]
+fn goes_on_beside_one_stopped_before_each_line_of_the_non_blocking_queue(
+    rt: HostRuntime,
+) -> Result<(), Fail> {
+    for row in NON_BLOCKING {
+        comes_to(&rt, Kind::NonBlocking, row, ALL_END)?;
     }
-    Some(right)
+    Ok(())
+}
+
+#[test]
+fn goes_on_but_for_its_locks_beside_one_stopped_before_each_line_of_the_two_lock_queue(
+    rt: HostRuntime,
+) -> Result<(), Fail> {
+    for (line, before, call, steps, due) in TWO_LOCK {
+        comes_to(&rt, Kind::TwoLock, (line, before, call, steps), due)?;
+    }
+    Ok(())
 }

@@ -1,11 +1,10 @@
 //! An actor of the non-blocking queue that stops for good in the midst of a call, while another one goes on.
-ghost use Rattle.std.specs.Prelude.{◌<◌};
-
-use crate::chance::Draws;
-use crate::world_calls::{CHOICES, MOST_STEPS, call_of, goes, told};
+use crate::tests::chance::Chance;
+use crate::tests::lockstep::world_calls::{CHOICES, MOST_STEPS, call_of, goes, told};
 use history::{Body, Op, Refusal, Reply, Verdict, check};
 use line_table::{Kind, Line};
 use std::alloc::Global;
+use std::test::Fail;
 use step_machine::World;
 
 /// How many runs there are, and as many with shuts.
@@ -34,17 +33,17 @@ pub const SHUT_STEPS: u32 = 8;
 
 /// What all runs came to.
 #[derive(Clone, Copy)]
-pub struct Stopped {
+struct Stopped {
     /// Before which lines the actor stopped, in the order of `Line::ALL`.
     before: [bool; 45],
     /// How many enqueues were done within their steps.
-    pub enqueues: u64,
+    enqueues: u64,
     /// How many dequeues gave a value within theirs.
-    pub dequeues: u64,
+    dequeues: u64,
     /// How many shuts were done within theirs.
-    pub shuts: u64,
+    shuts: u64,
     /// How many of all these calls ended within their steps: done, with a value, or since the queue was shut.
-    pub ended: u64,
+    ended: u64,
 }
 
 impl Stopped {
@@ -83,8 +82,8 @@ impl Stopped {
         self.ended = self.ended.wrapping_add(1);
     }
 
-    /// Before how many lines the actor stopped.
-    pub fn lines(&self) -> u64 {
+    // Before how many lines the actor stopped.
+    fn lines(&self) -> u64 {
         let mut lines = 0u64;
         for before in self.before {
             lines = lines.wrapping_add(u64::from(before));
@@ -119,30 +118,26 @@ pub fn lags(world: &mut World) -> Option<()> {
 }
 
 // Actor 1 begins a call and takes some steps of it; it may end.
-fn goes_some(world: &mut World, draws: &mut Draws, choices: u64) -> Option<()>
-    requires { 0 < choices }
-{
-    world.begin(1, call_of(draws.below(choices))).ok()?;
-    for _ in 0..draws.below(u64::from(MOST_STEPS) + 1) {
+fn goes_some(world: &mut World, chance: &mut Chance, choices: u64) -> Option<()> {
+    world.begin(1, call_of(chance.below(choices))).ok()?;
+    for _ in 0..chance.below(u64::from(MOST_STEPS) + 1) {
         goes(world, 1);
     }
     Some(())
 }
 
 // What comes before the stop: up to two calls of actor 1, perhaps one that it gives up, and a Tail that may lag.
-fn stops(world: &mut World, draws: &mut Draws, choices: u64) -> Option<()>
-    requires { 0 < choices }
-{
-    for _ in 0..draws.below(3) {
-        told(world, 1, call_of(draws.below(choices)), MOST_STEPS)?;
+fn stops(world: &mut World, chance: &mut Chance, choices: u64) -> Option<()> {
+    for _ in 0..chance.below(3) {
+        told(world, 1, call_of(chance.below(choices)), MOST_STEPS)?;
     }
-    let lagging = draws.below(3);
+    let lagging = chance.below(3);
     if lagging == 1 {
         lags(world)?;
     }
-    goes_some(world, draws, choices)?;
-    if draws.below(4) == 0 && world.give(1).is_ok() {
-        goes_some(world, draws, choices)?;
+    goes_some(world, chance, choices)?;
+    if chance.below(4) == 0 && world.give(1).is_ok() {
+        goes_some(world, chance, choices)?;
     }
     if lagging == 2 {
         lags(world)?;
@@ -165,11 +160,9 @@ fn goes_on(world: &mut World, stopped: &mut Stopped) -> Option<()> {
 }
 
 // One run, with calls of so many choices; none where memory is refused, or a call that meets no other doesn't end.
-fn run(alloc: Global, draws: &mut Draws, choices: u64, stopped: &mut Stopped) -> Option<World>
-    requires { 0 < choices }
-{
+fn run(alloc: Global, chance: &mut Chance, choices: u64, stopped: &mut Stopped) -> Option<World> {
     let mut world = world_of(alloc, Kind::NonBlocking)?;
-    stops(&mut world, draws, choices)?;
+    stops(&mut world, chance, choices)?;
     if let Some(line) = line_of(&world, 1) {
         stopped.adds(line);
     }
@@ -177,27 +170,42 @@ fn run(alloc: Global, draws: &mut Draws, choices: u64, stopped: &mut Stopped) ->
     Some(world)
 }
 
-/// All runs without shuts, but for a last one; none where one of them didn't come to its end.
-pub fn runs(alloc: Global) -> Option<Stopped> {
-    let mut draws = Draws::new(36);
+// All runs without shuts, but for a last one; none where one of them didn't come to its end.
+fn runs(alloc: Global) -> Option<Stopped> {
+    let mut chance = Chance::new(36);
     let mut stopped = Stopped::none();
     for _ in 0..RUNS {
-        run(alloc, &mut draws, CHOICES, &mut stopped)?;
+        run(alloc, &mut chance, CHOICES, &mut stopped)?;
     }
     Some(stopped)
 }
 
-/// All runs with shuts, and how many of their histories are judged Yes; none where one of them didn't come to its end.
-pub fn runs_with_shuts(alloc: Global) -> Option<(Stopped, u64)> {
-    let mut draws = Draws::new(45);
+// All runs with shuts, and how many of their histories are judged Yes; none where one of them didn't come to its end.
+fn runs_with_shuts(alloc: Global) -> Option<(Stopped, u64)> {
+    let mut chance = Chance::new(45);
     let mut stopped = Stopped::none();
     let mut right = 0u64;
     for _ in 0..RUNS {
-        let world = run(alloc, &mut draws, MANY_SHUTS, &mut stopped)?;
+        let world = run(alloc, &mut chance, MANY_SHUTS, &mut stopped)?;
         let history = world.history(alloc).ok()?;
         if check(alloc, &history).ok()? == Verdict::Yes {
             right = right.wrapping_add(1);
         }
     }
     Some((stopped, right))
+}
+
+#[test]
+fn ends_each_call_beside_an_actor_that_stopped(rt: HostRuntime) -> Result<(), Fail> {
+    let stopped = runs(rt.alloc()).ok_or("a run didn't end")?;
+    let done = (stopped.enqueues, stopped.dequeues, stopped.shuts);
+    assert_eq!(rt; (stopped.lines(), done), (23, (20_000, 20_000, 2_000)));
+    Ok(())
+}
+
+#[test]
+fn ends_each_call_among_shuts_beside_an_actor_that_stopped(rt: HostRuntime) -> Result<(), Fail> {
+    let (stopped, right) = runs_with_shuts(rt.alloc()).ok_or("a run didn't end")?;
+    assert_eq!(rt; (stopped.ended, right), (42_000, 2_000));
+    Ok(())
 }

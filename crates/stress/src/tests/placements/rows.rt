@@ -1,6 +1,6 @@
 //! Small histories: placed with the stamps given, placed with others, each reason, and what is open.
-use crate::tests::answers::answer;
-use crate::tests::comparisons::same;
+use crate::tests::placements::answers::answer;
+use crate::tests::placements::comparisons::same;
 use std::test::Fail;
 
 /// A history, and what is answered of it.
