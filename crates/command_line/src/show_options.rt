@@ -23,54 +23,31 @@ pub(crate) fn show_command<'a>(
         helps::SHOW,
     );
     let width = number_option(alloc, "WIDTH", "width", (40, 190), "80");
-    let command = with_arg(
-        command,
-        width,
-        "How many columns a row has at most, 40 to 190",
-    );
+    let help = "How many columns a row has at most, 40 to 190";
+    let command = with_arg(command, width, help);
     let from = number_option(alloc, "FROM", "from", (1, u64::MAX), "1");
     let command = with_arg(command, from, "The first step that is shown, 1 to 2^64 - 1");
     let to = number_option(alloc, "TO", "to", (0, u64::MAX), "0");
-    let command = with_arg(
-        command,
-        to,
-        "The last step that is shown; 0 for a hundred steps",
-    );
+    let help = "The last step that is shown; 0 for a hundred steps";
+    let command = with_arg(command, to, help);
     let actor = number_option(alloc, "ACTOR", "actor", (0, 65_535), "0");
-    let command = with_arg(
-        command,
-        actor,
-        "The one actor that is shown; 0 for as many as have room",
-    );
+    let help = "The one actor that is shown; 0 for as many as have room";
+    let command = with_arg(command, actor, help);
     let history = flag_option(alloc, "HISTORY", "history");
-    let command = with_arg(
-        command,
-        history,
-        "Draws the timeline of a history: an operation a row",
-    );
+    let help = "Draws the timeline of a history: an operation a row";
+    let command = with_arg(command, history, help);
     let page = flag_option(alloc, "HTML", "html");
-    let command = with_arg(
-        command,
-        page,
-        "Writes a page for a browser that goes through the run or the history",
-    );
+    let help = "Writes a page for a browser that goes through the run or the history";
+    let command = with_arg(command, page, help);
     let why = flag_option(alloc, "WHY", "why");
-    let command = with_arg(
-        command,
-        why,
-        "Draws the reason why a history or a recording isn't linearizable",
-    );
+    let help = "Draws the reason why a history or a recording isn't linearizable";
+    let command = with_arg(command, why, help);
     let lines = flag_option(alloc, "LINES", "lines");
-    let command = with_arg(
-        command,
-        lines,
-        "Tells behind a picture what each line in its rows does",
-    );
-    with_arg(
-        command,
-        color_option(alloc, whens),
-        "When a picture or a timeline has colours; auto: on a terminal, unless NO_COLOR is set",
-    )
+    let help = "Tells behind a picture what each line in its rows does";
+    let command = with_arg(command, lines, help);
+    let help =
+        "When a picture or a timeline has colours; auto: on a terminal, unless NO_COLOR is set";
+    with_arg(command, color_option(alloc, whens), help)
 }
 
 /// The option with one of the times at which a picture has colours.
