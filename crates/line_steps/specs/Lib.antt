@@ -8,4 +8,5 @@ pub mod Stored
 pub mod Words
 pub mod Ready
 pub mod Steps
+pub mod PutSteps
 pub mod Calls
