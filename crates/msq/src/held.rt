@@ -22,7 +22,7 @@ pub(crate) fn faulty_list(alloc: Global, command: &Command) -> Result<Option<&st
 }
 
 /// How a command ended, and two lines of its file that say operations of one thread which overlap, where `place` found such.
-#[derive(Clone, Copy, Debug)]
+#[derive(Clone, Copy)]
 pub(crate) struct Done {
     pub(crate) ending: Ending,
     pub(crate) overlap: Option<(u64, u64)>,

@@ -31,7 +31,7 @@ use text_io::{Sink, Source};
 const PAGE_STEPS: u64 = 1_000_000;
 
 /// What pages have around what they show.
-#[derive(Clone, Copy, Debug)]
+#[derive(Clone, Copy)]
 pub(crate) struct Frames<'a> {
     /// Around the trace of a run.
     pub(crate) run: Frame<'a>,

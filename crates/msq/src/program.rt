@@ -23,7 +23,7 @@ use text_io::{ReaderSource, Sink, Source, WriterSink};
 use trace_engine::trace_text;
 
 /// Which of the standard streams are terminals.
-#[derive(Clone, Copy, Debug)]
+#[derive(Clone, Copy)]
 pub struct Terminals {
     pub input: bool,
     pub output: bool,
@@ -75,7 +75,7 @@ fn words_of<R: Runtime + AllocGlobal>(rt: &R) -> io::Result<Vec<String>> {
 }
 
 /// How a command is obeyed.
-#[derive(Clone, Copy, Debug)]
+#[derive(Clone, Copy)]
 struct Manner {
     /// Whether the text is kept, to explain a fault.
     keeps: bool,

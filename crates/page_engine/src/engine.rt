@@ -13,7 +13,7 @@ use text_io::{Sink, Source, send};
 use trace_engine::trace_text;
 
 /// What a page has before the text that it shows and behind it.
-#[derive(Clone, Copy, Debug)]
+#[derive(Clone, Copy)]
 pub struct Frame<'a> {
     pub before: &'a str,
     pub after: &'a str,

@@ -16,7 +16,7 @@ use std::alloc::Global;
 use text_io::{Sink, Source};
 
 /// What is told of a text.
-#[derive(Debug, Drop)]
+#[derive(Drop)]
 pub struct Told {
     pub found: Placed,
     /// Two lines, the first before the second, that say operations of one thread which overlap: a name for several threads, or a

@@ -5,7 +5,7 @@ ghost use Rattle.show_engine.specs.Frames.{IsFitting, column_of, end_of, frame_o
 use line_table::Line;
 
 /// What a line does, as it is told.
-#[derive(Clone, Copy, Debug)]
+#[derive(Clone, Copy)]
 pub struct Meaning<'a> {
     pub line: Line,
     /// Its access of a shared word.
@@ -13,7 +13,7 @@ pub struct Meaning<'a> {
 }
 
 /// What of a run is shown.
-#[derive(Clone, Copy, Debug)]
+#[derive(Clone, Copy)]
 pub struct View<'a> {
     /// How many columns a row has at most, 40 to 190; below that it is 40, and above it 190.
     pub width: u32,

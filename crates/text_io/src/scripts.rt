@@ -15,7 +15,7 @@ pub enum Trouble {
     Standstill,
 }
 
-#[derive(Clone, Copy, Debug, PartialEq, Eq)]
+#[derive(Clone, Copy, Debug)]
 struct Plan {
     trouble: Trouble,
     calls_before: u64,
