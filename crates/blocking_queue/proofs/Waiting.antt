@@ -1,11 +1,12 @@
 -- What a seat learns while it waits.
 use Rattle.std.proofs.Common.{◌≡◌, ℕ, [], ◌∷◌, ◌++◌, length, sym, refl, ap, ◌∙◌, append-nil, append_assoc, subst, Option, None, Some}
+use Rattle.history.specs.declared.operations.Entry.TheVariants.{Push}
 use Rattle.history.specs.declared.operations.Taken.{Taken}
 use Rattle.history.specs.declared.refusals.Refusal.{Refusal}
 use Rattle.history.specs.declared.refusals.Refusal.TheVariants.{NoNode}
 use Rattle.history.specs.Seats.{Known}
-use Rattle.history.specs.Answers.{EndsByTry, FoundEmpty, PopAnswers, PopRefused, PushRefused, SeesMore}
-use Rattle.history.proofs.Learning.{sees_then}
+use Rattle.history.specs.Answers.{EndsByTry, FoundEmpty, PopAnswers, PopRefused, Pushed, PushRefused, SeesMore}
+use Rattle.history.proofs.Learning.{adds_then, sees_then}
 use Rattle.blocking_queue.specs.Waits.{Waited, EmptySince}
 use Rattle.blocking_queue.specs.Answers.{Received, RecvRefused, EndsAfterWait, Looked}
 
@@ -41,6 +42,12 @@ none_found a b o e h = subst (λ p. PopAnswers a p b) e h
 pub received : (a b c : Known) (o : Option Taken) (value : Taken) → o ≡ Some value → Waited a b → PopAnswers b o c → Received a value c
 received a b c o value e w h = record { last = b; waited = w; popped = subst (λ p. PopAnswers b p c) e h }
 
+-- a seat that waited, and whose looks then found one
+pub looked_some : (a b c : Known) (o : Option Taken) (value : Taken) → o ≡ Some value → Waited a b → Looked b o c → Received a value c
+looked_some a b c o value e w h =
+    let r : Received b value c = subst (λ p. Looked b p c) e h in
+    record { last = r.last; waited = waits_on a b r.last w r.waited; popped = r.popped }
+
 -- a seat that waited, and then was refused
 pub refused_then : (a b c : Known) (r : Refusal) → Waited a b → PopRefused b r c → RecvRefused a r c
 refused_then a b c r w h = record { last = b; waited = w; refused = h }
@@ -63,6 +70,10 @@ empty_since heard a b o h e p =
 -- a seat whose looks found none
 pub looked_none : (a b : Known) (o : Option Taken) → o ≡ None → Looked a o b → Waited a b
 looked_none a b o e h = subst (λ p. Looked a p b) e h
+
+-- a seat that saw no less, and then pushed this body
+pub pushed_after : (a b c : Known) (body : ℕ) → SeesMore a b → Pushed b body c → Pushed a body c
+pushed_after a b c body s h = adds_then a b c (Push b.number body) (Push a.number body) (ap (λ n. Push n body) s.number) s h
 
 -- a seat whose push was refused for want of a node
 pub refused_by : (a b : Known) (r : Refusal) → r ≡ NoNode → PushRefused a r b → SeesMore a b

@@ -1,5 +1,5 @@
 use Rattle.history.proofs.Learning.{push_refused_then, sees_then}
-use Rattle.blocking_queue.proofs.Waiting.{refused_after}
+use Rattle.blocking_queue.proofs.Waiting.{pushed_after, refused_after}
 use Rattle.blocking_queue.proofs.queue.BlockingQueue.offer.Goals as goal
 
 pub loop-preserved : goal.loop-preserved
@@ -23,3 +23,9 @@ pub returns-in-Err-push-clause-caused : goal.returns-in-Err-push-clause-caused
 returns-in-Err-push-clause-caused g c =
     let e = c.in-Err-push.ensures.caused in
     record { last = e.last; seat = e.seat; more = sees_then _ _ _ c.loop.invariant.more e.more; caused = e.caused }
+
+pub returns-in-Ok-clause-pushed : goal.returns-in-Ok-clause-pushed
+returns-in-Ok-clause-pushed g c = pushed_after _ _ _ _ c.loop.invariant.more c.in-Ok.ensures.pushed
+
+pub returns-in-Ok-push-clause-pushed : goal.returns-in-Ok-push-clause-pushed
+returns-in-Ok-push-clause-pushed g c = pushed_after _ _ _ _ c.loop.invariant.more c.in-Ok-push.ensures.pushed

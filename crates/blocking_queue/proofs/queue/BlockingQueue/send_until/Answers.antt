@@ -1,6 +1,6 @@
 use Rattle.blocking_queue.specs.Queues.{queue_of}
 use Rattle.history.proofs.Learning.{push_refused_then, sees_then}
-use Rattle.blocking_queue.proofs.Waiting.{refused_after, looked_after, full_after, late_then}
+use Rattle.blocking_queue.proofs.Waiting.{pushed_after, refused_after, looked_after, full_after, late_then}
 use Rattle.blocking_queue.proofs.queue.BlockingQueue.send_until.Goals as goal
 
 pub loop-preserved : goal.loop-preserved
@@ -68,3 +68,18 @@ returns-in-Err-push-2-clause-caused g c =
     tried.field-0-is tried.ensures.refused in
     let e = c.in-Err-push-2.ensures.caused in
     record { last = e.last; seat = e.seat; more = sees_then _ _ _ seen e.more; caused = e.caused }
+
+pub returns-in-Ok-clause-answer : goal.returns-in-Ok-clause-answer
+returns-in-Ok-clause-answer g c = pushed_after _ _ _ _ c.loop.invariant.more c.in-Ok.ensures.pushed
+
+pub returns-in-Ok-push-clause-answer : goal.returns-in-Ok-push-clause-answer
+returns-in-Ok-push-clause-answer g c =
+    let seen = looked_after _ _ _ _ _ c.loop.invariant.more c.in-Err-NoNode.field-0-is c.in-Err-NoNode.ensures.refused c.in-Ok-look_for_shut.ensures.more in
+    pushed_after _ _ _ _ seen c.in-Ok-push.ensures.pushed
+
+pub returns-in-Ok-push-2-clause-answer : goal.returns-in-Ok-push-2-clause-answer
+returns-in-Ok-push-2-clause-answer g c =
+    let tried = c.in-Err-NoNode-push in
+    let seen = full_after _ _ _ _ _ _ _ c.loop.invariant.more c.in-Err-NoNode.field-0-is c.in-Err-NoNode.ensures.refused c.in-Ok-look_for_shut.ensures.more
+    tried.field-0-is tried.ensures.refused in
+    pushed_after _ _ _ _ seen c.in-Ok-push-2.ensures.pushed
