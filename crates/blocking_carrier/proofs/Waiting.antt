@@ -1,5 +1,5 @@
 -- What a seat of a queue of values learns while it waits.
-use Rattle.std.proofs.Common.{◌≡◌, ℕ, [], ◌∷◌, ◌++◌, length, sym, refl, ap, ◌∙◌, append-nil, append_assoc, subst, Option, None}
+use Rattle.std.proofs.Common.{◌≡◌, ℕ, [], ◌∷◌, ◌++◌, length, sym, refl, ap, ◌∙◌, append-nil, append_assoc, subst, Option, None, Some}
 use Rattle.history.specs.declared.refusals.Refusal.{Refusal}
 use Rattle.history.specs.declared.refusals.Refusal.TheVariants.{NoNode}
 use Rattle.carriers.specs.declared.items.ItemOf.{ItemOf}
@@ -7,7 +7,7 @@ use Rattle.carriers.specs.Knowledge.{KnownOf}
 use Rattle.carriers.specs.Answers.{EndsByTryOf, FoundEmptyOf, PopAnswersOf, PopRefusedOf, PushRefusedOf, SeesMoreOf}
 use Rattle.carriers.proofs.Learning.{sees_then}
 use Rattle.blocking_carrier.specs.Waits.{WaitedOf, EmptySinceOf}
-use Rattle.blocking_carrier.specs.Answers.{RecvRefusedOf, EndsAfterWaitOf, LookedOf}
+use Rattle.blocking_carrier.specs.Answers.{ReceivedOf, RecvRefusedOf, EndsAfterWaitOf, LookedOf}
 
 module _ {A : Type 0} where
   -- a seat that makes no call
@@ -37,6 +37,16 @@ module _ {A : Type 0} where
   -- a seat whose pop answered none
   pub none_found : (a b : KnownOf A) (o : Option (ItemOf A)) → o ≡ None → PopAnswersOf a o b → FoundEmptyOf a b
   none_found a b o e h = subst (λ p. PopAnswersOf a p b) e h
+
+  -- a seat that waited, and then popped
+  pub received : (a b c : KnownOf A) (o : Option (ItemOf A)) (front : ItemOf A) → o ≡ Some front → WaitedOf a b → PopAnswersOf b o c → ReceivedOf a front c
+  received a b c o front e w h = record { last = b; waited = w; popped = subst (λ p. PopAnswersOf b p c) e h }
+
+  -- a seat that waited, and whose looks then found one
+  pub looked_some : (a b c : KnownOf A) (o : Option (ItemOf A)) (front : ItemOf A) → o ≡ Some front → WaitedOf a b → LookedOf b o c → ReceivedOf a front c
+  looked_some a b c o front e w h =
+      let r : ReceivedOf b front c = subst (λ p. LookedOf b p c) e h in
+      record { last = r.last; waited = waits_on a b r.last w r.waited; popped = r.popped }
 
   -- a seat that waited, and then was refused
   pub refused_then : (a b c : KnownOf A) (r : Refusal) → WaitedOf a b → PopRefusedOf b r c → RecvRefusedOf a r c

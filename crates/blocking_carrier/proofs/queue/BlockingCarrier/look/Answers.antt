@@ -1,4 +1,4 @@
-use Rattle.blocking_carrier.proofs.Waiting.{waits_not, waits_on, sees, finds, none_found}
+use Rattle.blocking_carrier.proofs.Waiting.{waits_not, waits_on, sees, finds, none_found, received}
 use Rattle.blocking_carrier.proofs.queue.BlockingCarrier.look.Goals as goal
 
 pub loop-init : goal.loop-init
@@ -14,3 +14,6 @@ pub returns-in-Err-clause-caused : goal.returns-in-Err-clause-caused
 returns-in-Err-clause-caused g c =
     let e = c.in-Err.ensures.caused in
     record { last = e.last; seat = e.seat; waited = waits_on _ _ _ c.loop.invariant.waited (sees _ _ e.more); caused = e.caused }
+
+pub returns-in-Ok-Some-clause-answer : goal.returns-in-Ok-Some-clause-answer
+returns-in-Ok-Some-clause-answer g c = received _ _ _ _ _ c.in-Ok-Some.field-0-is c.loop.invariant.waited c.in-Ok-Some.ensures.answer

@@ -1,5 +1,5 @@
 use Rattle.std.proofs.Common.{◌∙◌}
-use Rattle.carriers.proofs.Learning.{push_refused_then, sees_then}
+use Rattle.carriers.proofs.Learning.{pushes_then, push_refused_then, sees_then}
 use Rattle.blocking_carrier.proofs.Waiting.{refused_after}
 use Rattle.blocking_carrier.proofs.queue.BlockingCarrier.offer.Goals as goal
 
@@ -25,3 +25,9 @@ pub returns-in-Err-push-clause-caused : goal.returns-in-Err-push-clause-caused
 returns-in-Err-push-clause-caused g c =
     let e = c.in-Err-push.ensures.caused in
     record { last = e.last; seat = e.seat; more = sees_then _ _ _ c.loop.invariant.more e.more; caused = e.caused }
+
+pub returns-in-Ok-clause-pushed : goal.returns-in-Ok-clause-pushed
+returns-in-Ok-clause-pushed g c = pushes_then _ _ _ _ _ c.loop.invariant.value c.loop.invariant.more c.in-Ok.ensures.pushed
+
+pub returns-in-Ok-push-clause-pushed : goal.returns-in-Ok-push-clause-pushed
+returns-in-Ok-push-clause-pushed g c = pushes_then _ _ _ _ _ c.loop.invariant.value c.loop.invariant.more c.in-Ok-push.ensures.pushed

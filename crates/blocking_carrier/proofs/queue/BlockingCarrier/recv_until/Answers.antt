@@ -1,5 +1,5 @@
 use Rattle.std.proofs.Common.{ap, sym, subst}
-use Rattle.blocking_carrier.proofs.Waiting.{waits_not, waits_on, sees, finds, none_found, looked_none, refused_then, refused_on, ends_on, empty_since}
+use Rattle.blocking_carrier.proofs.Waiting.{waits_not, waits_on, sees, finds, none_found, looked_none, looked_some, received, refused_then, refused_on, ends_on, empty_since}
 use Rattle.blocking_carrier.specs.Waits.{WaitedOf}
 use Rattle.blocking_carrier.proofs.queue.BlockingCarrier.recv_until.Goals as goal
 
@@ -55,3 +55,17 @@ returns-in-Err-pop-2-clause-caused g c =
     let slept = waits_on _ _ _ looked (finds _ _ (none_found _ _ _ c.in-Ok-None-pop.field-0-is c.in-Ok-None-pop.ensures.answer)) in
     let e = c.in-Err-pop-2.ensures.caused in
     record { last = e.last; seat = e.seat; waited = waits_on _ _ _ slept (sees _ _ e.more); caused = e.caused }
+
+pub returns-in-Ok-Some-clause-answer : goal.returns-in-Ok-Some-clause-answer
+returns-in-Ok-Some-clause-answer g c = looked_some _ _ _ _ _ c.in-Ok-Some.field-0-is c.loop.invariant.waited c.in-Ok-Some.ensures.answer
+
+pub returns-in-Ok-Some-pop-clause-answer : goal.returns-in-Ok-Some-pop-clause-answer
+returns-in-Ok-Some-pop-clause-answer g c =
+    let looked = waits_on _ _ _ c.loop.invariant.waited (looked_none _ _ _ c.in-Ok-None.field-0-is c.in-Ok-None.ensures.answer) in
+    received _ _ _ _ _ c.in-Ok-Some-pop.field-0-is looked c.in-Ok-Some-pop.ensures.answer
+
+pub returns-in-Ok-Some-pop-2-clause-answer : goal.returns-in-Ok-Some-pop-2-clause-answer
+returns-in-Ok-Some-pop-2-clause-answer g c =
+    let looked = waits_on _ _ _ c.loop.invariant.waited (looked_none _ _ _ c.in-Ok-None.field-0-is c.in-Ok-None.ensures.answer) in
+    let slept = waits_on _ _ _ looked (finds _ _ (none_found _ _ _ c.in-Ok-None-pop.field-0-is c.in-Ok-None-pop.ensures.answer)) in
+    received _ _ _ _ _ c.in-Ok-Some-pop-2.field-0-is slept c.in-Ok-Some-pop-2.ensures.answer

@@ -1,5 +1,5 @@
 use Rattle.std.proofs.Common.{◌∙◌, subst, inl, inr}
-use Rattle.carriers.proofs.Learning.{push_refused_then, sees_then}
+use Rattle.carriers.proofs.Learning.{pushes_then, push_refused_then, sees_then}
 use Rattle.blocking_carrier.specs.Queues.{queue_of}
 use Rattle.blocking_carrier.proofs.Waiting.{refused_after, looked_after, full_after, late_then}
 use Rattle.blocking_carrier.proofs.queue.BlockingCarrier.send_until.Goals as goal
@@ -63,3 +63,16 @@ returns-in_default-refusal-2-clause-caused g c =
     let seen = full_after _ _ _ _ _ _ _ c.loop.invariant.more c.in-NoNode.is c.in-Err.ensures.refused c.in-Ok-look_for_shut.ensures.more c.in-NoNode-refusal.is c.in-Err-push.ensures.refused in
     let e = c.in-Err-push-2.ensures.caused in
     record { last = e.last; seat = e.seat; more = sees_then _ _ _ seen e.more; caused = inl e.caused }
+
+pub returns-in-Ok-clause-answer : goal.returns-in-Ok-clause-answer
+returns-in-Ok-clause-answer g c = pushes_then _ _ _ _ _ c.loop.invariant.value c.loop.invariant.more c.in-Ok.ensures.pushed
+
+pub returns-in-Ok-push-clause-answer : goal.returns-in-Ok-push-clause-answer
+returns-in-Ok-push-clause-answer g c =
+    let seen = looked_after _ _ _ _ _ c.loop.invariant.more c.in-NoNode.is c.in-Err.ensures.refused c.in-Ok-look_for_shut.ensures.more in
+    pushes_then _ _ _ _ _ (c.in-Err.ensures.back ∙ c.loop.invariant.value) seen c.in-Ok-push.ensures.pushed
+
+pub returns-in-Ok-push-2-clause-answer : goal.returns-in-Ok-push-2-clause-answer
+returns-in-Ok-push-2-clause-answer g c =
+    let seen = full_after _ _ _ _ _ _ _ c.loop.invariant.more c.in-NoNode.is c.in-Err.ensures.refused c.in-Ok-look_for_shut.ensures.more c.in-NoNode-refusal.is c.in-Err-push.ensures.refused in
+    pushes_then _ _ _ _ _ (c.in-Err-push.ensures.back ∙ c.in-Err.ensures.back ∙ c.loop.invariant.value) seen c.in-Ok-push-2.ensures.pushed
