@@ -1,0 +1,9 @@
+use Rattle.std.proofs.Common.{◌++◌, ◌∷◌, [], ap, ◌∙◌, arith, None}
+use Rattle.std.proofs.lemmas.List.{replicate_more}
+use Rattle.tasks.proofs.gathers.empty_slots.Goals as goal
+
+pub loop-preserved : goal.loop-preserved
+loop-preserved g c = record {
+  slots = c.push_reserved.ensures.items ∙ ap (λ xs. xs ++ None ∷ []) c.loop.invariant.slots ∙ replicate_more c.loop.counter None;
+  room = omega (arith, c.push_reserved.ensures.capacity, c.loop.invariant.room);
+}
