@@ -23,3 +23,6 @@ loop-slot-preserved g c =
       filled = All-rest IsFilled _ _ _ c.in-Some.ensures.steps.0 c.loop-slot.invariant.filled;
       room = omega (arith, len, cap, fewer, room);
     }
+
+pub push_reserved-requires : goal.push_reserved-requires
+push_reserved-requires g c = omega (arith, ap length c.in-Some.ensures.steps.0, c.loop-slot.invariant.room)
