@@ -15,7 +15,7 @@ const OFFICES: [(usize, usize, u64, u32); 4] = [
 ];
 
 /// The runs of mailboxes: how often each is made, of how many senders, with how many letters each.
-const MAILBOXES: [(u32, u16, usize); 2] = [(50, 4, 1000), (1, 64, 1_562)];
+const MAILBOXES: [(u32, u16, usize); 2] = [(5, 4, 1000), (1, 64, 1_562)];
 
 /// How many values are sent to a thread that sleeps for each, and how many milliseconds eight threads sleep for none.
 const FEW: u32 = 100;
