@@ -1,6 +1,6 @@
-use Rattle.std.proofs.Common.{◌∙◌, ◌++◌, ◌∷◌, [], ap, sym, length, map, Some, append_assoc, arith}
+use Rattle.std.proofs.Common.{◌∙◌, ◌++◌, ◌∷◌, [], ap, sym, length, map, Some, append_assoc, arith, rules}
 use Rattle.std.proofs.lemmas.List.{map-append}
-use Rattle.std.proofs.lemmas.List.Elements.{All-rest}
+use Rattle.std.proofs.lemmas.List.Elements.{All-head, All-rest}
 use Rattle.tasks.specs.Gathers.{IsFilled}
 use Rattle.tasks.proofs.gathers.Gather.finish.Goals as goal
 
@@ -26,3 +26,8 @@ loop-slot-preserved g c =
 
 pub push_reserved-requires : goal.push_reserved-requires
 push_reserved-requires g c = omega (arith, ap length c.in-Some.ensures.steps.0, c.loop-slot.invariant.room)
+
+pub unreachable-requires : goal.unreachable-requires
+unreachable-requires g c =
+    let filled : IsFilled c.in-Some.slot = All-head IsFilled _ _ (rw c.in-Some.ensures.steps.0 at c.loop-slot.invariant.filled) in
+    search rules
