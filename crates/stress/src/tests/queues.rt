@@ -1,5 +1,5 @@
 //! Numbers through each queue, by four threads, with kept nodes and without, and over words that wear out.
-use super::runs::{Came, Run, came};
+use super::runs::{Came, Run, outcome};
 use crate::queues::RESERVE;
 use crate::works::works_of;
 use arena_queue::{Algorithm, ArenaQueueOf};
@@ -66,7 +66,7 @@ fn over_nodes<R: Threads + Wait + Sync, A: Algorithm<24> + Sync>(
     keeps: bool,
 ) -> Result<Option<Came>, Refusal> {
     let (queue, seats) = linked::<A>(alloc, nodes, limit, &[Role::Both; 4])?;
-    Ok(came(
+    Ok(outcome(
         rt,
         alloc,
         queue,
@@ -86,7 +86,7 @@ fn over_places<R: Threads + Wait + Sync>(
 ) -> Result<(Option<Came>, u64), Refusal> {
     let most = u64::from(values) + 4 * u64::from(reserve);
     let (queue, seats) = ring(alloc, values, reserve, last_place, &[RingRole::Both; 4])?;
-    let came = came(rt, alloc, queue, seats, pairs_of(count, false, most));
+    let came = outcome(rt, alloc, queue, seats, pairs_of(count, false, most));
     Ok((came, most))
 }
 

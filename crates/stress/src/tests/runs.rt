@@ -67,7 +67,7 @@ fn looks<R: Wait, T: Load, Q: Ending<Item = T>>(
 }
 
 /// A run over a queue, by the last of these seats, after which the queue is ended; none where memory is refused.
-pub fn came<R: Threads + Wait + Sync, T: Load, Q: Ending<Item = T> + Sync + Drop>(
+pub fn outcome<R: Threads + Wait + Sync, T: Load, Q: Ending<Item = T> + Sync + Drop>(
     rt: &R,
     alloc: Global,
     queue: Q,

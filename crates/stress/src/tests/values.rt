@@ -1,5 +1,5 @@
 //! Values of several types through each queue of values, the ring too, by four threads.
-use super::runs::{Run, came};
+use super::runs::{Run, outcome};
 use crate::loads::{Load, Words};
 use crate::queues::{MOST_PLACE, RESERVE};
 use crate::works::Work;
@@ -50,13 +50,13 @@ fn all_come<R: Threads + Wait + Sync, T: Load>(rt: &R, alloc: Global) -> Result<
             let (queue, seats) = QueueOf::<T, TwoLockAlgorithm, 24>::new(
                 alloc, 65, MOST_COUNT, &roles,
             )?;
-            let two_lock = came(rt, alloc, queue, seats, run);
+            let two_lock = outcome(rt, alloc, queue, seats, run);
             let (queue, seats) = QueueOf::<T, NonBlockingAlgorithm, 24>::new(
                 alloc, 65, MOST_COUNT, &roles,
             )?;
-            let non_blocking = came(rt, alloc, queue, seats, run);
+            let non_blocking = outcome(rt, alloc, queue, seats, run);
             let (queue, seats) = RingValues::<T>::new(alloc, 64, RESERVE, MOST_PLACE, &ring_roles)?;
-            let ring = came(rt, alloc, queue, seats, run);
+            let ring = outcome(rt, alloc, queue, seats, run);
             for came in [two_lock, non_blocking, ring] {
                 right = right && matches!(came, Some(it) if it.is_right && it.pushed == pushed);
             }
