@@ -1,3 +1,4 @@
 pub mod Sends
 pub mod Rows
 mod Prefixes
+mod Givings
