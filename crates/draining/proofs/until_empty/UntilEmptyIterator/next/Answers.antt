@@ -1,5 +1,5 @@
-use Rattle.std.proofs.Common.{rules}
-use Rattle.history.proofs.Learning.{pop_refused_then, sees_then}
+use Rattle.std.proofs.Common.{rules, Some}
+use Rattle.history.proofs.Learning.{answers_then, pop_refused_then, sees_then}
 use Rattle.draining.proofs.until_empty.UntilEmptyIterator.next.Goals as goal
 
 pub loop-preserved : goal.loop-preserved
@@ -30,4 +30,24 @@ returns-in-Err g c = record {
     );
   };
   goes = search rules;
+}
+
+pub returns-in-Ok-Some-clause-steps : goal.returns-in-Ok-Some-clause-steps
+returns-in-Ok-Some-clause-steps g c = record {
+  queue = search rules;
+  same = search rules;
+  seat = search rules;
+  number = search rules;
+  rests = search rules;
+  answers = λ _. (search rules, answers_then _ _ _ (Some _) c.loop.invariant.more (search rules));
+}
+
+pub returns-in-Ok-None-clause-steps : goal.returns-in-Ok-None-clause-steps
+returns-in-Ok-None-clause-steps g c = record {
+  queue = search rules;
+  same = search rules;
+  seat = search rules;
+  number = search rules;
+  rests = search rules;
+  answers = λ _. (search rules, rw c.in-Ok-None.field-0-is at (answers_then _ _ _ c.in-Ok-None.field-0 c.loop.invariant.more c.in-Ok-None.ensures.answer));
 }
