@@ -1,6 +1,6 @@
 use Rattle.std.proofs.Common.{◌≡◌, ◌∙◌, rules}
 use Rattle.history.specs.declared.refusals.Refusal.TheVariants.{Busy}
-use Rattle.carriers.proofs.Learning.{sees_then, push_refused_then}
+use Rattle.carriers.proofs.Learning.{sees_then, pushes_then, push_refused_then}
 use Rattle.carriers.proofs.queues.Carrier.push.Goals as goal
 
 pub loop-preserved : goal.loop-preserved
@@ -16,3 +16,6 @@ loop-preserved g c =
 
 pub returns-in-Err-clause-refused : goal.returns-in-Err-clause-refused
 returns-in-Err-clause-refused g c = push_refused_then _ _ _ c.in-Err.unpushed.refusal c.loop.invariant.more c.in-Err.ensures.refused
+
+pub returns-in-Ok-clause-pushed : goal.returns-in-Ok-clause-pushed
+returns-in-Ok-clause-pushed g c = pushes_then _ _ _ _ _ c.loop.invariant.value c.loop.invariant.more c.in-Ok.ensures.pushed

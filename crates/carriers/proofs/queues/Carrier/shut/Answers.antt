@@ -1,4 +1,4 @@
-use Rattle.carriers.proofs.Learning.{sees_then, push_refused_then}
+use Rattle.carriers.proofs.Learning.{sees_then, shuts_then, push_refused_then}
 use Rattle.carriers.proofs.queues.Carrier.shut.Goals as goal
 
 pub loop-preserved : goal.loop-preserved
@@ -11,3 +11,6 @@ loop-preserved g c = record {
 
 pub returns-in-Err-clause-refused : goal.returns-in-Err-clause-refused
 returns-in-Err-clause-refused g c = push_refused_then _ _ _ c.in-Err.refusal c.loop.invariant.more c.in-Err.ensures.refused
+
+pub returns-in-Ok-clause-shut : goal.returns-in-Ok-clause-shut
+returns-in-Ok-clause-shut g c = shuts_then _ _ _ c.loop.invariant.more c.in-Ok.ensures.shut
