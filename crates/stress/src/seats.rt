@@ -49,6 +49,32 @@ pub struct Job<S: Drop> {
     pub work: Work,
 }
 
+// A job for this work by the last of these seats, where it may push and pop.
+fn job_of<Q: Keeping>(
+    queue: &Q,
+    seats: &mut Vec<Q::Seat>,
+    work: Work,
+    keeps: bool,
+) -> Option<Job<Q::Seat>>
+    requires { All (Q.is_seat queue.now) seats.old.items }
+    ensures rest { All (Q.is_seat queue.now) seats.new.items }
+    ensures job { IfSome result
+        (λ job. MayCall Q.is_seat Q.permits Q.known queue.now job.seat) }
+{
+    let mut seat = seats.pop()?;
+    if !queue.may_push(&seat) || !queue.may_pop(&seat) {
+        return None;
+    }
+    if keeps {
+        queue.keep_nodes(&mut seat);
+    }
+    Some(Job {
+        seat,
+        from: seats.len() as u64,
+        work,
+    })
+}
+
 /// A job for each of these works, by a seat that may push and pop, the last one first, and keeps its nodes or doesn't. A
 /// sender is the number of its seat less one. None where a seat or memory is missing.
 pub fn jobs_of<Q: Keeping>(
@@ -64,18 +90,7 @@ pub fn jobs_of<Q: Keeping>(
 {
     let mut jobs = Vec::new(alloc);
     for work in works {
-        let mut seat = seats.pop()?;
-        if !queue.may_push(&seat) || !queue.may_pop(&seat) {
-            return None;
-        }
-        if keeps {
-            queue.keep_nodes(&mut seat);
-        }
-        let job = Job {
-            seat,
-            from: seats.len() as u64,
-            work: *work,
-        };
+        let job = job_of(queue, &mut seats, *work, keeps)?;
         jobs.push(job).ok()?;
     }
     Some(jobs)
