@@ -91,7 +91,9 @@ pub fn jobs_of<Q: Keeping>(
     let mut jobs = Vec::new(alloc);
     for work in works {
         let job = job_of(queue, &mut seats, *work, keeps)?;
-        jobs.push(job).ok()?;
+        let Ok(()) = jobs.push(job) else {
+            return None;
+        };
     }
     Some(jobs)
 }
