@@ -254,7 +254,7 @@ fn answers(
         Err((status, text)) => Err((*status, text.is_empty())),
     };
     let want = want.map_err(|status| (status, false));
-    same(rt, found, want, format_args!("{words:?} gave {answer:?}"));
+    same(rt, found, want, format_args!("{words:?}"));
     Ok(())
 }
 
@@ -295,6 +295,15 @@ fn reads_what_a_picture_shows(rt: HostRuntime) -> Result<(), Fail> {
     Ok(())
 }
 
+// What the option for it is called.
+fn name_of(colours: Colours) -> &'static str {
+    match colours {
+        Colours::Auto => "auto",
+        Colours::Always => "always",
+        Colours::Never => "never",
+    }
+}
+
 #[test]
 fn reads_when_a_picture_has_colours(rt: HostRuntime) -> Result<(), Fail> {
     for (words, colours) in &COLOURED {
@@ -305,10 +314,15 @@ fn reads_when_a_picture_has_colours(rt: HostRuntime) -> Result<(), Fail> {
                     task: Task::Show(view),
                     ..
                 },
-            ) => Some(view.colours),
+            ) => Some(name_of(view.colours)),
             _ => None,
         };
-        same(&rt, found, Some(*colours), format_args!("{words:?}"));
+        same(
+            &rt,
+            found,
+            Some(name_of(*colours)),
+            format_args!("{words:?}"),
+        );
     }
     Ok(())
 }

@@ -8,6 +8,6 @@ pub loop-seat-preserved : goal.loop-seat-preserved
 loop-seat-preserved g c = record {
   value = c.loop-seat.invariant.value;
   queue = rw c.in-Ok-push.ensures.items (All-push (λ s. queue_of s ≡ c.args.queue) c.loop-seat.owned.items c.new-in-loop-seat.result c.loop-seat.invariant.queue
-    (cc (c.new-in-loop-seat.ensures.queue, c.in-Ok-try_clone.ensures, c.loop-seat.invariant.value)));
+      (cc (c.new-in-loop-seat.ensures.queue, c.in-Ok-try_clone.ensures, c.loop-seat.invariant.value)));
   seats = rw (c.in-Ok-push.ensures.items, map_push seat_of c.loop-seat.owned.items c.new-in-loop-seat.result, c.loop-seat.invariant.seats, c.new-in-loop-seat.ensures.seat) refl;
 }
