@@ -8,7 +8,7 @@ use post_office::PostOffice;
 use std::alloc::Global;
 use std::sync::Wait;
 use std::thread;
-use std::thread::Threads;
+use std::thread::{Threads, join};
 
 /// How many senders and receivers there are, how many letters each sender sends, and how many places the office has.
 #[derive(Clone, Copy)]
@@ -17,13 +17,6 @@ pub struct Office {
     pub receivers: usize,
     pub letters: u64,
     pub places: u32,
-}
-
-// What a thread has of an office; of a sender also its number from 0 on.
-#[derive(Drop)]
-enum Handle<T: Send + Drop> {
-    Sends(Sender<ValueQueue<T>>, u64),
-    Reads(Receiver<ValueQueue<T>>),
 }
 
 // Sends the letters of the numbers below so many, in order, and goes; what was sent. A letter doesn't tell its sender.
@@ -60,14 +53,6 @@ fn reads<R: Wait, T: Load>(rt: &R, mut receiver: Receiver<ValueQueue<T>>) -> Tal
     tally
 }
 
-// What a thread does with its handle.
-fn does<R: Wait, T: Load>(rt: &R, alloc: Global, handle: Handle<T>, letters: u64) -> Tally {
-    match handle {
-        Handle::Sends(sender, from) => sends(rt, alloc, sender, from, letters),
-        Handle::Reads(receiver) => reads(rt, receiver),
-    }
-}
-
 /// Sends all letters through a new office, and reads them: what was sent, and what came.
 pub fn posted<R: Threads + Wait + Sync, T: Load>(
     rt: &R,
@@ -83,22 +68,28 @@ pub fn posted<R: Threads + Wait + Sync, T: Load>(
     let (_office, senders, receivers) = PostOffice::<ValueQueue<T>>::open(
         alloc, places, senders, receivers,
     )?;
-    let mut handles = Vec::new(alloc);
+    let mut numbered = Vec::new(alloc);
     let mut from = 0u64;
     for sender in senders {
-        handles
-            .push(Handle::Sends(sender, from))
-            .or(Err(Refusal::Memory))?;
+        numbered.push((sender, from)).or(Err(Refusal::Memory))?;
         from = from.wrapping_add(1);
     }
-    for receiver in receivers {
-        handles
-            .push(Handle::Reads(receiver))
-            .or(Err(Refusal::Memory))?;
-    }
-    let tallies = thread::map_vec(rt, handles, &|handle| does(rt, alloc, handle, letters));
+    let (came, sent) = join(
+        rt,
+        || thread::map_vec(rt, receivers, &|receiver| reads(rt, receiver)),
+        || {
+            thread::map_vec(
+                rt,
+                numbered,
+                &|(sender, from)| { sends(rt, alloc, sender, from, letters) },
+            )
+        },
+    );
     let mut all = Tally::new();
-    for tally in tallies.or(Err(Refusal::Memory))? {
+    for tally in came.or(Err(Refusal::Memory))? {
+        all = all.with(&tally);
+    }
+    for tally in sent.or(Err(Refusal::Memory))? {
         all = all.with(&tally);
     }
     Ok(all)

@@ -84,7 +84,8 @@ fn worked_by<R: Threads + Wait + Sync, T: Load, Q: Keeping<Item = T> + Sync + Dr
 ) -> Result<u64, Refusal>
     requires { All (Q.is_seat queue) seats.items }
 {
-    let Some(jobs) = jobs_of(alloc, &queue, seats, asked.works, asked.keeps) else {
+    let works = asked.works;
+    let Some(jobs) = jobs_of(alloc, &queue, seats, works, asked.keeps) else {
         return Err(Refusal::Memory);
     };
     worked(rt, alloc, &queue, jobs, asked.count).ok_or(Refusal::Memory)
