@@ -14,8 +14,9 @@ LibraryOfRt name each part that is used; another kit has to keep these, or this 
     a crate's out, build_rlib(flags, anew)        where it prints, and the build of its library
     a crate's has_tests()                         whether it has tests
     a crate's stamp()                             a digest of what its library is made of (tools/stamps)
-    a crate's is_static, prove(words), call(..)   what tools/prove builds an archive by; rt.Crate.ci, rt.Kept.made, rt.Kept.is_whole and rt.say
-                                                  are what it changes for that, and to say how far it is
+    a crate's is_static, prove(words), call(..)   what tools/prove builds an archive by; rt.Crate.ci, rt.Kept.made, rt.Kept.is_whole, rt.say and
+                                                  rt.Kept's beginning are what it changes for that, to say how far it is, and to leave a crate out
+    rt.rtlib.fmt(folder, "--check", out)          whether its files are laid out (tools/prove)
     out/rlib/stamp, out/incremental               the stamp of a library that rt built, and what rt check keeps
 
 and of the command line: rt version, rt check and rt test (tools/changed). What the checker prints is read in goals.py.
