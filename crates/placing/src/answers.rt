@@ -3,7 +3,7 @@ use history::Stamped;
 
 /// Values of which one is in the queue throughout a span of numbers, whatever the order. Operations are named by
 /// their places in the list, from 1.
-#[derive(Debug, Drop)]
+#[derive(Drop)]
 pub enum Held {
     /// A value whose one push ended before the span, and a take of it that began after the span.
     Value { push: u64, take: u64 },
@@ -13,7 +13,7 @@ pub enum Held {
 }
 
 /// Numbers from one to another, throughout which one of some values is in the queue.
-#[derive(Debug, Drop)]
+#[derive(Drop)]
 pub struct Span {
     pub first: u64,
     pub last: u64,
@@ -21,7 +21,7 @@ pub struct Span {
 }
 
 /// Why a recorded history isn't one of a queue. Operations are named by their places in the list, from 1.
-#[derive(Debug, Drop)]
+#[derive(Drop)]
 pub enum Reason {
     /// It has a last step and no reply, or a reply and no last step.
     Shape { place: u64 },
@@ -63,7 +63,7 @@ pub enum Unknown {
 }
 
 /// What is found of a recorded history.
-#[derive(Debug, Drop)]
+#[derive(Drop)]
 pub enum Placed {
     /// It is one of a queue, and this is it with linearization points, and with other stamps where those given left no
     /// room for points in the order found.
