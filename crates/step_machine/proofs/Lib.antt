@@ -63,6 +63,7 @@ pub mod EffectLines
 pub mod EffectsKept
 pub mod Locks
 pub mod EachMove
+pub mod Pasts
 pub mod StepTells
 pub mod RepliesPlaced
 pub mod Recorded

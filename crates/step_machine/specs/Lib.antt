@@ -18,6 +18,7 @@ pub mod ProgramCounters
 pub mod Lag
 pub mod NonBlocking
 pub mod Histories
+pub mod Pasts
 pub mod NodePlaces
 pub mod Solo
 pub mod Prices

@@ -8,6 +8,7 @@ ghost use Rattle.step_machine.specs.TakingEffect.{ArePlacedByEffect, HaveTheirEf
 ghost use Rattle.step_machine.specs.TakingEffect.{OfOperations, OfOperationsOfCalls};
 ghost use Rattle.step_machine.specs.Spans.{ArePlacedAtTheirLines, EffectsGivePlaces};
 ghost use Rattle.step_machine.specs.Histories.{OfEachHistory, OfEachWorld};
+ghost use Rattle.step_machine.specs.Pasts.{MovesOnlyAdd};
 ghost use Rattle.step_machine.specs.Entries.{AreFew, PlaysToItsValues};
 
 /// Every history is linearizable: of either queue, of any size, greatest count and number of actors in range, and after
@@ -39,6 +40,15 @@ pub fn every_history_is_placed_and_legal()
     //=   linearizable.
     ensures placed { OfEachHistory Placement }
     ensures legal { OfEachHistory IsLegal }
+{}
+
+/// Moves only add to a history: in each world that moves lead to from a reached one, an operation that had ended stands as it
+/// did, and one that was pending has ended, if at all, after all numbers given by then, as new ones begin. So what had
+/// ended comes before whatever begins later.
+pub fn moves_only_add_to_a_history()
+    //= histories/only_added: Moves only add to a history: an operation that has ended stays as it ended, and ended
+    //=   before each one that begins later.
+    ensures { MovesOnlyAdd }
 {}
 
 /// Which operations have a place, and where. One that is done or got a value has it at the number of a step of its own
