@@ -1,2 +1,3 @@
 mod Orders
 mod Makings
+pub mod Handing

@@ -48,6 +48,12 @@ EndsTaking _ = ⊥
 abbrev pub HasPushed : Known → (most : ℕ) → Known → Type 0
 HasPushed k most k' = k'.mine ≡ pushes_to k.number most
 
+-- what a seat has seen has a push of another seat, behind what that one had seen before it
+pub record HasSeenPush (giver : Known) (body : ℕ) (k : Known) : Type 0 where
+  pub before : List Entry
+  pub after : List Entry
+  pub seen : k.seen ≡ (giver.seen ++ before) ++ Push giver.number body ∷ after
+
 module _ {Q S : Type 0} (is_seat : Q → S → Type 0) (permits : Q → List Permit) (known : S → Known) where
   -- a seat that alone may push, and has done nothing
   pub record IsOnePusher (q : Q) (s : S) : Type 0 where

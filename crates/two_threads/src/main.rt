@@ -1,10 +1,11 @@
 //! Two threads and one queue: one pushes the numbers from 1 on, the other takes them, in that order.
 #![tactic(auto)]
 
+mod meets;
 mod new_queues;
 mod threads;
 
-use crate::new_queues::{on_ms_queue, on_two_lock_queue};
+use crate::new_queues::{met, on_ms_queue, on_two_lock_queue};
 use history::{Refusal, Taken};
 use std::io;
 
@@ -13,7 +14,16 @@ const MOST: u64 = 1000;
 
 fn main(rt: HostRuntime) -> io::Result<()> {
     tell(&rt, "non-blocking", on_ms_queue(&rt, rt.alloc(), MOST))?;
-    tell(&rt, "two-lock", on_two_lock_queue(&rt, rt.alloc(), MOST))
+    tell(&rt, "two-lock", on_two_lock_queue(&rt, rt.alloc(), MOST))?;
+    tell_met(&rt)
+}
+
+// Prints what a pop takes whose seat met the pusher's before.
+fn tell_met(rt: &HostRuntime) -> io::Result<()> {
+    match met(rt.alloc()) {
+        Ok(taken) => println!(rt; "met: {}", number(taken.as_ref())),
+        Err(refusal) => println!(rt; "met: {refusal}"),
+    }
 }
 
 // Prints how many values were taken from a queue, the first and the last; or why they weren't.

@@ -2,8 +2,9 @@
 ghost use Rattle.std.specs.Prelude.{◌≡◌, IfOk, IfErr};
 ghost use Rattle.two_threads.specs.Duos.{AreDuo, EndsRun, values_to};
 
+use crate::meets::hand_over_by_last_seats;
 use crate::threads::run;
-use history::{Fifo, Refusal, Taken};
+use history::{Body, Fifo, Refusal, Taken};
 use node_arena::Role;
 use nonblocking::MsQueue;
 use std::alloc::Global;
@@ -13,6 +14,9 @@ use two_lock::TwoLockQueue;
 
 /// The nodes of a queue: room for 1,023 values, and one node more.
 const NODES: u32 = 1024;
+
+/// What is pushed before seats meet.
+const MET: u64 = 7;
 
 /// The greatest count: so many values can be taken before Head is worn out.
 const LIMIT: u64 = 1_000_000;
@@ -49,6 +53,18 @@ pub fn on_two_lock_queue<R: Threads + Wait + Sync>(
     let roles = [Role::Giver, Role::Taker];
     let (queue, seats) = TwoLockQueue::new(alloc, NODES, LIMIT, &roles)?;
     run_new(rt, alloc, queue, seats, most)
+}
+
+/// A push on a new non-blocking queue, and a pop by a seat that met the pusher's before.
+///
+/// Refusals: `Memory`, `WornOut`, `Busy`. Takes memory for the queue.
+pub fn met(alloc: Global) -> Result<Option<Taken>, Refusal> {
+    let roles = [Role::Giver, Role::Taker];
+    let (queue, seats) = MsQueue::new(alloc, NODES, LIMIT, &roles)?;
+    match Body::new(MET) {
+        Some(body) => hand_over_by_last_seats(&queue, seats, body),
+        None => Err(Refusal::BadSize),
+    }
 }
 
 // The run on a new queue, by its two seats.
