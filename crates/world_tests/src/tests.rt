@@ -15,5 +15,6 @@ mod refusals;
 mod shuts;
 mod trials;
 mod two_lock;
+mod two_worlds;
 mod words;
 mod worn;
