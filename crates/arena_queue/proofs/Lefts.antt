@@ -1,5 +1,5 @@
 -- What looks at Free, Tail and Head say of the pushes that are left.
-use Rattle.std.proofs.Common.{◌≡◌, ℕ, ◌+◌, ◌-◌, ◌≤◌, get_or, refl, sym, ap, subst, ◌∙◌, arith}
+use Rattle.std.proofs.Common.{◌≡◌, ℕ, ◌-◌, ◌≤◌, get_or, refl, sym, ap, subst, ◌∙◌, arith}
 use Rattle.counted_ref.specs.Ref.{Ref, ref_of}
 use Rattle.line_table.specs.declared.lines.Kind.{Kind}
 use Rattle.line_table.specs.declared.lines.Kind.TheVariants.{NonBlocking, TwoLock}
@@ -15,13 +15,13 @@ use Rattle.step_machine.proofs.Reached.{reached_in_range}
 use Rattle.step_machine.proofs.TwoLockCounts.{count_nothing}
 use Rattle.node_arena.specs.Knowledge.{SeatView, known_by}
 use Rattle.node_arena.specs.Plans.{Layout}
-use Rattle.node_arena.specs.Rule.{StaysLooked}
-use Rattle.node_arena.specs.Looks.{looked_in, LooksAt}
+use Rattle.node_arena.specs.Looks.{LooksAt}
 use Rattle.node_arena.proofs.Reading.{read_back}
 use Rattle.node_arena.proofs.Tracing.{traced_reached}
+use Rattle.node_arena.proofs.Rising.{Rose}
 use Rattle.node_arena.proofs.Found.{split_there, head_there, tail_there, sees_there, was_meanwhile, since_there, not_less}
-use Rattle.wear.specs.PushesLeft.{pushes_left, Lasts, Leaves}
-use Rattle.wear.proofs.Lasting.{each_lasts}
+use Rattle.arena_queue.specs.PushesLeft.{pushes_left, Lasts, Leaves}
+use Rattle.arena_queue.proofs.Lasting.{each_lasts}
 use Rattle.arena_queue.specs.Lefts.{LeavesRaises, HasLeft}
 
 module _ (z : Layout) (word n : ℕ) (v v' : SeatView) (a : LooksAt z word n v v') where
@@ -61,10 +61,10 @@ module _ (z : Layout) (word n : ℕ) (v v' : SeatView) (a : LooksAt z word n v v
 module _ (z : Layout) (n1 n2 n3 : ℕ) (v0 v1 v2 v3 : SeatView) (a : LooksAt z 1 n1 v0 v1) (b : LooksAt z 3 n2 v1 v2) (c : LooksAt z 2 n3 v2 v3)
     (limit x y w : ℕ) (same : limit ≡ z.setup.limit) (free : x ≡ (ref_of z.setup.bits n1).count)
     (tail : y ≡ (ref_of z.setup.bits n2).count) (head : w ≡ (ref_of z.setup.bits n3).count) where
-  ab : StaysLooked b.was (looked_in a.was)
+  ab : Rose z.setup.kind a.was.world.shared b.was.world.shared
   ab = since_there z 1 n1 3 n2 v0 v1 v2 a b
 
-  bc : StaysLooked c.was (looked_in b.was)
+  bc : Rose z.setup.kind b.was.world.shared c.was.world.shared
   bc = since_there z 3 n2 2 n3 v1 v2 v3 b c
 
   free_is : x ≡ a.was.world.shared.free.count
@@ -79,7 +79,7 @@ module _ (z : Layout) (n1 n2 n3 : ℕ) (v0 v1 v2 v3 : SeatView) (a : LooksAt z 1
   -- Tail's count was no higher at the look at Free
   tail_rose : (kind : Kind) → a.was.world.setup.kind ≡ kind → a.was.world.shared.tail.count ≤ y
   tail_rose NonBlocking k =
-      omega (arith, tail_is, not_less b.was.world.shared.tail a.was.world.shared.tail (ab.tail (ap (λ (s : Setup). s.kind) (b.setup ∙ sym a.setup) ∙ k)))
+      omega (arith, tail_is, not_less b.was.world.shared.tail a.was.world.shared.tail (ab.tail (ap (λ (s : Setup). s.kind) (sym a.setup) ∙ k)))
   tail_rose TwoLock k = omega (arith, (count_nothing a.was.world (traced_reached a.was a.reached) k).0)
 
   leaves_there : Leaves a.was (limit - x) (limit - y) (limit - w)

@@ -1,3 +1,7 @@
+pub mod FreeCounts
+pub mod FreeList
+pub mod TailCounts
+pub mod Lasting
 pub mod Lefts
 pub mod Queues
 pub mod Pushes

@@ -1,4 +1,5 @@
 -- The ends of a pop, a pop behind other lines of its call, and a whole pop: with an empty pocket, or after a give back.
+use mathlib.Core.List.{IsPrefix}
 use Rattle.std.proofs.Common.{◌≡◌, ℕ, ◌+◌, ◌-◌, ◌<◌, ◌≤◌, true, false, List, ◌++◌, Option, Some, None, Result, Ok, Err, IfOk, IfErr, OnOk, sym, refl}
 use Rattle.std.proofs.Common.{ap, subst, ◌∙◌, arith, append_assoc, ⊎_elim, inl, inr}
 use Rattle.std.proofs.lemmas.Bool.{false≢true}
@@ -21,6 +22,7 @@ use Rattle.node_arena.specs.Seats.{IsSeat, IsReady, KeepsStored, KeepsName, Keep
 use Rattle.node_arena.specs.Loads.{TakesSlot}
 use Rattle.node_arena.specs.Turns.{failed_turns}
 use Rattle.node_arena.specs.Paths.{ExtendsPath, FindsShutEmpty, StopsAPop, Acts, HadNoEffect, EndedAt, IsRefusedAt, added}
+use Rattle.node_arena.proofs.PrologueTraces.{prefix_then}
 use Rattle.node_arena.proofs.Paths.{walk_then, then_slots, then_shut_empty, act_then, sees_on, added_is, added_path, last_held, ends_failed, met_behind, failed-append, failed_behind, kept_seat}
 use Rattle.node_arena.proofs.Loads.{kept_slots, kept_takes, then_takes, takes_then}
 use Rattle.free_list.specs.Gives.{GiveAnswers}
@@ -55,12 +57,15 @@ module _ (worn : WornWord → Type 0) where
 
     pub draws_late : (out : Result (Option Taken) Refusal) → KeepsName s u → KeepsSlots s u → PopsWithoutNode worn r u x before turns out → PopsWithoutNode worn r s x spent turns out
     draws_late out name slots d =
-        let e = late d.path in
+        let e = late d.later.path in
         record {
           ready = d.ready;
           same = record { number = d.same.number ∙ name.number; role = d.same.role ∙ name.role; keeps = d.same.keeps ∙ name.keeps };
           slots = moves out d.slots;
-          path = d.path ∙ ap (λ p. p ++ added u x) w.path ∙ append_assoc (view s).path es (added u x) ∙ ap (λ p. (view s).path ++ p) (sym e);
+          later = record {
+            path = d.later.path ∙ ap (λ p. p ++ added u x) w.path ∙ append_assoc (view s).path es (added u x) ∙ ap (λ p. (view s).path ++ p) (sym e);
+            run = prefix_then (view s).ran (view u).ran (view x).ran w.run d.later.run;
+          };
           answer = answered out d;
           few = fewer out e d;
           freed = λ off. freed_of out e d (name.keeps ∙ off);
@@ -93,7 +98,7 @@ module _ (worn : WornWord → Type 0) where
   -- a word was found worn out, and the call is over
   pub draws_worn : {T : Type 0} (r : Arena) (s t : Seat T) (refusal : Refusal) (word : WornWord) (failed turns : ℕ) (es : List Event) → IsSeat r t
       → (view t).actor.line ≡ None → (view t).actor.pocket ≡ None → KeepsStored s t → KeepsSlots s t → ExtendsPath (view s) (view t) es
-      → refusal ≡ WornOut word → EndedAt r s es (IsRefusedAt r.plan.setup (view s).number (WornOut word)) → worn word
+      → refusal ≡ WornOut word → EndedAt r s (view t).ran es (IsRefusedAt r.plan.setup (view s).number (WornOut word)) → worn word
       → PopsWithoutNode worn r s (keeping t None failed) failed turns (Err refusal)
   draws_worn r s t refusal word failed turns es seat over empty stored slots w is cause so =
       let e : added s t ≡ es = added_is s t es w in
@@ -102,7 +107,7 @@ module _ (worn : WornWord → Type 0) where
         ready = record { seat = kept_seat r t None failed seat; free = ap (λ b. b.line) rest ∙ over; pocket = sym (ap (λ b. b.pocket) rest ∙ empty) };
         same = record { number = stored.number; role = stored.role; keeps = stored.keeps };
         slots = kept_slots s t None failed slots;
-        path = w.path ∙ ap (λ p. (view s).path ++ p) (sym e);
+        later = record { path = w.path ∙ ap (λ p. (view s).path ++ p) (sym e); run = w.run };
         answer = tt;
         few = tt;
         freed = λ off. tt;
@@ -116,7 +121,7 @@ module _ (worn : WornWord → Type 0) where
   -- the queue was found shut and empty, and the call is over
   pub draws_shut : {T : Type 0} (r : Arena) (s t : Seat T) (failed turns : ℕ) (es : List Event) → IsSeat r t → (view t).actor.line ≡ None
       → (view t).actor.pocket ≡ None → KeepsStored s t → KeepsSlots s t → FindsShutEmpty (view s) (view t) es
-      → EndedAt r s es (IsRefusedAt r.plan.setup (view s).number Closed) → PopsWithoutNode worn r s (keeping t None failed) failed turns (Err Closed)
+      → EndedAt r s (view t).ran es (IsRefusedAt r.plan.setup (view s).number Closed) → PopsWithoutNode worn r s (keeping t None failed) failed turns (Err Closed)
   draws_shut r s t failed turns es seat over empty stored slots finds cause =
       let e : added s t ≡ es = added_path s t es finds.path in
       let rest : at_rest (view t).actor ≡ (view t).actor = ap (out_of (view t).actor) over in
@@ -124,7 +129,7 @@ module _ (worn : WornWord → Type 0) where
         ready = record { seat = kept_seat r t None failed seat; free = ap (λ b. b.line) rest ∙ over; pocket = sym (ap (λ b. b.pocket) rest ∙ empty) };
         same = record { number = stored.number; role = stored.role; keeps = stored.keeps };
         slots = kept_slots s t None failed slots;
-        path = finds.path ∙ ap (λ p. (view s).path ++ p) (sym e);
+        later = record { path = finds.path ∙ ap (λ p. (view s).path ++ p) (sym e); run = finds.run };
         answer = tt;
         few = tt;
         freed = λ off. tt;
@@ -153,7 +158,7 @@ module _ (worn : WornWord → Type 0) where
               g.slots.number;
           more = record { between = g.slots.more.between; deeds = g.slots.more.deeds };
         }) g.seen;
-        path = acts.path ∙ ap (λ p. (view s).path ++ p) (sym e);
+        later = record { path = acts.path ∙ ap (λ p. (view s).path ++ p) (sym e); run = acts.run };
         answer = acts.adds;
         few = omega (arith, all, most, less);
         freed = λ off. gave out all g;
@@ -187,7 +192,7 @@ module _ (worn : WornWord → Type 0) where
         };
         same = record { number = stored.number; role = stored.role; keeps = stored.keeps };
         slots = kept_takes r (value_of word) s t (Some h) failed takes;
-        path = took.path ∙ ap (λ p. (view s).path ++ p) (sym e);
+        later = record { path = took.path ∙ ap (λ p. (view s).path ++ p) (sym e); run = took.run };
         answer = took.adds;
         few = (let c = ap failed_turns e in omega (arith, never, less, c));
         freed = λ off. absurd (false≢true (sym off ∙ keeps));
@@ -198,15 +203,15 @@ module _ (worn : WornWord → Type 0) where
   -- the queue was found empty
   pub draws_empty : {T : Type 0} (r : Arena) (s t : Seat T) (failed turns : ℕ) (es : List Event) → failed < turns → IsSeat r t
       → (view t).actor.line ≡ None → (view t).actor.pocket ≡ None → KeepsStored s t → KeepsSlots s t → (view t).path ≡ (view s).path ++ es
-      → failed_turns es ≡ 0 → FoundEmpty (known_by (view s)) (known_by (view t)) → PopsWithoutNode worn r s (keeping t None failed) failed turns (Ok None)
-  draws_empty r s t failed turns es less seat over empty stored slots path never found =
+      → IsPrefix (view s).ran (view t).ran → failed_turns es ≡ 0 → FoundEmpty (known_by (view s)) (known_by (view t)) → PopsWithoutNode worn r s (keeping t None failed) failed turns (Ok None)
+  draws_empty r s t failed turns es less seat over empty stored slots path run never found =
       let e : added s t ≡ es = added_path s t es path in
       let rest : at_rest (view t).actor ≡ (view t).actor = ap (out_of (view t).actor) over in
       record {
         ready = record { seat = kept_seat r t None failed seat; free = ap (λ b. b.line) rest ∙ over; pocket = sym (ap (λ b. b.pocket) rest ∙ empty) };
         same = record { number = stored.number; role = stored.role; keeps = stored.keeps };
         slots = kept_slots s t None failed slots;
-        path = path ∙ ap (λ p. (view s).path ++ p) (sym e);
+        later = record { path = path ∙ ap (λ p. (view s).path ++ p) (sym e); run = run };
         answer = found;
         few = (let c = ap failed_turns e in omega (arith, never, less, c));
         freed = λ off. inl refl;
@@ -220,6 +225,7 @@ module _ (worn : WornWord → Type 0) where
       record {
         ready = d.ready;
         number = same_number r s x h d.ready d.same;
+        later = d.later;
         keeps = d.same.keeps;
         answer = d.answer;
         few = (let n = d.few in omega arith);
@@ -233,6 +239,7 @@ module _ (worn : WornWord → Type 0) where
       record {
         ready = d.ready;
         number = same_number r s x h d.ready d.same;
+        later = d.later;
         keeps = d.same.keeps;
         answer = tt;
         few = tt;

@@ -12,7 +12,7 @@ use Rattle.node_arena.specs.Arenas.{Arena}
 use Rattle.node_arena.specs.declared.seats.Seat.{Seat}
 use Rattle.node_arena.specs.Seats.{IsReady, KeepsName, view, known_of}
 use Rattle.node_arena.specs.Turns.{failed_turns}
-use Rattle.node_arena.specs.Paths.{ExtendsPath, FindsShut, StopsAPush, Acts, HadNoEffect, added}
+use Rattle.node_arena.specs.Paths.{IsLater, ExtendsPath, FindsShut, StopsAPush, Acts, HadNoEffect, added}
 use Rattle.free_list.specs.Takes.{TakeRefused}
 use Rattle.node_arena.proofs.Paths.{walk_then, then_act, then_shut, added_path, sees_on, met_behind, failed-append, failed_behind, ends_failed}
 use Rattle.arena_queue.specs.Answers.{PushMoves, PushWithNodeCaused, PushesWithNodeAnd, PushesWithNode, PushCaused, AnswersPush}
@@ -32,6 +32,11 @@ stops_behind s t u es w e _ h = subst (ExtendsPath (view s) (view u)) (sym e) (w
 pub learns : {T : Type 0} (s t : Seat T) (refusal : Refusal) → StopsAPush s t refusal → PushRefused (known_of s) refusal (known_of t)
 learns s t Closed h = h.found
 learns s t _ h = sees_on (view s) (view t) (added s t) h
+
+-- and it is a later one
+pub later_refused : {T : Type 0} (s t : Seat T) (refusal : Refusal) → StopsAPush s t refusal → IsLater s t
+later_refused s t Closed h = record { path = h.path; run = h.run }
+later_refused s t _ h = record { path = h.path; run = h.run }
 
 -- and after a take that was refused
 pub learns_of_take : {T : Type 0} (r : Arena) (s t : Seat T) (turns : ℕ) (refusal : Refusal) → HadNoEffect s t → TakeRefused r s t turns refusal → PushRefused (known_of s) refusal (known_of t)
@@ -87,6 +92,7 @@ module _ (worn : WornWord → Option Held → Type 0) where
       record {
         ready = k.ready;
         number = same_number r s t h k.ready k.same;
+        later = record { path = k.pushed.0.path; run = k.pushed.0.run };
         keeps = k.same.keeps;
         pushed = k.pushed.0.adds;
         few = (let f = k.pushed.2 in omega arith);
@@ -99,6 +105,7 @@ module _ (worn : WornWord → Option Held → Type 0) where
       record {
         ready = k.ready;
         number = same_number r s t h k.ready k.same;
+        later = later_refused s t refusal k.refused.0;
         keeps = k.same.keeps;
         pushed = tt;
         few = tt;

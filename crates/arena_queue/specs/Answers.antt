@@ -1,5 +1,5 @@
 -- What the calls of a queue on an arena answer, whatever its algorithm.
-use Rattle.std.specs.Prelude.{◌≡◌, ℕ, ◌+◌, ◌≤◌, ◌<◌, ◌⊎◌, ◌++◌, true, false, Option, Some, None, IfSome, IsSomeAnd, Result, Ok, MatchResult, OnOk, IfOk, IfErr}
+use Rattle.std.specs.Prelude.{◌≡◌, ℕ, ◌+◌, ◌≤◌, ◌<◌, ◌⊎◌, true, false, Option, Some, None, IfSome, IsSomeAnd, Result, Ok, MatchResult, OnOk, IfOk, IfErr}
 use Rattle.std.specs.Option.{is_some}
 use Rattle.line_table.specs.declared.lines.Kind.{Kind}
 use Rattle.history.specs.declared.operations.Entry.TheVariants.{Push, Shut}
@@ -15,7 +15,7 @@ use Rattle.node_arena.specs.declared.seats.Seat.{Seat}
 use Rattle.node_arena.specs.Seats.{IsReady, KeepsName, KeepsSlots, view, known_of, pocket_of, keeps_of}
 use Rattle.node_arena.specs.Loads.{TakesSlot, GivesSlot}
 use Rattle.node_arena.specs.Turns.{failed_turns}
-use Rattle.node_arena.specs.Paths.{Acts, StopsAPush, StopsAPop, EndsFailed, MetCause, added}
+use Rattle.node_arena.specs.Paths.{IsLater, Acts, StopsAPush, StopsAPop, EndsFailed, MetCause, added}
 use Rattle.free_list.specs.Takes.{TakeRefused}
 
 -- an arena of this kind of queue
@@ -73,6 +73,7 @@ FailsFewer s t turns = failed_turns (added s t) < turns
 pub record AnswersPush {T : Type 0} (worn : WornWord → Option Held → Type 0) (r : Arena) (s t : Seat T) (body turns : ℕ) (out : Result (Unit {0}) Refusal) : Type 0 where
   pub ready : IsReady r t
   pub number : (known_of t).number ≡ (known_of s).number
+  pub later : IsLater s t
   pub keeps : keeps_of t ≡ keeps_of s
   pub pushed : OnOk out (Pushed (known_of s) body (known_of t))
   pub few : OnOk out (FailsFewer s t turns)
@@ -111,7 +112,7 @@ pub record PopsWithoutNode {T : Type 0} (worn : WornWord → Type 0) (r : Arena)
   pub ready : IsReady r t
   pub same : KeepsName s t
   pub slots : PopMoves r s t out
-  pub path : (view t).path ≡ (view s).path ++ added s t
+  pub later : IsLater s t
   pub answer : IfOk out (λ o. PopAnswers (known_of s) o (known_of t))
   pub few : OnOk out (spent + failed_turns (added s t) ≤ turns)
   pub freed : keeps_of s ≡ false → OnOk out (EmptiesPocket s t spent turns)
@@ -130,6 +131,7 @@ PopCaused worn r s t turns refusal = PopWithoutNodeCaused worn r s t 0 turns ref
 pub record AnswersPop {T : Type 0} (worn : WornWord → Type 0) (r : Arena) (s t : Seat T) (turns : ℕ) (out : Result (Option Taken) Refusal) : Type 0 where
   pub ready : IsReady r t
   pub number : (known_of t).number ≡ (known_of s).number
+  pub later : IsLater s t
   pub keeps : keeps_of t ≡ keeps_of s
   pub answer : IfOk out (λ o. PopAnswers (known_of s) o (known_of t))
   pub few : OnOk out (FailsFew s t turns)

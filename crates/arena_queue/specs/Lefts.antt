@@ -6,7 +6,7 @@ use Rattle.node_arena.specs.Machine.{Shared}
 use Rattle.node_arena.specs.Traces.{Traced, IsTraced}
 use Rattle.node_arena.specs.Plans.{Layout}
 use Rattle.node_arena.specs.Looks.{WasMeanwhile}
-use Rattle.wear.specs.PushesLeft.{pushes_left, Lasts}
+use Rattle.arena_queue.specs.PushesLeft.{pushes_left, Lasts}
 use Rattle.arena_queue.specs.declared.left.Left.{Left}
 
 -- in a traced world no older than what a seat had seen a word's count was less than the greatest one by this much

@@ -1,3 +1,5 @@
+pub mod Counts
+pub mod PushesLeft
 pub mod Answers
 pub mod Lefts
 pub mod Queues

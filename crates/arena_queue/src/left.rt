@@ -1,6 +1,6 @@
 //! How many pushes a queue has left until one of its words wears out.
 ghost use Rattle.std.specs.Prelude.{◌≡◌};
-ghost use Rattle.wear.specs.PushesLeft as lasting;
+ghost use Rattle.arena_queue.specs.PushesLeft as lasting;
 
 use crate::algorithms::Algorithm;
 use crate::queue::ArenaQueueOf;

@@ -2,6 +2,7 @@
 #![tactic(auto)]
 
 mod algorithms;
+pub mod laws;
 mod left;
 mod looks;
 mod queue;

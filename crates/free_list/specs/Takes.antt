@@ -51,7 +51,7 @@ pub record Got {T : Type 0} (r : Arena) (s t : Seat T) (es : List Event) (h : He
   pub over : (view t).actor.line ≡ Some (with_node r.plan.setup.kind)
   pub node : (view t).actor.node ≡ h.node
   pub mark : (view t).actor.mark ≡ h.mark
-  pub there : EndedAt r s es (λ was a l. WasThere h.node was.world)
+  pub there : EndedAt r s (view t).ran es (λ was a l. WasThere h.node was.world)
   pub sole : NowHolds r t (λ w. IsSole w (view t).number h.node)
 
 -- a turn that failed
@@ -64,7 +64,7 @@ pub record Refuses {T : Type 0} (r : Arena) (s t : Seat T) (es : List Event) (re
   pub seat : IsSeat r t
   pub over : (view t).actor.line ≡ None
   pub empty : (view t).actor.pocket ≡ None
-  pub cause : EndedAt r s es (IsRefusedAt r.plan.setup (view s).number refusal)
+  pub cause : EndedAt r s (view t).ran es (IsRefusedAt r.plan.setup (view s).number refusal)
   pub possible : IsRefusedBy refusal
 
 -- what a turn leads to

@@ -111,6 +111,7 @@ module _ {T : Type 0} (r : Arena) (s : Seat T) (t : Token (Option T) (Beside T))
         shut = shut ∙ ap (nat_lt 0) (sym (sum_by-append _ (view s).mine es) ∙ (ap (count_by is_shut) (sym steps.mine) ∙ ap (λ y. count_by is_shut (knows y.me.0.plain).mine) (sym token)));
         fitted = subst (λ y. ∥ Fitted r.plan (knows y.me.0.plain) ∥₁) (sym token) ∣ record {
           trace = step_at steps.was (view s).number a l;
+          run = steps.runs.led;
           reached =
               steps.reaches;
           setup = steps.setup;

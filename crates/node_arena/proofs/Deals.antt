@@ -40,7 +40,10 @@ use Rattle.node_arena.specs.Rule.{Fits, Holds, Fitted, first_view}
 use Rattle.node_arena.specs.NewArenas.{first_memory_words, LieFirst, IsDealt, AreDealt, IsNewSeat}
 use Rattle.node_arena.proofs.Placed.{length-shared_words, shared_words-set, shared_words-blank}
 use Rattle.node_arena.proofs.Tracing.{changed_here, changed_else}
-use Rattle.node_arena.proofs.StepsPreserve.{one_of}
+use Rattle.node_arena.proofs.PrologueTraces.{ran_all}
+use Rattle.node_arena.proofs.Keeping.{one_of, there_kept}
+use Rattle.node_arena.proofs.Quiet as quiet
+use Rattle.node_arena.proofs.Meets.{FitsAll, both}
 use Rattle.node_arena.proofs.KnownValues.{knows_none}
 
 none_at : {A : Type 0} {X : Type 0} (i : ℕ) (b : A) → get_elem? {A = A} [] i ≡ some b → X
@@ -146,6 +149,10 @@ opens z words size e =
         owned = λ j i u v a b. let q = lone (keeper 1) u j a in none_at i v (ap (λ (y : View). get_elem? (members y) i) q.1 ∙ b);
         kept = λ j n a. let q = lone (keeper 1) (keeper n) j a in let f = q.1 in (q.0, cc);
         undealt = λ n some few. record { actor = idle_actor z.setup (length z.roles) n some few; path = refl; own = refl };
+        peopled = refl;
+        ran = λ j i u v a b. let q = lone (keeper 1) u j a in none_at i v (ap (λ (y : View). get_elem? (members y) i) q.1 ∙ b);
+        unmoved = λ n over. ran_all [] n;
+        there = λ n. inl (ran_all [] n);
       },
       refl,
     )
@@ -156,27 +163,30 @@ deals z es id n few s hs mine =
     let k = h.kept id n mine in
     let l : ℕ = length (set s.views id (keeper (n + 1))) in
     let own : ℕ → ℕ × ℕ = changed h.owner n (l, 0) in
-    let P : ℕ → ℕ → SeatView → Type 0 = λ j i o. Fits h.trace o × (own o.number ≡ (j, i)) × (o.number < n + 1) in
+    let P : ℕ → ℕ → SeatView → Type 0 = λ j i o. FitsAll h o × (own o.number ≡ (j, i)) × (o.number < n + 1) in
     let fresh = h.undealt n (let e = k.1 in omega arith) few in
+    let kept = quiet.deals s.views id n (n + 1) (seated (new_seat n)) mine in
     let new : P l 0 (new_seat n) = (
-      record {
-        actor = fresh.actor;
-        path = fresh.path;
-        rest = h.trace.history;
-        begins = refl;
-        own = fresh.own;
-        known =
-            refl;
-        noted = All-nil (IsNoted []);
-        saw = tt;
-        looked = tt;
-      },
+      (
+        record {
+          actor = fresh.actor;
+          path = fresh.path;
+          rest = h.trace.history;
+          begins = refl;
+          own = fresh.own;
+          known =
+              refl;
+          noted = All-nil (IsNoted []);
+          saw = tt;
+        },
+        h.unmoved n (let e = k.1 in omega arith),
+      ),
       changed_here h.owner n (l, 0),
       omega arith,
     ) in
     let old : (j i : ℕ) (u : View) (o : SeatView) → get_elem? s.views j ≡ some u → get_elem? (members u) i ≡ some o → P j i o = λ j i u o a b.
     let t = h.owned j i u o a b in let lt : o.number < n = let x = t.1 in let e =
-    k.1 in omega arith in (h.fits j i u o a b, changed_else h.owner n (l, 0) o.number (λ e. omega arith) ∙ t.0, omega arith) in
+    k.1 in omega arith in (both z s h j i u o a b, changed_else h.owner n (l, 0) o.number (λ e. omega arith) ∙ t.0, omega arith) in
     let all : (j i : ℕ) (u : View) (o : SeatView) → get_elem? (set s.views id (keeper (n + 1)) ++ seated (new_seat n) ∷ []) j ≡ some u → get_elem? (members u) i ≡ some o → P j i o = λ j i u o a b.
     ⊎_elim
     (λ (t : get_elem? (set s.views id (keeper (n + 1))) j ≡ some u).
@@ -197,7 +207,11 @@ deals z es id n few s hs mine =
         dealt = n + 1;
         home = h.home;
         owner = own;
-        fits = λ j i u o a b. (all j i u o a b).0;
+        fits = λ j i u o a b. (all j i u o a b).0.0;
+        peopled = h.peopled;
+        ran = λ j i u o a b. (all j i u o a b).0.1;
+        unmoved = λ p over. h.unmoved p (let e = k.1 in omega arith);
+        there = λ p. there_kept s.views (set s.views id (keeper (n + 1)) ++ seated (new_seat n) ∷ []) h.reached.moves kept p (h.there p);
         owned = λ j i u o a b. let t = all j i u o a b in (t.1, t.2);
         kept = λ j m a. ⊎_elim
             (λ (t : get_elem? (set s.views id (keeper (n + 1))) j ≡ some (keeper m)).
@@ -308,10 +322,11 @@ newly : (z : Layout) (n : ℕ) → IsPlanned z → 1 ≤ n → n ≤ length z.ro
 newly z n sized least few =
     record {
       trace = first_trace z.setup (length z.roles);
+      run = refl;
       reached = record { actors = length z.roles; moves = []; sized = sized; led = refl };
       setup = refl;
       permitted = All-nil (RolesPermit z.roles);
-      fits = record { actor = idle_actor z.setup (length z.roles) n least few; path = refl; rest = []; begins = refl; own = refl; known = refl; noted = All-nil (IsNoted []); saw = tt; looked = tt };
+      fits = record { actor = idle_actor z.setup (length z.roles) n least few; path = refl; rest = []; begins = refl; own = refl; known = refl; noted = All-nil (IsNoted []); saw = tt };
     }
 
 -- a seat with the token of a number that was dealt

@@ -1,5 +1,5 @@
 -- Looks one after another: what a word that was looked at says of the world, and what three looks say of the queue.
-use Rattle.std.proofs.Common.{◌≡◌, ◌≢◌, ℕ, ◌+◌, ◌*◌, ◌<◌, ◌≤◌, ◌⊎◌, get_or, inl, inr, Bool, true, false, if◌then◌else◌, List, ◌∷◌, ◌++◌, length, IfSome}
+use Rattle.std.proofs.Common.{◌≡◌, ◌≢◌, ℕ, ◌+◌, ◌*◌, ◌<◌, ◌≤◌, ◌⊎◌, get_or, inl, inr, Bool, true, false, if◌then◌else◌, List, ◌∷◌, ◌++◌, length}
 use Rattle.std.proofs.Common.{refl, sym, ap, subst, ◌∙◌, arith, append_assoc, eqb-true}
 use Rattle.std.proofs.lemmas.Bool.{eqb-false}
 use Rattle.std.specs.List.{count_by}
@@ -22,13 +22,15 @@ use Rattle.step_machine.proofs.Fits.{shared_fits}
 use Rattle.step_machine.proofs.Reached.{reached_in_range}
 use Rattle.step_machine.proofs.Chains.{next_in, second_or_end}
 use Rattle.step_machine.proofs.EitherQueue.{HasChains, reached_chains, head_some}
-use Rattle.node_arena.specs.Traces.{Traced, IsTraced}
+use Rattle.node_arena.specs.Traces.{Traced, IsTraced, first_trace}
 use Rattle.node_arena.specs.Knowledge.{SeatView, known_by}
 use Rattle.node_arena.specs.Plans.{Layout}
-use Rattle.node_arena.specs.Rule.{IsCurrentOrPast, StaysLooked}
-use Rattle.node_arena.specs.Looks.{looked_in, LooksAt, WasMeanwhile, LeadsToSome, FoundSo}
+use Rattle.node_arena.specs.Rule.{IsCurrentOrPast, IsRunTo}
+use Rattle.node_arena.specs.Looks.{LooksAt, WasMeanwhile, LeadsToSome, FoundSo}
 use Rattle.node_arena.specs.declared.emptiness.Emptiness.TheVariants.{Empty, ShutEmpty, Holds, Moved}
 use Rattle.node_arena.proofs.Reading.{read_back}
+use Rattle.node_arena.proofs.Rising.{Rose, rose}
+use Rattle.node_arena.proofs.PrologueTraces.{trace_rest}
 use Rattle.node_arena.proofs.Tracing.{traced_reached}
 use Rattle.node_arena.proofs.Histories.{history_plays, counts_pops}
 use Rattle.node_arena.proofs.Noted.{leaves_nothing, leaves_shut}
@@ -116,9 +118,13 @@ module _ (z : Layout) (word n : ℕ) (v v' : SeatView) (a : LooksAt z word n v v
       let parts : count_by is_pop a.was.history ≡ count_by is_pop v.seen + count_by is_pop a.rest = ap (count_by is_pop) a.begins ∙ sum_by-append (λ e. if is_pop e then 1 else 0) v.seen a.rest in
       omega (arith, pops_there, parts)
 
--- what a look says of the world of the look before
-pub since_there : (z : Layout) (w n x k : ℕ) (u v v' : SeatView) (a : LooksAt z w n u v) (b : LooksAt z x k v v') → StaysLooked b.was (looked_in a.was)
-since_there z w n x k u v v' a b = subst (λ o. IfSome o (StaysLooked b.was)) (ap (λ (y : SeatView). y.looked) a.knows) b.since
+-- a look after another one: its world is a later one
+pub since_there : (z : Layout) (w n x k : ℕ) (u v v' : SeatView) (a : LooksAt z w n u v) (b : LooksAt z x k v v') → Rose z.setup.kind a.was.world.shared b.was.world.shared
+since_there z w n x k u v v' a b =
+    let on : b.ran ≡ a.ran ++ b.run.others = b.run.goes_on ∙ ap (λ (y : SeatView). y.ran ++ b.run.others) a.knows in
+    subst (λ (s : Setup). Rose s.kind a.was.world.shared b.was.world.shared) a.setup
+    (rose b.run.others a.was b.was a.reached
+    (trace_rest a.ran b.run.others (first_trace z.setup (length z.roles)) a.was b.was a.run.led (subst (λ ms. IsRunTo z ms b.was) on b.run.led)))
 
 -- a count doesn't fall
 pub not_less : (now was : Ref) → IsCurrentOrPast now was → was.count ≤ now.count

@@ -24,7 +24,9 @@ use Rattle.node_arena.specs.Ends.{HasToken, HasGathered}
 use Rattle.node_arena.proofs.Placed.{place_there, length-shared_words, get_or-shared_words}
 use Rattle.node_arena.proofs.There.{words_there}
 use Rattle.node_arena.proofs.Tracing.{changed_here, changed_else}
-use Rattle.node_arena.proofs.Meets.{views_now, no_one}
+use Rattle.node_arena.proofs.Keeping.{one_of, no_one}
+use Rattle.node_arena.proofs.Quiet as quiet
+use Rattle.node_arena.proofs.Meets.{FitsAll, both, views_now}
 
 -- a token that gathers takes in one of a seat
 gathers : (z : Layout) (es : List Entry) (id other : ℕ) (vs : List SeatView) (w : SeatView) → Joins {S = ℕ} (HoldsWith z es) id (gathered vs) other (seated w) (gathered (vs ++ w ∷ [])) spent
@@ -35,11 +37,11 @@ gathers z es id other vs w s hs at_id ne at_other =
     let l : ℕ = length vs in
     let own : ℕ → ℕ × ℕ = changed h.owner w.number (id, l) in
     let ow = h.owned other 0 (seated w) w there refl in
-    let P : ℕ → ℕ → SeatView → Type 0 = λ j i o. Fits h.trace o × (own o.number ≡ (j, i)) × (o.number < h.dealt) in
+    let P : ℕ → ℕ → SeatView → Type 0 = λ j i o. FitsAll h o × (own o.number ≡ (j, i)) × (o.number < h.dealt) in
     let old : (j i : ℕ) (u : View) (o : SeatView) → j ≢ other → get_elem? s.views j ≡ some u → get_elem? (members u) i ≡ some o → P j i o = λ j i u o far a b.
-    let k = h.owned j i u o a b in (h.fits j i u o a b, changed_else h.owner w.number (id, l) o.number (λ e. far (ap (λ (y : ℕ × ℕ). y.0) (sym k.0 ∙ (ap h.owner e ∙ ow.0)))) ∙ k.0, k.1) in
-    let new : P id l w = (h.fits other 0 (seated w) w there refl, changed_here h.owner w.number (id, l), ow.1) in
-    views_now z es s hs s.words (set (set s.views id all) other spent) own refl
+    let k = h.owned j i u o a b in (both z s h j i u o a b, changed_else h.owner w.number (id, l) o.number (λ e. far (ap (λ (y : ℕ × ℕ). y.0) (sym k.0 ∙ (ap h.owner e ∙ ow.0)))) ∙ k.0, k.1) in
+    let new : P id l w = (both z s h other 0 (seated w) w there refl, changed_here h.owner w.number (id, l), ow.1) in
+    views_now z es s hs s.words (set (set s.views id all) other spent) own (quiet.gathers s.views id other vs w at_id ne there) refl
     (λ j i u o a b. ⊎_elim
     (λ (t : (j ≡ other) × (spent ≡ u)). no_one o i (ap (λ (y : View). get_elem? (members y) i) t.1 ∙ b))
     (λ (t : (j ≢ other) × (get_elem? (set s.views id all) j ≡ some u)). ⊎_elim
@@ -61,9 +63,9 @@ gathers z es id other vs w s hs at_id ne at_other =
 pub enters : (key : Layout) (es : List Entry) (slots word : ℕ) → Enters {S = ℕ} (HoldsWith key es) slots word (λ n w. Opens (w, []))
 enters key es slots word s hs empty fit = let h : Holds key s = hs.0 in (
   gathered [],
-  views_now key es s hs s.words (s.views ++ gathered [] ∷ []) h.owner refl
+  views_now key es s hs s.words (s.views ++ gathered [] ∷ []) h.owner (quiet.opens s.views (gathered [])) refl
       (λ j i u o a b. ⊎_elim
-      (λ (t : get_elem? s.views j ≡ some u). let k = h.owned j i u o t b in (h.fits j i u o t b, k.0, k.1))
+      (λ (t : get_elem? s.views j ≡ some u). let k = h.owned j i u o t b in (both key s h j i u o t b, k.0, k.1))
       (λ (t : (j ≡ length s.views) × (gathered [] ≡ u)). no_one o i (ap (λ (y : View). get_elem? (members y) i) t.1 ∙ b))
       (at_end s.views (gathered []) u j a))
       (λ j n a. ⊎_elim

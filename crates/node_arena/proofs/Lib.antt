@@ -13,8 +13,12 @@ pub mod There
 pub mod Known
 pub mod OneProof
 pub mod Rooms
+pub mod Keeping
+pub mod Quiet
 pub mod StepsPreserve
 pub mod Lifts
+pub mod Later
+pub mod Courses
 pub mod Slotting
 pub mod Riding
 pub mod KnownValues
@@ -48,3 +52,4 @@ pub mod Numbers
 pub mod Loads
 pub mod Openings
 pub mod Values
+pub mod ValueCourses

@@ -29,6 +29,7 @@ use mathlib.Core.Logic.{dite}
 use native.Mathlib.Decide.{ℕ_discrete}
 use Rattle.atomic_table.specs.Table.{Act, takes, gives, Valid, carried_after, stepped}
 use Rattle.atomic_table.proofs.Lists.{at_map, set_else, set_here, set_again}
+use Rattle.node_arena.proofs.Keeping.{set_there}
 use Rattle.node_arena.proofs.Slotting.{acquires, releases}
 use Rattle.counted_ref.specs.Ref.{null, same_ref}
 use Rattle.line_table.specs.declared.lines.Line.TheVariants.{E9, D13, A5, B5, S4, S8}
@@ -85,11 +86,6 @@ kinds s me a S8 c = go (same_ref c null)
     go true = inr (inr (inr refl))
     go false = inl refl
 kinds s me a l c = inl refl
-
-set_at : {A : Type 0} (l : List A) (i : ℕ) (a b : A) → get_elem? l i ≡ some a → get_elem? (set l i b) i ≡ some b
-set_at [] i a b e = absurd (some-ne-none a (sym e))
-set_at (x ∷ xs) zero a b e = refl
-set_at (x ∷ xs) (suc i) a b e = set_at xs i a b e
 
 at_lt : {A : Type 0} (l : List A) (i : ℕ) (a : A) → get_elem? l i ≡ some a → i < length l
 at_lt [] i a e = absurd (some-ne-none a (sym e))
@@ -159,7 +155,7 @@ module _ {T : Type 0} (z : Layout) (m n : ℕ) (s : State (Option T) (Beside T))
   seat_after d h = record { plain = seated v'; deeds = if sees l then H.rides.deeds ++ d else ds; hand = h; others = [] }
 
   hands : (d : List (Deed T)) (h : maybe.Option ℕ) → Changes (hand_at s.views) (hand_at (set s.views id (seat_after d h))) id h
-  hands d h = (ap hand_in (set_at s.views id w (seat_after d h) mine), λ i ne. ap hand_in (set_else s.views id i (seat_after d h) ne))
+  hands d h = (ap hand_in (set_there s.views id w (seat_after d h) mine), λ i ne. ap hand_in (set_else s.views id i (seat_after d h) ne))
 
   same_hands : (d : List (Deed T)) (j : ℕ) → hand_at s.views j ≡ hand_at (set s.views id (seat_after d hd)) j
   same_hands d j = dite (ℕ_discrete j id)
@@ -359,7 +355,7 @@ module _ {T : Type 0} (z : Layout) (m n id : ℕ) where
       let got = acquires n (flag_at m s.words) (flag_at m words') (home_at s.homes) (home_at homes') (hand_at s.views) (hand_at (set s.views id w')) r.pops id i r.q r.slotted lt down
       (get_or-set_same s.words (m + i) 1 0 (omega (arith, lt, long)), λ j ne. get_or-set_other s.words (m + i) (m + j) 1 0 (λ e. ne (omega (arith, e))))
       (set_here s.homes i none (omega (arith, lt, count)), λ j ne. set_else s.homes i j none ne)
-      (ap hand_in (set_at s.views id w w' mine), λ j ne. ap hand_in (set_else s.views id j w' ne)) in
+      (ap hand_in (set_there s.views id w w' mine), λ j ne. ap hand_in (set_else s.views id j w' ne)) in
       let same_views : map plain_of (set s.views id w') ≡ map plain_of s.views = map_set plain_of s.views id w' ∙ set_again (map plain_of s.views) id w.plain (at_map plain_of s.views id w mine) in (
         got.0,
         record {
@@ -397,7 +393,7 @@ module _ {T : Type 0} (z : Layout) (m n id : ℕ) where
               (hand_at (set s.views id w')) r.pops id k r.q r.slotted (ap hand_in mine ∙ hand)
               (get_or-set_same s.words (m + k) 0 0 (omega (arith, lt, long)), λ j ne. get_or-set_other s.words (m + k) (m + j) 0 0 (λ e. ne (omega (arith, e))))
               (set_here s.homes k (some None) (omega (arith, lt, count)), λ j ne. set_else s.homes k j (some None) ne)
-              (ap hand_in (set_at s.views id w w' mine), λ j ne. ap hand_in (set_else s.views id j w' ne));
+              (ap hand_in (set_there s.views id w w' mine), λ j ne. ap hand_in (set_else s.views id j w' ne));
         };
         known = λ j o at. ⊎_elim
             (λ (e : (j ≡ id) × (w' ≡ o)). subst (Begins r.deeds) e.1 (let f = H.known id w mine in let g : Begins r.deeds w' =
@@ -450,7 +446,7 @@ module _ {T : Type 0} (z : Layout) (slots id : ℕ) (all : z.carries ≡ true �
         (
           (ap (λ y. (y, [])) q.4.0.0, subst (λ (k : Line). Steps z prologue k (get_or s.words (place (word_index x)) 0) v (knows q.0.plain)) (sym (ap line_or_first line)) q.4.0.1),
           (q.4.1.0, q.4.1.1, subst (λ (b : Bool). EffectBy b v.number q.4.1.0 before (q.0, carried_after held q.1)) (sym carries) q.4.1.2),
-          subst (λ (b : Bool). KnowsBy b z (knows q.0.plain).seen q.0) (sym carries) (told_values q.0 q.1 q.3 q.4.0.0 (set_at s.views id before.0 q.0 mine)),
+          subst (λ (b : Bool). KnowsBy b z (knows q.0.plain).seen q.0) (sym carries) (told_values q.0 q.1 q.3 q.4.0.0 (set_there s.views id before.0 q.0 mine)),
         ),
       )
 

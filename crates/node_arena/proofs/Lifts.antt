@@ -15,7 +15,7 @@ use Rattle.node_arena.specs.Knowledge.{SeatView, View, seated, paired, knows}
 use Rattle.node_arena.proofs.Riding.{rides_same}
 use Rattle.node_arena.proofs.KnownValues.{knows_values}
 use Rattle.node_arena.specs.Plans.{Layout}
-use Rattle.node_arena.specs.Rule.{Holds, first_view}
+use Rattle.node_arena.specs.Rule.{IsThere, Holds, first_view}
 use Rattle.node_arena.specs.Deeds.{Deed, Matches}
 use Rattle.node_arena.specs.Slots.{item_of}
 use Rattle.node_arena.specs.Beside.{Beside, words_of, plain_of, plain_state, flag_at, slots_in, hand_in, hand_at, home_at, Begins, Carried, CarriedBy}
@@ -70,6 +70,10 @@ moved z s s' h words views =
       owned = λ j i u o there which. h.owned j i u o (ap (λ l. get_elem? l j) (sym views) ∙ there) which;
       kept = λ j k there. h.kept j k (ap (λ l. get_elem? l j) (sym views) ∙ there);
       undealt = h.undealt;
+      peopled = h.peopled;
+      ran = λ j i u o there which. h.ran j i u o (ap (λ l. get_elem? l j) (sym views) ∙ there) which;
+      unmoved = h.unmoved;
+      there = λ n. subst (λ vs. IsThere vs h.reached.moves n) (sym views) (h.there n);
     }
 
 -- the rule of the queue, with this history

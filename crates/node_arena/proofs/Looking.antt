@@ -1,6 +1,6 @@
 -- A look of a seat. No move of the world is made.
 use Rattle.std.proofs.Common.{Bool, true, false, append-nil, ◌≡◌, ◌≢◌, ℕ, ◌+◌, ◌-◌, ◌*◌, ◌<◌, List, [], ◌++◌, length, get_or, set, slice_index}
-use Rattle.std.proofs.Common.{Option, Some, None, IfSome, inl, sym, refl, ap, ◌∙◌, subst, ⊎_elim, arith}
+use Rattle.std.proofs.Common.{Option, None, sym, refl, ap, ◌∙◌, subst, ⊎_elim, arith}
 use Rattle.std.proofs.lemmas.List.{set-get_or}
 use mathlib.Core.Option.{some}
 use lib.ListN.{get_elem?}
@@ -9,6 +9,7 @@ use Rattle.atomic_table.specs.declared.shared.Seat.{Seat as Token}
 use Rattle.atomic_table.proofs.Lists.{at_set}
 use Rattle.history.specs.declared.operations.Entry.{Entry}
 use Rattle.step_machine.specs.Words.{memory_words}
+use Rattle.step_machine.specs.Machine.{AnyMove}
 use Rattle.node_arena.specs.Beside.{Beside, words_of, HoldsFor, KnowsNow, GrowsBy, slots_in}
 use Rattle.node_arena.specs.declared.seats.Seat.{Seat}
 use Rattle.node_arena.specs.Arenas.{Arena}
@@ -17,33 +18,16 @@ use Rattle.node_arena.specs.Prologues.{at_rest}
 use Rattle.node_arena.specs.Knowledge.{SeatView, View, keeper, seated, members, knows}
 use Rattle.node_arena.specs.Places.{place}
 use Rattle.node_arena.specs.Plans.{Layout}
-use Rattle.node_arena.specs.Rule.{StaysLooked, Fits, Holds, Fitted}
+use Rattle.node_arena.specs.Rule.{LearnsRun, Holds, Fitted}
+use Rattle.node_arena.proofs.PrologueTraces.{ran_all}
+use Rattle.node_arena.proofs.Keeping.{one_of, learns_run, learned_more}
+use Rattle.node_arena.proofs.Quiet as quiet
 use Rattle.node_arena.specs.Seats.{IsReady, SeesMoreDeeds, deeds_of, view}
-use Rattle.node_arena.specs.Looks.{looked_in, Looks}
+use Rattle.node_arena.specs.Looks.{Looks}
 use Rattle.node_arena.proofs.Placed.{place_there, length-shared_words, get_or-shared_words}
 use Rattle.node_arena.proofs.There.{words_there}
-use Rattle.node_arena.proofs.StepsPreserve.{one_of}
 use Rattle.node_arena.proofs.Lifts.{HoldsWith, Learns, lift_learns}
-use Rattle.node_arena.proofs.Meets.{views_now, learned, learns, one_not_two, sits_so}
-
--- what a seat knows that looked
-abbrev looked_at : Traced → SeatView → SeatView
-looked_at t v = record v { seen = t.history; looked = Some (looked_in t) }
-
-looks_on : (t : Traced) (v : SeatView) → (at_rest v.actor).line ≡ None → Fits t v → Fits t (looked_at t v)
-looks_on t v free f =
-    let g : Fits t (learned t v) = learns t v free f in
-    record {
-      actor = g.actor;
-      path = g.path;
-      rest = g.rest;
-      begins = g.begins;
-      own = g.own;
-      known = g.known;
-      noted = g.noted;
-      saw = g.saw;
-      looked = record { head = inl refl; tail = λ k. inl refl };
-    }
+use Rattle.node_arena.proofs.Meets.{FitsAll, both, views_now, learned, learns, one_not_two, sits_so}
 
 -- what a look at a place tells of a seat
 pub record LooksIn (z : Layout) (p n : ℕ) (v v' : SeatView) : Type 0 where
@@ -53,8 +37,9 @@ pub record LooksIn (z : Layout) (p n : ℕ) (v v' : SeatView) : Type 0 where
   pub held : (i : ℕ) → place i ≡ p → i < 6 + 2 * z.setup.size → n ≡ slice_index (memory_words z.setup.bits was.world.shared) i
   pub rest : List Entry
   pub begins : was.history ≡ v.seen ++ rest
-  pub knows : v' ≡ record v { seen = was.history; looked = Some (looked_in was) }
-  pub since : IfSome v.looked (StaysLooked was)
+  pub ran : List AnyMove
+  pub run : LearnsRun z v ran was
+  pub knows : v' ≡ record v { seen = was.history; ran = ran }
   pub fits : Fitted z v'
 
 -- the same of a view, and of a seat beside whose queue's numbers no slot moves
@@ -71,17 +56,20 @@ looks z es id p v free s hs none at_id fit =
     let h : Holds z s = hs.0 in
     let t : Traced = h.trace in
     let f = h.fits id 0 (seated v) v at_id refl in
-    let v' = looked_at t v in
-    let P : ℕ → ℕ → SeatView → Type 0 = λ j i o. Fits h.trace o × (h.owner o.number ≡ (j, i)) × (o.number < h.dealt) in
-    let mine : P id 0 v' = let k = h.owned id 0 (seated v) v at_id refl in (looks_on t v free f, k.0, k.1) in (
+    let ran : List AnyMove = h.reached.moves in
+    let v' = learned t ran v in
+    let P : ℕ → ℕ → SeatView → Type 0 = λ j i o. FitsAll h o × (h.owner o.number ≡ (j, i)) × (o.number < h.dealt) in
+    let run = learns_run z s h v (h.ran id 0 (seated v) v at_id refl) in
+    let kept = quiet.looks s.views id v v' at_id refl (learned_more z v ran t run) in
+    let mine : P id 0 v' = let k = h.owned id 0 (seated v) v at_id refl in ((learns t ran v free f, ran_all ran v.number), k.0, k.1) in (
       seated v',
       keeps,
       tt,
-      views_now z es s hs (set s.words p (get_or s.words p 0)) (set s.views id (seated v')) h.owner (set-get_or s.words p 0)
+      views_now z es s hs (set s.words p (get_or s.words p 0)) (set s.views id (seated v')) h.owner kept (set-get_or s.words p 0)
           (λ j i x o a b. ⊎_elim
           (λ (q : (j ≡ id) × (seated v' ≡ x)). let y = one_of v' o i (ap (λ (y : View). get_elem? (members y) i) q.1 ∙ b) in subst
           (λ (x : ℕ × ℕ × SeatView). P x.0 x.1 x.2) (λ c. (sym q.0 c, sym y.0 c, y.1 c)) mine)
-          (λ (q : (j ≢ id) × (get_elem? s.views j ≡ some x)). let k = h.owned j i x o q.1 b in (h.fits j i x o q.1 b, k.0, k.1))
+          (λ (q : (j ≢ id) × (get_elem? s.views j ≡ some x)). let k = h.owned j i x o q.1 b in (both z s h j i x o q.1 b, k.0, k.1))
           (at_set s.views id j (seated v') x a))
           (λ j n a. ⊎_elim (λ (q : (j ≡ id) × (seated v' ≡ keeper n)). let e = q.1 in cc) (λ (q : (j ≢ id) × (get_elem? s.views j ≡ some (keeper n))). h.kept j n q.1)
           (at_set s.views id j (seated v') (keeper n) a)),
@@ -97,9 +85,10 @@ looks z es id p v free s hs none at_id fit =
                 ap (λ q. get_or s.words q 0) (sym at) ∙ (sym (get_or-shared_words s.words i there) ∙ ap (λ ws. slice_index ws i) h.words);
             rest = f.rest;
             begins = f.begins;
+            ran = ran;
+            run = run;
             knows = refl;
-            since = f.looked;
-            fits = record { trace = t; reached = h.reached; setup = h.setup; permitted = h.permitted; fits = mine.0 };
+            fits = record { trace = t; run = run.led; reached = h.reached; setup = h.setup; permitted = h.permitted; fits = mine.0.0 };
           },
         ),
         ((λ u e. ap (λ y. (knows y).seen) (sym e) ∙ hs.1), (λ u o e. absurd (one_not_two v' u o e)), hs.1),
@@ -141,7 +130,7 @@ looked r s t word p n i less at h =
           (λ (z : Layout). KnowsNow z t.me.0) i.seat.arena.key h.2.3 ∣₁ (ap (λ (v : SeatView). v.number) told.knows)
           (ap (λ (v : SeatView). v.actor) told.knows) (ap (λ (v : SeatView). v.mine) told.knows) told.fits;
       stored = record { number = refl; role = refl; keeps = refl; pocket = refl; failed = refl };
-      told = record { was = told.was; reached = told.reached; setup = told.setup; held = told.held word (sym at) less; rest = told.rest; begins = told.begins; knows = told.knows; since = told.since };
+      told = record { was = told.was; reached = told.reached; setup = told.setup; held = told.held word (sym at) less; rest = told.rest; begins = told.begins; ran = told.ran; run = told.run; knows = told.knows };
       slots = record { same = h.2.1; hand = h.2.2; number = ap (λ (v : SeatView). v.number) told.knows; more = sees_more s (record s { token = t }) r.key.carries h.2.4 };
       values = λ c. let g = subst (λ (b : Bool). GrowsBy b s.token.me.0 t.me.0) (ap (λ (z : Layout). z.carries) i.seat.arena.key ∙ c) h.2.4 in record { between = g.0.0; deeds = g.0.1 };
     }

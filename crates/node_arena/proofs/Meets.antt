@@ -1,8 +1,8 @@
 -- Seats that meet. No move of the world is made.
-use Rattle.std.proofs.Common.{◌≡◌, ◌≢◌, ℕ, ◌+◌, ◌<◌, Bool, true, false, take, None, List, [], ◌∷◌, ◌++◌, Option, zero, suc, length, map, get_or, set}
-use Rattle.std.proofs.Common.{sym, refl, ap, ◌∙◌, subst, ⊎_elim, ◌⊎◌, inl, inr, arith, append-nil, nat_lt}
+use Rattle.std.proofs.Common.{◌≡◌, ◌≢◌, ℕ, ◌+◌, ◌<◌, Bool, true, false, take, None, List, [], ◌∷◌, ◌++◌, Option, length, map, get_or, set}
+use Rattle.std.proofs.Common.{sym, refl, ap, ◌∙◌, subst, ⊎_elim, arith, append-nil, nat_lt}
 use Rattle.std.proofs.lemmas.List.{set-get_or, length-set}
-use mathlib.Core.Option.{some, none, some-injective, some-ne-none}
+use mathlib.Core.Option.{some, none}
 use lib.ListN.{get_elem?}
 use Rattle.atomic_table.specs.Table.{State, Me, Act, keeps, Valid, carried_after, stepped, Splits, Joins, Allows}
 use Rattle.atomic_table.proofs.Lists.{at_set, at_map, set_else, set_again}
@@ -13,11 +13,15 @@ use Rattle.node_arena.specs.Deeds.{Deed, Matches}
 use Rattle.node_arena.specs.Slots.{item_of}
 use Rattle.history.specs.Entries.{is_push, is_pop, is_shut}
 use Rattle.history.specs.Seats.{IsNoted}
+use Rattle.step_machine.specs.Machine.{AnyMove}
 use Rattle.node_arena.specs.Traces.{Traced, changed}
 use Rattle.node_arena.specs.Knowledge.{SeatView, View, keeper, seated, paired, spent, members, knows, knows_second, both_of, first_of, second_of}
 use Rattle.node_arena.specs.Places.{shared_words}
 use Rattle.node_arena.specs.Plans.{Layout}
-use Rattle.node_arena.specs.Rule.{Fits, Holds, Fitted, Met}
+use Rattle.node_arena.specs.Rule.{Ran, Keeps, Fits, Holds, Fitted, Met}
+use Rattle.node_arena.proofs.PrologueTraces.{ran_all}
+use Rattle.node_arena.proofs.Keeping.{one_of, two_of, no_one, there_kept, learns_run, learned_more}
+use Rattle.node_arena.proofs.Quiet as quiet
 use Rattle.std.specs.List.{All, count_by}
 use Rattle.std.proofs.lemmas.List.Elements.{All-weaker}
 use Rattle.atomic_table.specs.declared.shared.Seat.{Seat as Token}
@@ -29,17 +33,24 @@ use Rattle.node_arena.specs.declared.seats.Seat.{Seat}
 use Rattle.node_arena.specs.Prologues.{at_rest}
 use Rattle.node_arena.specs.Seats.{IsReady, Meets, view}
 use Rattle.node_arena.proofs.Tracing.{changed_here, changed_else}
-use Rattle.node_arena.proofs.StepsPreserve.{one_of}
 use Rattle.node_arena.proofs.Empties.{noted_more, saw_at_rest}
 use Rattle.node_arena.proofs.Lifts.{HoldsWith, at_end, none_moved, map_set, moved, hand_set, recarried, lift_splits, lift_joins}
 use Rattle.node_arena.proofs.KnownValues.{knows_values, knows_parted}
 
+-- a seat fits the world of the rule, and knows a beginning of its moves
+abbrev pub FitsAll : {z : Layout} {s : State ℕ View} → Holds z s → SeatView → Type 0
+FitsAll h o = Fits h.trace o × Ran h.reached.moves o.number o.ran
+
+-- the same of each seat of the table
+pub both : (z : Layout) (s : State ℕ View) (h : Holds z s) (j i : ℕ) (u : View) (o : SeatView) → get_elem? s.views j ≡ some u → get_elem? (members u) i ≡ some o → FitsAll h o
+both z s h j i u o a b = (h.fits j i u o a b, h.ran j i u o a b)
+
 -- the views change, and each actor that they speak of keeps its place in `own`
-pub views_now : (z : Layout) (es : List Entry) (s : State ℕ View) (hs : HoldsWith z es s) (words : List ℕ) (views : List View) (own : ℕ → ℕ × ℕ) → words ≡ s.words
-    → ((j i : ℕ) (u : View) (o : SeatView) → get_elem? views j ≡ some u → get_elem? (members u) i ≡ some o → Fits hs.0.trace o × (own o.number ≡ (j, i)) × (o.number < hs.0.dealt))
+pub views_now : (z : Layout) (es : List Entry) (s : State ℕ View) (hs : HoldsWith z es s) (words : List ℕ) (views : List View) (own : ℕ → ℕ × ℕ) → Keeps s.views views → words ≡ s.words
+    → ((j i : ℕ) (u : View) (o : SeatView) → get_elem? views j ≡ some u → get_elem? (members u) i ≡ some o → FitsAll hs.0 o × (own o.number ≡ (j, i)) × (o.number < hs.0.dealt))
     → ((j n : ℕ) → get_elem? views j ≡ some (keeper n) → (j ≡ hs.0.home) × (n ≡ hs.0.dealt))
     → HoldsWith z es record { words = words; homes = s.homes; views = views }
-views_now z es s hs words views own same all some_keeper =
+views_now z es s hs words views own kept same all some_keeper =
     let h : Holds z s = hs.0 in (
       record {
         sized = h.sized;
@@ -52,20 +63,17 @@ views_now z es s hs words views own same all some_keeper =
         dealt = h.dealt;
         home = h.home;
         owner = own;
-        fits = λ j i u o a b. (all j i u o a b).0;
+        fits = λ j i u o a b. (all j i u o a b).0.0;
         owned = λ j i u o a b. let t = all j i u o a b in (t.1, t.2);
         kept = some_keeper;
         undealt = h.undealt;
+        peopled = h.peopled;
+        ran = λ j i u o a b. (all j i u o a b).0.1;
+        unmoved = h.unmoved;
+        there = λ n. there_kept s.views views h.reached.moves kept n (h.there n);
       },
       hs.1,
     )
-
-two_of : (v w o : SeatView) (i : ℕ) → get_elem? (v ∷ w ∷ []) i ≡ some o → ((i ≡ 0) × (v ≡ o)) ⊎ ((i ≡ 1) × (w ≡ o))
-two_of v w o zero e = inl (refl, some-injective v o e)
-two_of v w o (suc i) e = let t = one_of w o i e in inr (ap suc t.0, t.1)
-
-pub no_one : {X : Type 0} (o : SeatView) (i : ℕ) → get_elem? {A = SeatView} [] i ≡ some o → X
-no_one o i e = absurd (some-ne-none o (sym e))
 
 -- two seats become one
 pub pairs : (z : Layout) (es : List Entry) (id other : ℕ) (v w : SeatView) → Joins {S = ℕ} (HoldsWith z es) id (seated v) other (seated w) (paired v w) spent
@@ -75,11 +83,11 @@ pairs z es id other v w s hs at_id ne at_other =
     let own : ℕ → ℕ × ℕ = changed h.owner w.number (id, 1) in
     let ov = h.owned id 0 (seated v) v at_id refl in
     let ow = h.owned other 0 (seated w) w there refl in
-    let P : ℕ → ℕ → SeatView → Type 0 = λ j i o. Fits h.trace o × (own o.number ≡ (j, i)) × (o.number < h.dealt) in
+    let P : ℕ → ℕ → SeatView → Type 0 = λ j i o. FitsAll h o × (own o.number ≡ (j, i)) × (o.number < h.dealt) in
     let differ : v.number ≢ w.number = λ e. ne (ap (λ (y : ℕ × ℕ). y.0) (sym ow.0 ∙ (ap h.owner (sym e) ∙ ov.0))) in
-    let first : P id 0 v = (h.fits id 0 (seated v) v at_id refl, changed_else h.owner w.number (id, 1) v.number differ ∙ ov.0, ov.1) in
-    let second : P id 1 w = (h.fits other 0 (seated w) w there refl, changed_here h.owner w.number (id, 1), ow.1) in
-    views_now z es s hs s.words (set (set s.views id (paired v w)) other spent) own refl
+    let first : P id 0 v = (both z s h id 0 (seated v) v at_id refl, changed_else h.owner w.number (id, 1) v.number differ ∙ ov.0, ov.1) in
+    let second : P id 1 w = (both z s h other 0 (seated w) w there refl, changed_here h.owner w.number (id, 1), ow.1) in
+    views_now z es s hs s.words (set (set s.views id (paired v w)) other spent) own (quiet.pairs s.views id other v w at_id ne there) refl
     (λ j i u o a b. ⊎_elim
     (λ (t : (j ≡ other) × (spent ≡ u)). no_one o i (ap (λ (y : View). get_elem? (members y) i) t.1 ∙ b))
     (λ (t : (j ≢ other) × (get_elem? (set s.views id (paired v w)) j ≡ some u)). ⊎_elim
@@ -88,7 +96,7 @@ pairs z es id other v w s hs at_id ne at_other =
     (λ (y : (i ≡ 1) × (w ≡ o)). subst (λ (x : ℕ × SeatView). P id x.0 x.1) (λ c. (sym y.0 c, y.1 c)) second)
     (two_of v w o i (ap (λ (y : View). get_elem? (members y) i) q.1 ∙ b))))
     (λ (q : (j ≢ id) × (get_elem? s.views j ≡ some u)). let k = h.owned j i u o q.1 b in
-    (h.fits j i u o q.1 b, changed_else h.owner w.number (id, 1) o.number (λ e. t.0 (ap (λ (y : ℕ × ℕ). y.0) (sym k.0 ∙ (ap h.owner e ∙ ow.0)))) ∙ k.0, k.1))
+    (both z s h j i u o q.1 b, changed_else h.owner w.number (id, 1) o.number (λ e. t.0 (ap (λ (y : ℕ × ℕ). y.0) (sym k.0 ∙ (ap h.owner e ∙ ow.0)))) ∙ k.0, k.1))
     (at_set s.views id j (paired v w) u t.1))
     (at_set (set s.views id (paired v w)) other j spent u a))
     (λ j n a. ⊎_elim (λ (t : (j ≡ other) × (spent ≡ keeper n)). let e = t.1 in cc)
@@ -105,17 +113,17 @@ parts z es id v w s hs at_id =
     let own : ℕ → ℕ × ℕ = changed h.owner w.number (l, 0) in
     let ov = h.owned id 0 (paired v w) v at_id refl in
     let ow = h.owned id 1 (paired v w) w at_id refl in
-    let P : ℕ → ℕ → SeatView → Type 0 = λ j i o. Fits h.trace o × (own o.number ≡ (j, i)) × (o.number < h.dealt) in
+    let P : ℕ → ℕ → SeatView → Type 0 = λ j i o. FitsAll h o × (own o.number ≡ (j, i)) × (o.number < h.dealt) in
     let differ : v.number ≢ w.number = λ e. let f = ap (λ (y : ℕ × ℕ). y.1) (sym ow.0 ∙ (ap h.owner (sym e) ∙ ov.0)) in omega arith in
-    let first : P id 0 v = (h.fits id 0 (paired v w) v at_id refl, changed_else h.owner w.number (l, 0) v.number differ ∙ ov.0, ov.1) in
-    let second : P l 0 w = (h.fits id 1 (paired v w) w at_id refl, changed_here h.owner w.number (l, 0), ow.1) in
-    views_now z es s hs s.words (set s.views id (seated v) ++ seated w ∷ []) own refl
+    let first : P id 0 v = (both z s h id 0 (paired v w) v at_id refl, changed_else h.owner w.number (l, 0) v.number differ ∙ ov.0, ov.1) in
+    let second : P l 0 w = (both z s h id 1 (paired v w) w at_id refl, changed_here h.owner w.number (l, 0), ow.1) in
+    views_now z es s hs s.words (set s.views id (seated v) ++ seated w ∷ []) own (quiet.parts s.views id v w at_id) refl
     (λ j i u o a b. ⊎_elim
     (λ (t : get_elem? (set s.views id (seated v)) j ≡ some u). ⊎_elim
     (λ (q : (j ≡ id) × (seated v ≡ u)). let y = one_of v o i (ap (λ (y : View). get_elem? (members y) i) q.1 ∙ b) in subst
     (λ (x : ℕ × ℕ × SeatView). P x.0 x.1 x.2) (λ c. (sym q.0 c, sym y.0 c, y.1 c)) first)
     (λ (q : (j ≢ id) × (get_elem? s.views j ≡ some u)). let k = h.owned j i u o q.1 b in
-    (h.fits j i u o q.1 b, changed_else h.owner w.number (l, 0) o.number (λ e. q.0 (ap (λ (y : ℕ × ℕ). y.0) (sym k.0 ∙ (ap h.owner e ∙ ow.0)))) ∙ k.0, k.1))
+    (both z s h j i u o q.1 b, changed_else h.owner w.number (l, 0) o.number (λ e. q.0 (ap (λ (y : ℕ × ℕ). y.0) (sym k.0 ∙ (ap h.owner e ∙ ow.0)))) ∙ k.0, k.1))
     (at_set s.views id j (seated v) u t))
     (λ (t : (j ≡ l) × (seated w ≡ u)). let y = one_of w o i (ap (λ (y : View). get_elem? (members y) i) t.1 ∙ b) in subst
     (λ (x : ℕ × ℕ × SeatView). P x.0 x.1 x.2) (λ c. (sym t.0 c, sym y.0 c, y.1 c)) second)
@@ -133,9 +141,9 @@ spares z es id v s hs at_id =
     let h : Holds z s = hs.0 in
     let l : ℕ = length (set s.views id (seated v)) in
     let same : set s.views id (seated v) ≡ s.views = set_again s.views id (seated v) at_id in
-    views_now z es s hs s.words (set s.views id (seated v) ++ spent ∷ []) h.owner refl
+    views_now z es s hs s.words (set s.views id (seated v) ++ spent ∷ []) h.owner (quiet.spares s.views id v spent at_id) refl
     (λ j i u o a b. ⊎_elim
-    (λ (t : get_elem? (set s.views id (seated v)) j ≡ some u). let q = subst (λ (vs : List View). get_elem? vs j ≡ some u) same t in let k = h.owned j i u o q b in (h.fits j i u o q b, k.0, k.1))
+    (λ (t : get_elem? (set s.views id (seated v)) j ≡ some u). let q = subst (λ (vs : List View). get_elem? vs j ≡ some u) same t in let k = h.owned j i u o q b in (both z s h j i u o q b, k.0, k.1))
     (λ (t : (j ≡ l) × (spent ≡ u)). no_one o i (ap (λ (y : View). get_elem? (members y) i) t.1 ∙ b))
     (at_end (set s.views id (seated v)) spent u j a))
     (λ j n a. ⊎_elim
@@ -143,12 +151,12 @@ spares z es id v s hs at_id =
     (λ (t : (j ≡ l) × (spent ≡ keeper n)). let e = t.1 in cc)
     (at_end (set s.views id (seated v)) spent (keeper n) j a))
 
--- what a seat knows, once it has seen the whole history
-abbrev pub learned : Traced → SeatView → SeatView
-learned t v = record v { seen = t.history }
+-- what a seat knows, once it has seen the whole history and knows all moves
+abbrev pub learned : Traced → List AnyMove → SeatView → SeatView
+learned t ran v = record v { seen = t.history; ran = ran }
 
-pub learns : (t : Traced) (v : SeatView) → (at_rest v.actor).line ≡ None → Fits t v → Fits t (learned t v)
-learns t v free f =
+pub learns : (t : Traced) (ran : List AnyMove) (v : SeatView) → (at_rest v.actor).line ≡ None → Fits t v → Fits t (learned t ran v)
+learns t ran v free f =
     record {
       actor = f.actor;
       path = f.path;
@@ -158,7 +166,6 @@ learns t v free f =
       known = f.own;
       noted = subst (λ es. All (IsNoted es) v.notes) (sym f.begins) (All-weaker (IsNoted v.seen) (IsNoted (v.seen ++ f.rest)) (noted_more v.seen f.rest) v.notes f.noted);
       saw = saw_at_rest t t.history v.actor v.actor.line refl free;
-      looked = f.looked;
     }
 
 -- a load of the word 0 by two seats that are one: both have seen the whole history
@@ -169,36 +176,43 @@ meets z es id v w vf wf s hs empty at_id fit =
     let u : Traced = h.trace in
     let fv = h.fits id 0 (paired v w) v at_id refl in
     let fw = h.fits id 1 (paired v w) w at_id refl in
-    let v' = learned u v in
-    let w' = learned u w in
-    let P : ℕ → ℕ → SeatView → Type 0 = λ j i o. Fits h.trace o × (h.owner o.number ≡ (j, i)) × (o.number < h.dealt) in
-    let first : P id 0 v' = let k = h.owned id 0 (paired v w) v at_id refl in (learns u v vf fv, k.0, k.1) in
-    let second : P id 1 w' = let k = h.owned id 1 (paired v w) w at_id refl in (learns u w wf fw, k.0, k.1) in (
+    let ran : List AnyMove = h.reached.moves in
+    let v' = learned u ran v in
+    let w' = learned u ran w in
+    let P : ℕ → ℕ → SeatView → Type 0 = λ j i o. FitsAll h o × (h.owner o.number ≡ (j, i)) × (o.number < h.dealt) in
+    let first : P id 0 v' = let k = h.owned id 0 (paired v w) v at_id refl in ((learns u ran v vf fv, ran_all ran v.number), k.0, k.1) in
+    let second : P id 1 w' = let k = h.owned id 1 (paired v w) w at_id refl in ((learns u ran w wf fw, ran_all ran w.number), k.0, k.1) in
+    let run_v = learns_run z s h v (h.ran id 0 (paired v w) v at_id refl) in
+    let run_w = learns_run z s h w (h.ran id 1 (paired v w) w at_id refl) in
+    let kept = quiet.meets s.views id v w v' w' at_id refl (learned_more z v ran u run_v) refl (learned_more z w ran u run_w) in (
       paired v' w',
       keeps,
       tt,
-      views_now z es s hs (set s.words 0 (get_or s.words 0 0)) (set s.views id (paired v' w')) h.owner (set-get_or s.words 0 0)
+      views_now z es s hs (set s.words 0 (get_or s.words 0 0)) (set s.views id (paired v' w')) h.owner kept (set-get_or s.words 0 0)
           (λ j i x o a b. ⊎_elim
           (λ (q : (j ≡ id) × (paired v' w' ≡ x)). subst (λ x. P x i o) (sym q.0) (⊎_elim
           (λ (y : (i ≡ 0) × (v' ≡ o)). subst (λ (x : ℕ × SeatView). P id x.0 x.1) (λ c. (sym y.0 c, y.1 c)) first)
           (λ (y : (i ≡ 1) × (w' ≡ o)). subst (λ (x : ℕ × SeatView). P id x.0 x.1) (λ c. (sym y.0 c, y.1 c)) second)
           (two_of v' w' o i (ap (λ (y : View). get_elem? (members y) i) q.1 ∙ b))))
-          (λ (q : (j ≢ id) × (get_elem? s.views j ≡ some x)). let k = h.owned j i x o q.1 b in (h.fits j i x o q.1 b, k.0, k.1))
+          (λ (q : (j ≢ id) × (get_elem? s.views j ≡ some x)). let k = h.owned j i x o q.1 b in (both z s h j i x o q.1 b, k.0, k.1))
           (at_set s.views id j (paired v' w') x a))
           (λ j n a. ⊎_elim (λ (q : (j ≡ id) × (paired v' w' ≡ keeper n)). let e = q.1 in cc) (λ (q : (j ≢ id) × (get_elem? s.views j ≡ some (keeper n))). h.kept j n q.1)
           (at_set s.views id j (paired v' w') (keeper n) a)),
       (
         record {
+          was = u;
+          ran = ran;
           all = u.history;
           first_rest = fv.rest;
           second_rest = fw.rest;
+          history = refl;
           seats = refl;
           first = fv.begins;
           second = fw.begins;
-          first_fits =
-              record { trace = u; reached = h.reached; setup = h.setup; permitted = h.permitted; fits = first.0 };
-          second_fits =
-              record { trace = u; reached = h.reached; setup = h.setup; permitted = h.permitted; fits = second.0 };
+          first_run = run_v;
+          second_run = run_w;
+          first_fits = record { trace = u; run = run_v.led; reached = h.reached; setup = h.setup; permitted = h.permitted; fits = first.0.0 };
+          second_fits = record { trace = u; run = run_v.led; reached = h.reached; setup = h.setup; permitted = h.permitted; fits = second.0.0 };
         },
         hs.1,
       ),
@@ -398,20 +412,22 @@ pub meeting : {T : Type 0} (r : Arena) (s o : Seat T) (k a b : Token (Option T) 
     → b.me ≡ (second_beside_of k.me.0, []) → a.table_id ≡ r.id → b.table_id ≡ r.id
     → Meets r s o (record s { token = a }) (record o { token = b })
 meeting r s o k a b i j h none_out valued grown left right here there =
-    let parted = knows_parted r.plan k.me.0 (record (view s) { seen = h.all }) (record (view o) { seen = h.all }) (ap (λ (y : Me ℕ View). y.0) h.seats) refl valued in
-    let one : a.me.0.plain ≡ seated (record (view s) { seen = h.all }) = ap (λ y. y.0.plain) left ∙ ap (λ (y : Me ℕ View). first_of y.0) h.seats in
-    let two : b.me.0.plain ≡ seated (record (view o) { seen = h.all }) = ap (λ y. y.0.plain) right ∙ ap (λ (y : Me ℕ View). second_of y.0) h.seats in
+    let parted = knows_parted r.plan k.me.0 (record (view s) { seen = h.all; ran = h.ran }) (record (view o) { seen = h.all; ran = h.ran }) (ap (λ (y : Me ℕ View). y.0) h.seats) refl valued in
+    let one : a.me.0.plain ≡ seated (record (view s) { seen = h.all; ran = h.ran }) = ap (λ y. y.0.plain) left ∙ ap (λ (y : Me ℕ View). first_of y.0) h.seats in
+    let two : b.me.0.plain ≡ seated (record (view o) { seen = h.all; ran = h.ran }) = ap (λ y. y.0.plain) right ∙ ap (λ (y : Me ℕ View). second_of y.0) h.seats in
     record {
-      one = sits_so r s a (record (view s) { seen = h.all }) i here one (λ c. (
+      one = sits_so r s a (record (view s) { seen = h.all; ran = h.ran }) i here one (λ c. (
         ap (λ y. length y.1) left ∙ none_out.0,
         ap (λ y. slots_in y.0.hand) left ∙ none_out.1,
       )) ∣ subst (λ (y : Beside _). KnowsNow r.plan y) (ap (λ y. y.0) (sym left)) parted.0 ∣₁ refl
           refl refl h.first_fits;
-      other = sits_so r o b (record (view o) { seen = h.all }) j there two (λ c. (ap (λ y. length y.1) right, ap (λ y. slots_in y.0.hand) right)) ∣
+      other = sits_so r o b (record (view o) { seen = h.all; ran = h.ran }) j there two (λ c. (ap (λ y. length y.1) right, ap (λ y. slots_in y.0.hand) right)) ∣
           subst (λ (y : Beside _). KnowsNow r.plan y) (ap (λ y. y.0) (sym right)) parted.1 ∣₁ refl refl refl h.second_fits;
+      was = h.was;
       all = h.all;
-      first = record { stored = record { number = refl; role = refl; keeps = refl; pocket = refl; failed = refl }; knows = ap knows one; more = h.first_rest; begins = h.first };
-      second = record { stored = record { number = refl; role = refl; keeps = refl; pocket = refl; failed = refl }; knows = ap knows two; more = h.second_rest; begins = h.second };
+      history = h.history;
+      first = record { stored = record { number = refl; role = refl; keeps = refl; pocket = refl; failed = refl }; ran = h.ran; run = h.first_run; knows = ap knows one; more = h.first_rest; begins = h.first };
+      second = record { stored = record { number = refl; role = refl; keeps = refl; pocket = refl; failed = refl }; ran = h.ran; run = h.second_run; knows = ap knows two; more = h.second_rest; begins = h.second };
       none_out = ((ap (λ y. length y.1) left ∙ none_out.0, ap (λ y. slots_in y.0.hand) left ∙ none_out.1), (ap (λ y. length y.1) right, ap (λ y. slots_in y.0.hand) right));
       values = λ c.
           let g = subst (λ (b : Bool). GrowsBy b (both_beside s.token.me.0 o.token.me.0) k.me.0) c grown in

@@ -2,6 +2,7 @@
 use Rattle.std.proofs.Common.{◌≡◌, ℕ, ◌+◌, ◌≤◌, Bool, true, false, Option, List, [], ◌∷◌, ◌++◌, length, drop, sym, refl, ap, ◌∙◌, subst, append-nil, append_assoc, length-append, arith, Some}
 use Rattle.std.proofs.lemmas.List.Sums.{sum_by-append}
 use Rattle.std.proofs.Math.Seq.{drop-append_seam}
+use mathlib.Core.List.{IsPrefix}
 use Rattle.line_table.specs.declared.lines.Line.{Line}
 use Rattle.history.specs.declared.operations.Entry.{Entry}
 use Rattle.history.specs.declared.operations.Reply.TheVariants.{Refused}
@@ -10,6 +11,8 @@ use Rattle.history.specs.declared.refusals.Refusal.TheVariants.{Closed}
 use Rattle.history.specs.Answers.{SeesMore}
 use Rattle.history.specs.Entries.{Leads}
 use Rattle.history.proofs.Learning.{adds_then, push_refused_then, pop_refused_then}
+use Rattle.step_machine.specs.declared.actors.Move.TheVariants.{Step}
+use Rattle.step_machine.specs.Machine.{AnyMove, made}
 use Rattle.node_arena.specs.Machine.{Held, Actor, Outcome, World, actor_of, entry_or, action, found}
 use Rattle.node_arena.specs.Traces.{Event, Traced, entries_at, event_at, outcome_at, sees, step_at}
 use Rattle.node_arena.specs.Prologues.{Prologue, continues, after_prologue}
@@ -22,18 +25,20 @@ use Rattle.node_arena.specs.Beside.{EffectBy}
 use Rattle.node_arena.specs.Turns.{failed_at, failed_turns}
 use Rattle.node_arena.specs.Paths.{ExtendsPath, FindsShut, FindsShutEmpty, Passes, Acts, added, EndedAt, FailedAt, EndsFailed, IsRefusedAt, LastHeld, MetCause, NowHolds, IsSole}
 use Rattle.node_arena.proofs.Tracing.{step_count, traced_reached}
+use Rattle.node_arena.proofs.PrologueTraces.{prefix_same, prefix_then}
 use Rattle.node_arena.proofs.Told.{has_own_cause, sole}
 use Rattle.node_arena.proofs.Empties.{closed_shut}
 use Rattle.node_arena.proofs.Noting.{IsSilent, AnswersSilently, notes_no, notes_nothing}
 
 -- no line
 pub no_walk : (v : SeatView) → ExtendsPath v v []
-no_walk v = record { number = refl; path = sym (append-nil v.path); mine = refl; notes = refl; rest = []; seen = sym (append-nil v.seen) }
+no_walk v = record { run = prefix_same v.ran; number = refl; path = sym (append-nil v.path); mine = refl; notes = refl; rest = []; seen = sym (append-nil v.seen) }
 
 -- some lines and then others
 pub walk_then : (v w x : SeatView) (es fs : List Event) → ExtendsPath v w es → ExtendsPath w x fs → ExtendsPath v x (es ++ fs)
 walk_then v w x es fs f g =
     record {
+      run = prefix_then v.ran w.ran x.ran f.run g.run;
       number = g.number ∙ f.number;
       path = g.path ∙ ap (λ p. p ++ fs) f.path ∙ append_assoc v.path es fs;
       mine = g.mine ∙ f.mine;
@@ -57,6 +62,7 @@ sees_on v w es f = record { number = f.number; between = f.rest; seen = f.seen; 
 pub then_shut : (v w x : SeatView) (es fs : List Event) → ExtendsPath v w es → FindsShut w x fs → FindsShut v x (es ++ fs)
 then_shut v w x es fs f g =
     record {
+      run = prefix_then v.ran w.ran x.ran f.run g.run;
       path = g.path ∙ ap (λ p. p ++ fs) f.path ∙ append_assoc v.path es fs;
       found = push_refused_then (known_by v) (known_by w) (known_by x) Closed (sees_on v w es f) g.found;
     }
@@ -65,6 +71,7 @@ then_shut v w x es fs f g =
 pub then_shut_empty : (v w x : SeatView) (es fs : List Event) → ExtendsPath v w es → FindsShutEmpty w x fs → FindsShutEmpty v x (es ++ fs)
 then_shut_empty v w x es fs f g =
     record {
+      run = prefix_then v.ran w.ran x.ran f.run g.run;
       path = g.path ∙ ap (λ p. p ++ fs) f.path ∙ append_assoc v.path es fs;
       found = pop_refused_then (known_by v) (known_by w) (known_by x) Closed (sees_on v w es f) g.found;
     }
@@ -73,6 +80,7 @@ then_shut_empty v w x es fs f g =
 pub then_act : (v w x : SeatView) (e e' : Entry) (es fs : List Event) → e ≡ e' → ExtendsPath v w es → Acts w x e fs → Acts v x e' (es ++ fs)
 then_act v w x e e' es fs same f g =
     record {
+      run = prefix_then v.ran w.ran x.ran f.run g.run;
       path = g.path ∙ ap (λ p. p ++ fs) f.path ∙ append_assoc v.path es fs;
       adds = adds_then (known_by v) (known_by w) (known_by x) e e' same (sees_on v w es f) g.adds;
     }
@@ -81,6 +89,7 @@ then_act v w x e e' es fs same f g =
 pub act_then : (v w x : SeatView) (e : Entry) (es fs : List Event) → Acts v w e es → Passes w x fs → Acts v x e (es ++ fs)
 act_then v w x e es fs f g =
     record {
+      run = prefix_then v.ran w.ran x.ran f.run g.walks.run;
       path = g.walks.path ∙ ap (λ p. p ++ fs) f.path ∙ append_assoc v.path es fs;
       adds = record {
         number = g.walks.number ∙ f.adds.number;
@@ -129,17 +138,22 @@ pub added_is : {T : Type 0} (s t : Seat T) (es : List Event) → ExtendsPath (vi
 added_is s t es w = added_path s t es w.path
 
 -- what held before the last of some lines held at a call's last step
-pub last_held : {T : Type 0} (r : Arena) (s t : Seat T) (es : List Event) (P : Traced → Actor → Line → Type 0) → added s t ≡ es → EndedAt r s es P → LastHeld r s t P
-last_held r s t es P e h = subst (λ fs. EndedAt r s fs P) (sym e) h
+pub last_held : {T : Type 0} (r : Arena) (s t : Seat T) (es : List Event) (P : Traced → Actor → Line → Type 0) → added s t ≡ es → EndedAt r s (view t).ran es P → LastHeld r s t P
+last_held r s t es P e h = subst (λ fs. EndedAt r s (view t).ran fs P) (sym e) h
 
 -- and so where that line was a failed turn
 pub ends_failed : {T : Type 0} (s t : Seat T) (es : List Event) → added s t ≡ es → FailedAt es → EndsFailed s t
 ends_failed s t es e h = subst FailedAt (sym e) h
 
 -- lines behind others
-pub ended_behind : {T : Type 0} (r : Arena) (s t : Seat T) (es fs : List Event) (P : Traced → Actor → Line → Type 0) → ExtendsPath (view s) (view t) es → EndedAt r t fs P → EndedAt r s (es ++ fs) P
+pub ended_behind : {T : Type 0} {ran : List AnyMove} (r : Arena) (s t : Seat T) (es fs : List Event) (P : Traced → Actor → Line → Type 0) → ExtendsPath (view s) (view t) es
+    → EndedAt r t ran fs P → EndedAt r s ran (es ++ fs) P
 ended_behind r s t es fs P w h =
     record {
+      moves = h.moves;
+      since = prefix_then (view s).ran (view t).ran h.moves w.run h.since;
+      run = h.run;
+      last = h.last ∙ ap (λ me. h.moves ++ made (Step me) ∷ []) w.number;
       was = h.was;
       reached = h.reached;
       setup = h.setup;
@@ -156,10 +170,10 @@ ended_behind r s t es fs P w h =
       held = h.held;
     }
 
-pub stopped_behind : {T : Type 0} (r : Arena) (s t : Seat T) (es fs : List Event) (refusal : Refusal) → ExtendsPath (view s) (view t) es
-    → EndedAt r t fs (IsRefusedAt r.plan.setup (view t).number refusal) → EndedAt r s (es ++ fs) (IsRefusedAt r.plan.setup (view s).number refusal)
-stopped_behind r s t es fs refusal w h =
-    ended_behind r s t es fs (IsRefusedAt r.plan.setup (view s).number refusal) w (subst (λ me. EndedAt r t fs (IsRefusedAt r.plan.setup me refusal)) w.number h)
+pub stopped_behind : {T : Type 0} {ran : List AnyMove} (r : Arena) (s t : Seat T) (es fs : List Event) (refusal : Refusal) → ExtendsPath (view s) (view t) es
+    → EndedAt r t ran fs (IsRefusedAt r.plan.setup (view t).number refusal) → EndedAt r s ran (es ++ fs) (IsRefusedAt r.plan.setup (view s).number refusal)
+stopped_behind {T} {ran} r s t es fs refusal w h =
+    ended_behind r s t es fs (IsRefusedAt r.plan.setup (view s).number refusal) w (subst (λ me. EndedAt r t ran fs (IsRefusedAt r.plan.setup me refusal)) w.number h)
 
 -- a cause that a call met behind other lines
 pub met_behind : {T : Type 0} (r : Arena) (s t u : Seat T) (es : List Event) (refusal : Refusal) → ExtendsPath (view s) (view t) es
@@ -193,7 +207,7 @@ kept_seat r t p n h = record {
 }
 
 pub now_kept : {T : Type 0} (r : Arena) (t : Seat T) (p : Option Held) (n : ℕ) (P : World → Type 0) → NowHolds r t P → NowHolds r (keeping t p n) P
-now_kept r t p n P h = record { now = h.now; reached = h.reached; setup = h.setup; peopled = h.peopled; actor = h.actor; path = h.path; holds = h.holds }
+now_kept r t p n P h = record { now = h.now; run = h.run; reached = h.reached; setup = h.setup; peopled = h.peopled; actor = h.actor; path = h.path; holds = h.holds }
 
 -- one line more on a path
 pub failed_snoc : (es : List Event) (e : Event) → failed_turns (es ++ e ∷ []) ≡ failed_turns es + failed_at e.line e.to
@@ -220,11 +234,16 @@ module _ {T : Type 0} (r : Arena) (s t : Seat T) (prologue : Prologue) (l : Line
   pub goes_on : (o : Outcome) → outcome_at r.plan.setup d.told.was (view s).number b l ≡ o → (k : Line) → o.actor.line ≡ Some k → IsBefore r t continues k
   goes_on o e k line = record { seat = d.seat; can = tt; line = settled o e (λ a. a.line ≡ Some k) (λ x. line) }
 
+  -- what the seat knows of the run goes on
+  pub ran_on : IsPrefix (view s).ran (view t).ran
+  ran_on = (_, sym d.told.runs.ran)
+
   -- it added no entry and noted nothing
   pub walk_one : entries_at r.plan.setup d.told.was (view s).number b l ≡ [] → notes_of (outcome_at r.plan.setup d.told.was (view s).number b l).reply
       (view t).seen ≡ [] → ExtendsPath (view s) (view t) (event ∷ [])
   walk_one none quiet =
       record {
+        run = ran_on;
         number = d.told.number;
         path = d.told.path;
         mine = d.told.mine ∙ ap (λ es. (view s).mine ++ es) none ∙ append-nil (view s).mine;
@@ -251,6 +270,7 @@ module _ {T : Type 0} (r : Arena) (s t : Seat T) (prologue : Prologue) (l : Line
       (Refused Closed) → FindsShut (view s) (view t) (event ∷ [])
   shut_on none closed =
       record {
+        run = ran_on;
         path = d.told.path;
         found = record {
           number = d.told.number;
@@ -268,6 +288,7 @@ module _ {T : Type 0} (r : Arena) (s t : Seat T) (prologue : Prologue) (l : Line
       → (FoundClosedAt l (view t).seen → Leads (view t).seen true []) → FindsShutEmpty (view s) (view t) (event ∷ [])
   shut_empty_on none closed empty =
       record {
+        run = ran_on;
         path = d.told.path;
         found = record {
           number = d.told.number;
@@ -283,6 +304,7 @@ module _ {T : Type 0} (r : Arena) (s t : Seat T) (prologue : Prologue) (l : Line
   pub act_on : (e : Entry) → entries_at r.plan.setup d.told.was (view s).number b l ≡ e ∷ [] → AnswersSilently r.plan.setup.bits b l → Acts (view s) (view t) e (event ∷ [])
   act_on e one other =
       record {
+        run = ran_on;
         path = d.told.path;
         adds = record {
           number = d.told.number;
@@ -299,9 +321,15 @@ module _ {T : Type 0} (r : Arena) (s t : Seat T) (prologue : Prologue) (l : Line
   to_is = sym (ap (λ a. a.line) d.told.actor)
 
   -- what held of the world before the step
-  pub ended_at : (o : Seat T) (before : List Event) (P : Traced → Actor → Line → Type 0) → ExtendsPath (view o) (view s) before → P d.told.was b l → EndedAt r o (before ++ event ∷ []) P
+  pub ended_at : (o : Seat T) (before : List Event) (P : Traced → Actor → Line → Type 0) → ExtendsPath (view o) (view s) before → P d.told.was b l → EndedAt r o (view t).ran (before ++ event ∷ []) P
   ended_at o before P w p =
+      let g = d.told.runs in
       record {
+        moves = (view s).ran ++ (g.others ++ g.sets_out);
+        since = prefix_then (view o).ran (view s).ran _ w.run (g.others ++ g.sets_out, refl);
+        run = g.sets;
+        last = g.ran ∙ (ap (λ ms. (view s).ran ++ ms) (sym (append_assoc g.others g.sets_out (made (Step (view s).number) ∷ [])))
+            ∙ (sym (append_assoc (view s).ran (g.others ++ g.sets_out) (made (Step (view s).number) ∷ [])) ∙ ap (λ me. ((view s).ran ++ (g.others ++ g.sets_out)) ++ made (Step me) ∷ []) w.number));
         was = d.told.was;
         reached = d.told.reached;
         setup = d.told.setup;
@@ -319,7 +347,7 @@ module _ {T : Type 0} (r : Arena) (s t : Seat T) (prologue : Prologue) (l : Line
   -- it was refused
   pub stopped_at : (o : Seat T) (before : List Event) (refusal : Refusal) → ExtendsPath (view o) (view s) before
       → (outcome_at r.plan.setup d.told.was (view s).number b l).reply ≡ Some (Refused refusal)
-      → EndedAt r o (before ++ event ∷ []) (IsRefusedAt r.plan.setup (view o).number refusal)
+      → EndedAt r o (view t).ran (before ++ event ∷ []) (IsRefusedAt r.plan.setup (view o).number refusal)
   stopped_at o before refusal w e =
       ended_at o before (IsRefusedAt r.plan.setup (view o).number refusal) w
       (subst (λ me. IsRefusedAt r.plan.setup me refusal d.told.was b l) w.number (e, has_own_cause r.plan prologue l n (view s) (view t) d.told refusal e))
@@ -332,6 +360,7 @@ module _ {T : Type 0} (r : Arena) (s t : Seat T) (prologue : Prologue) (l : Line
   now_holds P p =
       record {
         now = after;
+        run = d.told.runs.led;
         reached = d.told.reaches;
         setup = d.told.setup;
         peopled = step_count d.told.was (view s).number b l ∙ d.told.peopled;

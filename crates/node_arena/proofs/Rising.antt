@@ -1,8 +1,10 @@
--- Head's count rises where Head changes, and so does Tail's in the queue that counts it: what a seat looked at stays so.
-use Rattle.std.proofs.Common.{◌≡◌, ℕ, ◌+◌, inl, inr, Bool, true, false, if◌then◌else◌, nat_eq, Some, List, [], ◌∷◌, refl, sym, ap, subst, ◌∙◌, arith}
+-- Head's count rises where Head changes, and so does Tail's in the queue that counts it.
+use Rattle.std.proofs.Common.{◌≡◌, ℕ, ◌+◌, inl, inr, Bool, true, false, if◌then◌else◌, nat_eq, Option, Some, None, IfSome, List, [], ◌∷◌, refl, sym, subst, arith}
+use Rattle.std.proofs.lemmas.Option.{none-some, same_Some}
 use Rattle.std.proofs.lemmas.List.Sums.{sum_by-append}
 use Rattle.counted_ref.specs.Ref.{Ref, ref, same_ref, reserved_node}
 use Rattle.counted_ref.proofs.Words.{same_ref-true}
+use Rattle.line_table.specs.declared.lines.Kind.{Kind}
 use Rattle.line_table.specs.declared.lines.Kind.TheVariants.{NonBlocking}
 use Rattle.line_table.specs.declared.lines.Line.{Line}
 use Rattle.line_table.specs.declared.lines.Line.TheVariants.{E13, E17, D10, D13, A6, B5, S5}
@@ -13,13 +15,14 @@ use Rattle.line_steps.specs.declared.actors.Setup.{Setup}
 use Rattle.line_steps.specs.Actors.{Actor}
 use Rattle.line_steps.specs.Memory.{Shared, Head, Tail, Action, load, store, clear, exchange, content, put, same, performed}
 use Rattle.line_steps.specs.Lines.{action, raised}
-use Rattle.step_machine.specs.Machine.{actor_of}
+use Rattle.step_machine.specs.Machine.{World, actor_of, AnyMove, next_any}
+use Rattle.step_machine.proofs.AnyMoves.{after_move}
+use Rattle.step_machine.proofs.Reached.{some_of, setup-next_any}
 use Rattle.step_machine.proofs.StaleReferences.{Rises, was_on}
 use Rattle.step_machine.proofs.NonBlockingLaws.{at_line}
-use Rattle.node_arena.specs.Traces.{Traced, IsTraced, step_at}
-use Rattle.node_arena.specs.Knowledge.{Looked}
-use Rattle.node_arena.specs.Rule.{IsCurrentOrPast, StaysLooked}
-use Rattle.node_arena.proofs.Tracing.{traced_reached, step_traced}
+use Rattle.node_arena.specs.Traces.{Traced, IsTraced, step_at, traced_move, traced_next, traced_on, trace}
+use Rattle.node_arena.specs.Rule.{IsCurrentOrPast}
+use Rattle.node_arena.proofs.Tracing.{world-traced_move, traced_moves, traced_reached, step_traced}
 use Rattle.node_arena.proofs.Histories.{counts_pops}
 
 -- a reference that names another node has a higher count, or is the same
@@ -103,18 +106,39 @@ tail_rises t me a S5 r is here k = tail_won t.world.setup t.world.shared a.tail 
 tail_rises t me a A6 r is here k = absurd (at_line t.world (traced_reached t r) k me a A6 is here).runs
 tail_rises t me a l r is here k = inl (tail_kept (action t.world.setup me a l) t.world.shared tt)
 
--- what a seat looked at stays so where the shared words don't change
-pub looked_same : (t u : Traced) (x : Looked) → u.world.shared ≡ t.world.shared → u.world.setup ≡ t.world.setup → StaysLooked t x → StaysLooked u x
-looked_same t u x shared setup h =
-    record {
-      head = subst (λ (m : Shared). IsCurrentOrPast m.head x.head) (sym shared) h.head;
-      tail = λ k. subst (λ (m : Shared). IsCurrentOrPast m.tail x.tail) (sym shared) (h.tail (ap (λ (s : Setup). s.kind) (sym setup) ∙ k));
-    }
+-- the words of one world and those of a later one: Head is as it was, or its count is higher, and so is Tail in the queue that
+-- counts it
+pub record Rose (kind : Kind) (m n : Shared) : Type 0 where
+  pub head : IsCurrentOrPast n.head m.head
+  pub tail : kind ≡ NonBlocking → IsCurrentOrPast n.tail m.tail
 
--- and after a step
-pub looked_after : (t : Traced) (me : ℕ) (a : Actor) (l : Line) → IsTraced t → actor_of t.world me ≡ Some a → a.line ≡ Some l → (x : Looked) → StaysLooked t x → StaysLooked (step_at t me a l) x
-looked_after t me a l r is here x h =
-    record {
-      head = was_on t.world.shared.head (step_at t me a l).world.shared.head x.head (head_rises t me a l r is here) h.head;
-      tail = λ k. was_on t.world.shared.tail (step_at t me a l).world.shared.tail x.tail (tail_rises t me a l r is here k) (h.tail k);
-    }
+rose_same : (kind : Kind) (m : Shared) → Rose kind m m
+rose_same kind m = record { head = inl refl; tail = λ k. inl refl }
+
+rose_twice : (kind : Kind) (m n o : Shared) → Rose kind m n → Rose kind n o → Rose kind m o
+rose_twice kind m n o f g = record { head = was_on n.head o.head m.head g.head f.head; tail = λ k. was_on n.tail o.tail m.tail (g.tail k) (f.tail k) }
+
+-- each move
+move_rose : (t : Traced) → IsTraced t → (m : AnyMove) → IfSome (next_any t.world m) (λ w. Rose t.world.setup.kind t.world.shared w.shared)
+move_rose t r m =
+    after_move t.world (λ k w. Rose t.world.setup.kind t.world.shared w.shared)
+    (record {
+      began = λ me op a is free call. rose_same t.world.setup.kind t.world.shared;
+      step = λ me a l is at. record { head = head_rises t me a l r is at; tail = λ k. tail_rises t me a l r is at k };
+      gave_up = λ me a l o is at given. rose_same t.world.setup.kind t.world.shared;
+      at_rest = λ me a l is at may. rose_same t.world.setup.kind t.world.shared;
+    })
+    m
+
+-- and each list of moves
+pub rose : (ms : List AnyMove) (t u : Traced) → IsTraced t → trace ms t ≡ Some u → Rose t.world.setup.kind t.world.shared u.world.shared
+rose [] t u r e = subst (λ (x : Traced). Rose t.world.setup.kind t.world.shared x.world.shared) (same_Some t u e) (rose_same t.world.setup.kind t.world.shared)
+rose (m ∷ ms) t u r e = go (next_any t.world m) refl e (λ x. rose ms x u)
+  where
+    go : (o : Option World) → next_any t.world m ≡ o → traced_on (trace ms) (traced_next t m o) ≡ Some u
+        → ((x : Traced) → IsTraced x → trace ms x ≡ Some u → Rose x.world.setup.kind x.world.shared u.world.shared) → Rose t.world.setup.kind t.world.shared u.world.shared
+    go None f g each = absurd (none-some u g)
+    go (Some w) f g each =
+        let one : Rose t.world.setup.kind t.world.shared w.shared = some_of (λ v. Rose t.world.setup.kind t.world.shared v.shared) (next_any t.world m) w f (move_rose t r m) in
+        let more : Rose w.setup.kind w.shared u.world.shared = subst (λ (v : World). Rose v.setup.kind v.shared u.world.shared) (world-traced_move t m w) (each (traced_move t m w) (traced_moves t m w r f) g) in
+        rose_twice t.world.setup.kind t.world.shared w.shared u.world.shared one (subst (λ (s : Setup). Rose s.kind w.shared u.world.shared) (setup-next_any t.world w m f) more)

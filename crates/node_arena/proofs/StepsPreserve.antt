@@ -1,16 +1,16 @@
 -- Each step of a seat at a line keeps the rule: one lemma for all lines and all forms of access.
-use Rattle.std.proofs.Common.{◌≡◌, ◌≢◌, ℕ, ◌-◌, ◌<◌, ◌≤◌, Bool, true, false, if◌then◌else◌, nat_eq, bit_and, Option, Some, IfSome, List, [], ◌∷◌}
-use Rattle.std.proofs.Common.{◌++◌, zero, suc, length, get_or, set, slice_get, sym, refl, ap, ◌∙◌, subst, ⊎_elim, arith, append-nil, append_assoc}
+use Rattle.std.proofs.Common.{inr, ◌≡◌, ◌≢◌, ℕ, ◌-◌, ◌<◌, ◌≤◌, Bool, true, false, if◌then◌else◌, nat_eq, bit_and, Option, Some, List, [], ◌∷◌}
+use Rattle.std.proofs.Common.{◌++◌, length, get_or, set, slice_get, sym, refl, ap, ◌∙◌, subst, ⊎_elim, arith, append-nil, append_assoc}
 use Rattle.std.specs.List.{All, count_by}
 use Rattle.std.proofs.lemmas.List.{set-get_or}
 use Rattle.std.proofs.lemmas.List.Elements.{All-append, All-weaker, filter-append}
 use Rattle.std.proofs.lemmas.List.Sums.{sum_by-append}
-use Rattle.std.proofs.lemmas.Option.{IfSome_then}
-use mathlib.Core.Option.{some, some-injective, some-ne-none}
+use mathlib.Core.Option.{some}
 use prog.Atomic.{either}
 use lib.ListN.{get_elem?}
 use Rattle.atomic_table.specs.Table.{State, keeps, Allows}
 use Rattle.atomic_table.proofs.Lists.{at_set}
+use Rattle.step_machine.proofs.StampsLists.{same_or_not}
 use Rattle.line_table.specs.declared.lines.Line.{Line}
 use Rattle.history.specs.declared.operations.Entry.{Entry}
 use Rattle.history.specs.Entries.{seat_of, own_entries, is_pop}
@@ -21,25 +21,25 @@ use Rattle.line_steps.specs.Memory.{word, found}
 use Rattle.line_steps.specs.Lines.{action}
 use Rattle.step_machine.specs.Words.{memory_words, IsWord}
 use Rattle.step_machine.specs.Tables.{WordStep, load_at, store_at, and_at, exchange_at, word_index, word_step, table_after}
-use Rattle.step_machine.specs.Machine.{actor_of}
+use Rattle.step_machine.specs.Machine.{actor_of, AnyMove}
 use Rattle.step_machine.proofs.Words.{reading}
 use Rattle.step_machine.proofs.Reached.{mover_in_range}
 use Rattle.step_machine.proofs.Tables.{place-word_step}
 use Rattle.step_machine.proofs.AccessesNameWords.{accesses_are_one_step, each_access_names_a_word}
 use Rattle.node_arena.specs.declared.roles.Role.{Role}
-use Rattle.node_arena.specs.Traces.{Traced, IsTraced, step_at, actor_at, outcome_at, event_at, entries_at, number_at, sees}
+use Rattle.node_arena.specs.Traces.{Traced, IsTraced, step_at, actor_at, outcome_at, event_at, entries_at, number_at, sees, made_by, LeadsBy}
 use Rattle.node_arena.specs.Prologues.{Prologue, after_prologue, CanStart}
-use Rattle.node_arena.specs.Knowledge.{SeatView, Looked, View, keeper, seated, members}
+use Rattle.node_arena.specs.Knowledge.{SeatView, View, keeper, seated, members}
 use Rattle.node_arena.specs.Places.{place, shared_words}
 use Rattle.node_arena.specs.Plans.{Layout, RolesPermit, PermitsLine}
-use Rattle.node_arena.specs.Rule.{SawAt, StaysLooked, Fits, IsNew, Holds, notes_of, SaysOfSeen, Steps, Tells, line_or_first}
+use Rattle.node_arena.specs.Rule.{Ran, IsRunTo, RunsOn, SawAt, Fits, IsNew, Holds, notes_of, SaysOfSeen, Steps, Tells, line_or_first}
 use Rattle.node_arena.proofs.Placed.{length-shared_words, get_or-shared_words, shared_words-set}
 use Rattle.node_arena.proofs.There.{words_there, index_within}
-use Rattle.node_arena.proofs.Tracing.{traced_reached, step_traced, step_here, step_else, step_count, changed_here, changed_else}
-use Rattle.node_arena.proofs.PrologueTraces.{Led, prologue_traced}
+use Rattle.node_arena.proofs.Tracing.{traced_reached, step_here, step_else, step_count, changed_here, changed_else}
+use Rattle.node_arena.proofs.PrologueTraces.{Led, prologue_traced, leads_then, leads_reached, one_step, ran_more, ran_all}
+use Rattle.node_arena.proofs.Keeping.{one_of, set_there, other_there, run_to}
 use Rattle.node_arena.proofs.Histories.{counts_pops}
 use Rattle.node_arena.proofs.Empties.{noted_more, saw_later, saw_led, saw_after, says_after, noted_after}
-use Rattle.node_arena.proofs.Rising.{looked_same, looked_after}
 use Rattle.node_arena.proofs.Entering.{own_added, none_added, permitted_added}
 use Rattle.node_arena.proofs.Seens.{silent, later, begins_by, between, seen_is, whole_by, stays_by, known_by}
 
@@ -60,10 +60,6 @@ table_after-set (exchange_at p old new) ws = go (nat_eq (get_or ws p 0) old)
     go true = refl
     go false = sym (set-get_or ws p 0)
 
-pub one_of : (v u : SeatView) (i : ℕ) → get_elem? (v ∷ []) i ≡ some u → (i ≡ 0) × (v ≡ u)
-one_of v u zero e = (refl, some-injective v u e)
-one_of v u (suc i) e = absurd (some-ne-none u (sym e))
-
 abbrev pub apart : (z : Layout) (s : State ℕ View) (h : Holds z s) (id : ℕ) (v : SeatView) → get_elem? s.views id ≡ some (seated v)
     → (j i : ℕ) (u : View) (o : SeatView) → j ≢ id → get_elem? s.views j ≡ some u → get_elem? (members u) i ≡ some o → o.number ≢ v.number
 apart z s h id v mine j i u o ne there which same = ne (ap (λ (y : ℕ × ℕ). y.0) (sym (h.owned j i u o there which).0 ∙ (ap h.owner same ∙ (h.owned id 0 (seated v) v mine refl).0)))
@@ -79,6 +75,11 @@ pub record Goes (z : Layout) (s : State ℕ View) (h : Holds z s) (v v' : SeatVi
   pub me : Fits t v'
   pub others : (o : SeatView) → o.number ≢ v.number → Fits h.trace o → Fits t o
   pub new : (n : ℕ) → n ≢ v.number → IsNew h.trace n → IsNew t n
+  pub actors' : reached.actors ≡ h.reached.actors
+  pub own : List AnyMove
+  pub moves : reached.moves ≡ h.reached.moves ++ own
+  pub by_own : All (λ m. made_by m ≡ v.number) own
+  pub ran : v'.ran ≡ reached.moves
 
 abbrev pub one_seat : (z : Layout) (s : State ℕ View) (h : Holds z s) (id : ℕ) (v v' : SeatView) (words : List ℕ) (t : Traced) → get_elem? s.views id ≡ some (seated v) → Goes z s h v v' words t
     → Holds z record { words = words; homes = s.homes; views = set s.views id (seated v') }
@@ -92,6 +93,8 @@ one_seat z s h id v v' words t mine g =
     (λ (q : (j ≢ id) × (get_elem? s.views j ≡ some u)).
     let own = h.owned j i u o q.1 which in (g.others o (apart z s h id v mine j i u o q.0 q.1 which) (h.fits j i u o q.1 which), own.0, own.1))
     (at_set s.views id j (seated v') u there) in
+    let more : (n : ℕ) (ran : List AnyMove) → n ≢ v.number → Ran h.reached.moves n ran → Ran g.reached.moves n ran = λ n ran ne r.
+    subst (λ ms. Ran ms n ran) (sym g.moves) (ran_more h.reached.moves g.own n v.number ran ne g.by_own r) in
     record {
       sized = h.sized;
       trace = t;
@@ -108,6 +111,18 @@ one_seat z s h id v v' words t mine g =
       kept = λ j n there. ⊎_elim (λ (q : (j ≡ id) × (seated v' ≡ keeper n)). cc)
           (λ (q : (j ≢ id) × (get_elem? s.views j ≡ some (keeper n))). h.kept j n q.1) (at_set s.views id j (seated v') (keeper n) there);
       undealt = λ n over within. g.new n (λ e. let lt = (h.owned id 0 (seated v) v mine refl).1 in omega arith) (h.undealt n over within);
+      peopled = g.actors' ∙ h.peopled;
+      ran = λ j i u o there which. ⊎_elim
+          (λ (q : (j ≡ id) × (seated v' ≡ u)).
+          let one = one_of v' o i (ap (λ (y : View). get_elem? (members y) i) q.1 ∙ which) in
+          subst (λ (y : SeatView). Ran g.reached.moves y.number y.ran) one.1 (subst (λ ms. Ran g.reached.moves v'.number ms) (sym g.ran) (ran_all g.reached.moves v'.number)))
+          (λ (q : (j ≢ id) × (get_elem? s.views j ≡ some u)). more o.number o.ran (apart z s h id v mine j i u o q.0 q.1 which) (h.ran j i u o q.1 which))
+          (at_set s.views id j (seated v') u there);
+      unmoved = λ n over. more n [] (λ e. let lt = (h.owned id 0 (seated v) v mine refl).1 in omega arith) (h.unmoved n over);
+      there = λ n. ⊎_elim
+          (λ (e : n ≡ v.number). inr (v', (id, 0, seated v', set_there s.views id (seated v) (seated v') mine, refl), g.number ∙ sym e))
+          (λ (ne : n ≢ v.number). other_there s.views id v v' mine h.reached.moves g.reached.moves n ne (more n [] ne) (h.there n))
+          (same_or_not n v.number);
     }
 
 -- the seat's step at a line, where its actor is led there
@@ -120,9 +135,9 @@ module _ (z : Layout) (s : State ℕ View) (h : Holds z s) (id : ℕ) (v : SeatV
   abbrev pub fit : Fits h.trace v
   fit = h.fits id 0 (seated v) v mine refl
 
-  abbrev pub led_there : (u : Traced) × IsTraced u × Led h.trace u v.number a
+  abbrev pub led_there : (u : Traced) × IsTraced u × Led h.trace u v.number a × LeadsBy v.number 2 h.trace u
   led_there = let g = prologue_traced h.trace v.number v.actor prologue h.reached fit.actor can in
-      (g.0, g.1, subst (λ x. Led h.trace g.0 v.number (after_prologue x v.number prologue v.actor)) h.setup g.2)
+      (g.0, g.1, subst (λ x. Led h.trace g.0 v.number (after_prologue x v.number prologue v.actor)) h.setup g.2, g.3)
 
   abbrev pub u : Traced
   u = led_there.0
@@ -135,6 +150,13 @@ module _ (z : Layout) (s : State ℕ View) (h : Holds z s) (id : ℕ) (v : SeatV
 
   pub setup : u.world.setup ≡ z.setup
   setup = f.setup ∙ h.setup
+
+  -- the moves of its actor that lead from the world of the rule to that after its step
+  abbrev pub own_moves : LeadsBy v.number 3 h.trace t
+  own_moves = leads_then v.number 2 1 3 h.trace u t (omega arith) led_there.3 (one_step u v.number a l f.here line)
+
+  abbrev pub reached : IsTraced t
+  reached = leads_reached v.number 3 h.trace t h.reached f.setup own_moves
 
   abbrev pub es : List Entry
   es = entries_at z.setup u v.number a l
@@ -152,11 +174,8 @@ module _ (z : Layout) (s : State ℕ View) (h : Holds z s) (id : ℕ) (v : SeatV
     mine = v.mine ++ es;
     notes = v.notes ++ notes_of (outcome_at z.setup u v.number a l).reply
         (if sees l then t.history else v.seen);
-    looked = v.looked;
+    ran = reached.moves;
   }
-
-  pub reached : IsTraced t
-  reached = step_traced u v.number a l led_there.1 f.here line
 
   pub here : actor_of t.world v.number ≡ Some v'.actor
   here = step_here u v.number a l f.here ∙ ap (λ x. Some (actor_at x u v.number a l)) setup
@@ -197,10 +216,6 @@ module _ (z : Layout) (s : State ℕ View) (h : Holds z s) (id : ℕ) (v : SeatV
       (subst (λ es. All (IsNoted es) v.notes) (sym seen) (All-weaker (IsNoted v.seen) _ (noted_more v.seen _) v.notes fit.noted))
       (subst (λ s. All (IsNoted v'.seen) (notes_of (outcome_at s u v.number a l).reply v'.seen)) setup (noted_after u v.number a v'.seen l says))
 
-  -- what a seat looked at stays so
-  looked : (x : Option Looked) → IfSome x (StaysLooked h.trace) → IfSome x (StaysLooked t)
-  looked x k = IfSome_then x k (λ y stays. looked_after u v.number a l led_there.1 f.here line y (looked_same h.trace u y f.shared f.setup stays))
-
   pub me : Fits t v'
   me = record {
     actor = here;
@@ -212,7 +227,6 @@ module _ (z : Layout) (s : State ℕ View) (h : Holds z s) (id : ℕ) (v : SeatV
     noted = noted;
     saw = subst (λ s. SawAt t v'.seen (actor_at s u v.number a l) (actor_at s u v.number a l).line (actor_at s u v.number a l).due) setup
         (saw_after u v.number a l led_there.1 f.here line v'.seen whole);
-    looked = looked v.looked fit.looked;
   }
 
   -- Head's count doesn't fall
@@ -231,7 +245,6 @@ module _ (z : Layout) (s : State ℕ View) (h : Holds z s) (id : ℕ) (v : SeatV
     known = g.known;
     noted = g.noted;
     saw = saw_later h.trace t o.seen o.actor o.actor.line o.actor.due rises f.setup g.saw;
-    looked = looked o.looked g.looked;
   }
 
   pub new : (n : ℕ) → n ≢ v.number → IsNew h.trace n → IsNew t n
@@ -286,7 +299,28 @@ module _ (z : Layout) (s : State ℕ View) (h : Holds z s) (id : ℕ) (v : SeatV
     me = me;
     others = others;
     new = new;
+    actors' = refl;
+    own = own_moves.moves;
+    moves = refl;
+    by_own = own_moves.alone;
+    ran = refl;
   }
+
+  -- what the seat knows of the run goes on
+  pub runs : RunsOn z v v' u t
+  runs =
+      let before : Ran h.reached.moves v.number v.ran = h.ran id 0 (seated v) v mine refl in
+      record {
+        others = before.rest;
+        by_others = before.others;
+        sets_out = led_there.3.moves;
+        by_own = led_there.3.alone;
+        few = led_there.3.few;
+        ran = ap (λ ms. ms ++ own_moves.moves) before.begins ∙ append_assoc v.ran before.rest own_moves.moves;
+        sets = subst (λ ms. IsRunTo z ms u) (ap (λ ms. ms ++ led_there.3.moves) before.begins ∙ append_assoc v.ran before.rest led_there.3.moves)
+            (run_to z (leads_reached v.number 2 h.trace u h.reached f.setup led_there.3) setup h.peopled);
+        led = run_to z reached setup h.peopled;
+      }
 
   -- what was found is what the actor's access finds
   pub found_is : (x : WordStep) → word_step z.setup.bits (action z.setup v.number a l) ≡ x → get_or s.words (place (word_index x)) 0 ≡ number_at z.setup u v.number a l
@@ -297,7 +331,7 @@ module _ (z : Layout) (s : State ℕ View) (h : Holds z s) (id : ℕ) (v : SeatV
       reading z.setup.bits u.world.shared (word (action z.setup v.number a l)) (subst (λ y. IsWord u.world.shared (word (action y v.number a l)))
       setup (each_access_names_a_word u.world (traced_reached u led_there.1) v.number a l f.here line))
 
-  pub steps_told : (x : WordStep) → word_step z.setup.bits (action z.setup v.number a l) ≡ x → Steps z prologue l (get_or s.words (place (word_index x)) 0) v v'
+  abbrev pub steps_told : (x : WordStep) → word_step z.setup.bits (action z.setup v.number a l) ≡ x → Steps z prologue l (get_or s.words (place (word_index x)) 0) v v'
   steps_told x is = record {
     sized = h.sized;
     was = u;
@@ -323,6 +357,7 @@ module _ (z : Layout) (s : State ℕ View) (h : Holds z s) (id : ℕ) (v : SeatV
     says = subst (λ s. SaysOfSeen l (outcome_at s u v.number a l).reply v'.seen) setup says;
     fits = me;
     permitted = permitted;
+    runs = runs;
   }
 
 -- every line and every form of access at once

@@ -21,10 +21,10 @@ use Rattle.step_machine.proofs.NonBlockingLaws.{tail_lags, tail_is_not_behind}
 use Rattle.node_arena.specs.Traces.{Traced, IsTraced}
 use Rattle.node_arena.specs.Knowledge.{SeatView, known_by}
 use Rattle.node_arena.specs.Plans.{Layout}
-use Rattle.node_arena.specs.Rule.{StaysLooked}
-use Rattle.node_arena.specs.Looks.{looked_in, LooksAt, WasMeanwhile, WasSoLong, behind_tail}
+use Rattle.node_arena.specs.Looks.{LooksAt, WasMeanwhile, WasSoLong, behind_tail}
 use Rattle.node_arena.proofs.Tracing.{traced_reached}
 use Rattle.node_arena.proofs.Histories.{history_plays}
+use Rattle.node_arena.proofs.Rising.{Rose}
 use Rattle.node_arena.proofs.Found.{head_there, tail_there, next_there, tail_within, sees_there, was_meanwhile, pops_before, pops_after, since_there, not_less, was_between}
 
 -- how long the queue of a traced world is: Tail's count, and what stands behind its node, are Head's count and the length
@@ -96,16 +96,16 @@ module _ (z : Layout) (kind : z.setup.kind ≡ NonBlocking) (word n1 n2 n3 n4 n5
   kind_of : (t : Traced) → t.world.setup ≡ z.setup → t.world.setup.kind ≡ NonBlocking
   kind_of t same = ap (λ (s : Setup). s.kind) same ∙ kind
 
-  ab : StaysLooked b.was (looked_in a.was)
+  ab : Rose z.setup.kind a.was.world.shared b.was.world.shared
   ab = since_there z 2 n1 3 n2 v0 v1 v2 a b
 
-  bc : StaysLooked c.was (looked_in b.was)
+  bc : Rose z.setup.kind b.was.world.shared c.was.world.shared
   bc = since_there z 3 n2 word n3 v1 v2 v3 b c
 
-  cd : StaysLooked d.was (looked_in c.was)
+  cd : Rose z.setup.kind c.was.world.shared d.was.world.shared
   cd = since_there z word n3 3 n4 v2 v3 v4 c d
 
-  de : StaysLooked e.was (looked_in d.was)
+  de : Rose z.setup.kind d.was.world.shared e.was.world.shared
   de = since_there z 3 n4 2 n5 v3 v4 v5 d e
 
   first_is : first ≡ a.was.world.shared.head.count
@@ -163,7 +163,7 @@ module _ (z : Layout) (kind : z.setup.kind ≡ NonBlocking) (word n1 n2 n3 n4 n5
   module _ (same : n4 ≡ n2) where
     stayed : c.was.world.shared.tail ≡ b.was.world.shared.tail
     stayed =
-        was_between b.was.world.shared.tail c.was.world.shared.tail d.was.world.shared.tail (bc.tail (kind_of c.was c.setup)) (cd.tail (kind_of d.was d.setup))
+        was_between b.was.world.shared.tail c.was.world.shared.tail d.was.world.shared.tail (bc.tail kind) (cd.tail kind)
         (sym (tail_there z 3 n4 v3 v4 d refl) ∙ ap (ref_of bits) same ∙ tail_there z 3 n2 v1 v2 b refl)
 
     l : IsLong c.was

@@ -28,7 +28,7 @@ world-traced_move t (made (Step me)) w = go (actor_of t.world me)
 world-traced_move t (made (Give me)) w = refl
 world-traced_move t (Rest me) w = refl
 
-world-trace : (ms : List AnyMove) (t u : Traced) → trace ms t ≡ Some u → run ms t.world ≡ Some u.world
+pub world-trace : (ms : List AnyMove) (t u : Traced) → trace ms t ≡ Some u → run ms t.world ≡ Some u.world
 unfolding world_of
 world-trace [] t u e = ap world_of e
 world-trace (m ∷ ms) t u e = go (next_any t.world m) e (λ v. world-trace ms v u)

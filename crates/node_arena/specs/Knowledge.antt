@@ -1,19 +1,13 @@
 -- What a seat knows.
-use Rattle.std.specs.Prelude.{ℕ, ◌+◌, List, [], ◌∷◌, ◌++◌, Option, None}
-use Rattle.counted_ref.specs.Ref.{Ref}
+use Rattle.std.specs.Prelude.{ℕ, ◌+◌, List, [], ◌∷◌, ◌++◌}
 use Rattle.history.specs.declared.operations.Entry.{Entry}
 use Rattle.history.specs.Seats.{Known}
 use Rattle.line_steps.specs.Actors.{Actor}
-use Rattle.step_machine.specs.Machine.{idle}
+use Rattle.step_machine.specs.Machine.{idle, AnyMove}
 use Rattle.node_arena.specs.Traces.{Event}
 
--- what a seat keeps of a look: Head and Tail as they then were
-pub record Looked : Type 0 where
-  pub head : Ref
-  pub tail : Ref
-
 -- what a seat knows: its number, its actor with line and registers, its path, a prefix of the history, its own entries,
--- its notes: after so many entries it found the queue empty, or shut; and what it keeps of its last look
+-- its notes: after so many entries it found the queue empty, or shut; and all moves that were made until its last step or look
 pub record SeatView : Type 0 where
   pub number : ℕ
   pub actor : Actor
@@ -21,7 +15,7 @@ pub record SeatView : Type 0 where
   pub seen : List Entry
   pub mine : List Entry
   pub notes : List ℕ
-  pub looked : Option Looked
+  pub ran : List AnyMove
 
 -- what a seat knows of its queue
 abbrev pub known_by : SeatView → Known
@@ -46,7 +40,7 @@ members spent = []
 
 -- what a seat knows that was just dealt
 abbrev pub new_seat : ℕ → SeatView
-new_seat n = record { number = n; actor = idle; path = []; seen = []; mine = []; notes = []; looked = None }
+new_seat n = record { number = n; actor = idle; path = []; seen = []; mine = []; notes = []; ran = [] }
 
 -- what the first seat of a view knows
 abbrev pub knows : View → SeatView

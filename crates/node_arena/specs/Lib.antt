@@ -23,6 +23,7 @@ pub mod Leftovers
 pub mod Turns
 pub mod Paths
 pub mod Moments
+pub mod Courses
 pub mod Looks
 pub mod Causes
 pub mod Arenas

@@ -1,5 +1,5 @@
 -- What a look of a seat tells, and what looks one after another say of the queue.
-use Rattle.std.specs.Prelude.{◌≡◌, ℕ, ◌+◌, ◌<◌, ◌≤◌, Bool, true, false, List, [], ◌∷◌, ◌++◌, length, slice_index, Some, IfSome}
+use Rattle.std.specs.Prelude.{◌≡◌, ℕ, ◌+◌, ◌<◌, ◌≤◌, Bool, true, false, List, [], ◌∷◌, ◌++◌, length, slice_index}
 use Rattle.std.specs.List.{count_by}
 use mathlib.Core.List.{IsPrefix}
 use Rattle.history.specs.declared.operations.Entry.{Entry}
@@ -8,24 +8,20 @@ use Rattle.history.specs.Entries.{is_pop, Leads, LeadsTo}
 use Rattle.history.specs.Seats.{Known}
 use Rattle.history.specs.Answers.{SeesMore}
 use Rattle.step_machine.specs.Words.{memory_words}
+use Rattle.step_machine.specs.Machine.{AnyMove}
 use Rattle.node_arena.specs.declared.emptiness.Emptiness.{Emptiness}
 use Rattle.node_arena.specs.declared.emptiness.Emptiness.TheVariants.{Empty, ShutEmpty, Holds, Moved}
 use Rattle.node_arena.specs.declared.lengths.Len.{Len}
 use Rattle.node_arena.specs.declared.seats.Seat.{Seat}
 use Rattle.node_arena.specs.Arenas.{Arena}
 use Rattle.node_arena.specs.Traces.{Traced, IsTraced}
-use Rattle.node_arena.specs.Knowledge.{SeatView, Looked}
+use Rattle.node_arena.specs.Knowledge.{SeatView}
 use Rattle.node_arena.specs.Plans.{Layout}
-use Rattle.node_arena.specs.Rule.{StaysLooked}
+use Rattle.node_arena.specs.Rule.{LearnsRun}
 use Rattle.node_arena.specs.Seats.{IsReady, KeepsStored, KeepsSlots, SeesMoreDeeds, carries_of, view}
 
--- Head and Tail of a traced world
-abbrev pub looked_in : Traced → Looked
-looked_in t = record { head = t.world.shared.head; tail = t.world.shared.tail }
-
--- a look tells: there was a traced world that moves lead to, whose history, which goes on from what the seat had seen, it has
--- now seen, and in which this word held this number; Head was there as at the seat's look before, or its count was higher, and
--- so was Tail in the queue that counts it; nothing else that the seat knows changed
+-- a look tells: there was a traced world, to which what the seat knew of the run goes on by moves of others, and whose history
+-- goes on from what the seat had seen; it now knows both, and this word held this number there. Nothing else that it knows changed
 pub record LooksAt (z : Layout) (word n : ℕ) (v v' : SeatView) : Type 0 where
   pub was : Traced
   pub reached : IsTraced was
@@ -33,8 +29,9 @@ pub record LooksAt (z : Layout) (word n : ℕ) (v v' : SeatView) : Type 0 where
   pub held : n ≡ slice_index (memory_words z.setup.bits was.world.shared) word
   pub rest : List Entry
   pub begins : was.history ≡ v.seen ++ rest
-  pub knows : v' ≡ record v { seen = was.history; looked = Some (looked_in was) }
-  pub since : IfSome v.looked (StaysLooked was)
+  pub ran : List AnyMove
+  pub run : LearnsRun z v ran was
+  pub knows : v' ≡ record v { seen = was.history; ran = ran }
 
 -- a seat looked at a word of its arena, and found this number: no slot moved, and what it has seen of values goes on
 pub record Looks {T : Type 0} (r : Arena) (s s' : Seat T) (word n : ℕ) : Type 0 where

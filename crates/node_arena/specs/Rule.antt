@@ -1,10 +1,10 @@
 -- The rule of the table: words and seats are those of a traced world that moves lead to.
-use Rattle.std.specs.Prelude.{◌≡◌, ◌⊎◌, ℕ, ◌<◌, ◌≤◌, true, false, List, [], ◌∷◌, ◌++◌, length, Option, Some, None, IfSome}
+use Rattle.std.specs.Prelude.{◌≡◌, ◌≢◌, ◌⊎◌, ℕ, ◌<◌, ◌≤◌, true, false, List, [], ◌∷◌, ◌++◌, length, Option, Some, None}
 use Rattle.std.specs.List.{All}
+use mathlib.Core.List.{IsPrefix}
 use mathlib.Core.Option.{some}
 use lib.ListN.{get_elem?}
 use Rattle.atomic_table.specs.Table.{State, Me}
-use Rattle.line_table.specs.declared.lines.Kind.TheVariants.{NonBlocking}
 use Rattle.line_table.specs.declared.lines.Line.{Line}
 use Rattle.line_table.specs.declared.lines.Line.TheVariants.{N1, D5, A7, B6, S9}
 use Rattle.history.specs.declared.operations.Entry.{Entry}
@@ -16,10 +16,11 @@ use Rattle.history.specs.Seats.{IsNoted}
 use Rattle.counted_ref.specs.Ref.{Ref, reserved_node}
 use Rattle.line_steps.specs.Actors.{Actor}
 use Rattle.step_machine.specs.Words.{memory_words}
-use Rattle.step_machine.specs.Machine.{idle, actor_of}
-use Rattle.node_arena.specs.Traces.{Traced, IsTraced, step_at, actor_at, outcome_at, event_at, entries_at, number_at, sees}
+use Rattle.step_machine.specs.declared.actors.Move.TheVariants.{Step}
+use Rattle.step_machine.specs.Machine.{idle, actor_of, AnyMove, made}
+use Rattle.node_arena.specs.Traces.{Traced, IsTraced, step_at, actor_at, outcome_at, event_at, entries_at, number_at, sees, made_by, trace, first_trace}
 use Rattle.node_arena.specs.Prologues.{Prologue, after_prologue}
-use Rattle.node_arena.specs.Knowledge.{SeatView, Looked, View, keeper, gathered, seated, paired, members, knows}
+use Rattle.node_arena.specs.Knowledge.{SeatView, View, keeper, gathered, seated, paired, members, knows}
 use Rattle.node_arena.specs.Places.{shared_words}
 use Rattle.node_arena.specs.Plans.{Layout, IsPlanned, RolesPermit}
 
@@ -41,14 +42,9 @@ SawAt t seen a line due = Unit {0}
 abbrev pub IsCurrentOrPast : (word read : Ref) → Type 0
 IsCurrentOrPast word read = (word ≡ read) ⊎ (read.count < word.count)
 
--- Head is as at a seat's look, or its count is higher now, and so is Tail in the queue that counts it
-pub record StaysLooked (t : Traced) (x : Looked) : Type 0 where
-  pub head : IsCurrentOrPast t.world.shared.head x.head
-  pub tail : t.world.setup.kind ≡ NonBlocking → IsCurrentOrPast t.world.shared.tail x.tail
-
 -- a seat's actor and path are the traced world's, what it has seen is a prefix of the history, and its own entries
 -- are just those of it, and just those that it has seen; the queue was empty, or shut, after as many of these as each note
--- says, what its actor found that it may note next is so, and what it looked at last stays so
+-- says, and what its actor found that it may note next is so
 pub record Fits (t : Traced) (v : SeatView) : Type 0 where
   pub actor : actor_of t.world v.number ≡ Some v.actor
   pub path : t.paths v.number ≡ v.path
@@ -58,13 +54,65 @@ pub record Fits (t : Traced) (v : SeatView) : Type 0 where
   pub known : own_entries v.number v.seen ≡ v.mine
   pub noted : All (IsNoted v.seen) v.notes
   pub saw : SawAt t v.seen v.actor v.actor.line v.actor.due
-  pub looked : IfSome v.looked (StaysLooked t)
 
 -- nothing was done by a number
 pub record IsNew (t : Traced) (n : ℕ) : Type 0 where
   pub actor : actor_of t.world n ≡ Some idle
   pub path : t.paths n ≡ []
   pub own : own_entries n t.history ≡ []
+
+-- moves begin with those that a seat knows, and those that follow are of other actors
+pub record Ran (moves : List AnyMove) (me : ℕ) (ran : List AnyMove) : Type 0 where
+  pub rest : List AnyMove
+  pub begins : moves ≡ ran ++ rest
+  pub others : All (λ m. made_by m ≢ me) rest
+
+-- moves lead from the opening world of the plan to this one
+abbrev pub IsRunTo : (z : Layout) → List AnyMove → Traced → Type 0
+IsRunTo z moves t = trace moves (first_trace z.setup (length z.roles)) ≡ Some t
+
+-- what a seat knows of the run goes on by moves of others, to this world
+pub record LearnsRun (z : Layout) (v : SeatView) (ran : List AnyMove) (t : Traced) : Type 0 where
+  pub others : List AnyMove
+  pub by_others : All (λ m. made_by m ≢ v.number) others
+  pub goes_on : ran ≡ v.ran ++ others
+  pub led : IsRunTo z ran t
+
+-- the same by moves of others and at most two of its own actor to a world, and then by its step to another one
+pub record RunsOn (z : Layout) (v v' : SeatView) (was t : Traced) : Type 0 where
+  pub others : List AnyMove
+  pub by_others : All (λ m. made_by m ≢ v.number) others
+  pub sets_out : List AnyMove
+  pub by_own : All (λ m. made_by m ≡ v.number) sets_out
+  pub few : length sets_out ≤ 2
+  pub ran : v'.ran ≡ v.ran ++ (others ++ (sets_out ++ made (Step v.number) ∷ []))
+  pub sets : IsRunTo z (v.ran ++ (others ++ sets_out)) was
+  pub led : IsRunTo z v'.ran t
+
+-- a seat is among the views, by what it knows
+abbrev pub IsAmong : List View → SeatView → Type 0
+IsAmong views v = (j : ℕ) × (i : ℕ) × (u : View) × (get_elem? views j ≡ some u) × (get_elem? (members u) i ≡ some v)
+
+-- so it is of a state
+abbrev pub IsMember : State ℕ View → SeatView → Type 0
+IsMember s v = IsAmong s.views v
+
+-- a seat is among the views by its number, and knows no less of the run
+abbrev pub IsFound : List View → SeatView → Type 0
+IsFound views v = (w : SeatView) × IsAmong views w × (w.number ≡ v.number) × IsPrefix v.ran w.ran
+
+-- each seat that is among views is found among others
+abbrev pub Keeps : List View → List View → Type 0
+Keeps views others = (v : SeatView) → IsAmong views v → IsFound others v
+
+-- a state comes after another by a change of views that isn't a step: each seat is still there, and knows no less of the run
+pub record IsQuiet (s s' : State ℕ View) : Type 0 where
+  pub words : s'.words ≡ s.words
+  pub kept : Keeps s.views s'.views
+
+-- an actor made none of these moves, or is a seat among the views
+abbrev pub IsThere : List View → (moves : List AnyMove) → ℕ → Type 0
+IsThere views moves n = Ran moves n [] ⊎ ((v : SeatView) × IsAmong views v × (v.number ≡ n))
 
 -- the rule: there is a traced world, which moves lead to, with exactly the shared words that lie in the table, to which
 -- each seat fits; no two seats have one number, and no entry is of a seat whose role doesn't permit it
@@ -83,6 +131,10 @@ pub record Holds (z : Layout) (s : State ℕ View) : Type 0 where
   pub owned : (j i : ℕ) (u : View) (v : SeatView) → get_elem? s.views j ≡ some u → get_elem? (members u) i ≡ some v → (owner v.number ≡ (j, i)) × (v.number < dealt)
   pub kept : (j n : ℕ) → get_elem? s.views j ≡ some (keeper n) → (j ≡ home) × (n ≡ dealt)
   pub undealt : (n : ℕ) → dealt ≤ n → n ≤ length z.roles → IsNew trace n
+  pub peopled : reached.actors ≡ length z.roles
+  pub ran : (j i : ℕ) (u : View) (v : SeatView) → get_elem? s.views j ≡ some u → get_elem? (members u) i ≡ some v → Ran reached.moves v.number v.ran
+  pub unmoved : (n : ℕ) → dealt ≤ n → Ran reached.moves n []
+  pub there : (n : ℕ) → IsThere s.views reached.moves n
 
 -- the first view deals number 1 first
 abbrev pub first_view : Layout → View
@@ -134,6 +186,7 @@ pub record Steps (z : Layout) (prologue : Prologue) (l : Line) (n : ℕ) (v v' :
   pub says : SaysOfSeen l (outcome_at z.setup was v.number (after_prologue z.setup v.number prologue v.actor) l).reply v'.seen
   pub fits : Fits (step_at was v.number (after_prologue z.setup v.number prologue v.actor) l) v'
   pub permitted : All (RolesPermit z.roles) (step_at was v.number (after_prologue z.setup v.number prologue v.actor) l).history
+  pub runs : RunsOn z v v' was (step_at was v.number (after_prologue z.setup v.number prologue v.actor) l)
 
 -- the line of an actor in a call
 abbrev pub line_or_first : Option Line → Line
@@ -150,24 +203,31 @@ Tells z prologue me n me' =
 abbrev pub TellsNothing : Layout → Prologue → Me ℕ View → Me ℕ View → Type 0
 TellsNothing z prologue me me' = (n : ℕ) × Tells z prologue me n me'
 
--- there was a traced world, which moves lead to, to which a seat fits, with a history of entries that the roles permit
+-- what a seat knows of the run leads to a traced world, to which it fits, with a history of entries that the roles permit
 pub record Fitted (z : Layout) (v : SeatView) : Type 0 where
   pub trace : Traced
+  pub run : IsRunTo z v.ran trace
   pub reached : IsTraced trace
   pub setup : trace.world.setup ≡ z.setup
   pub permitted : All (RolesPermit z.roles) trace.history
   pub fits : Fits trace v
 
--- two seats that are one have seen one history, which begins with what each had seen; nothing else changed
+-- two seats that are one have seen the history of one world, to which both know the run; the history begins with what each had
+-- seen, and nothing else changed
 pub record Met (z : Layout) (v w : SeatView) (m : Me ℕ View) : Type 0 where
+  pub was : Traced
+  pub ran : List AnyMove
   pub all : List Entry
   pub first_rest : List Entry
   pub second_rest : List Entry
-  pub seats : m ≡ (paired (record v { seen = all }) (record w { seen = all }), [])
+  pub history : was.history ≡ all
+  pub seats : m ≡ (paired (record v { seen = all; ran = ran }) (record w { seen = all; ran = ran }), [])
   pub first : all ≡ v.seen ++ first_rest
   pub second : all ≡ w.seen ++ second_rest
-  pub first_fits : Fitted z (record v { seen = all })
-  pub second_fits : Fitted z (record w { seen = all })
+  pub first_run : LearnsRun z v ran was
+  pub second_run : LearnsRun z w ran was
+  pub first_fits : Fitted z (record v { seen = all; ran = ran })
+  pub second_fits : Fitted z (record w { seen = all; ran = ran })
 
 -- a new token gathers, and has taken in none
 abbrev pub Opens : Me ℕ View → Type 0

@@ -11,6 +11,7 @@ use Rattle.line_steps.specs.declared.actors.Setup.{Setup}
 use Rattle.line_steps.specs.declared.actors.Held.{Held}
 use Rattle.line_steps.specs.Lines.{action}
 use Rattle.step_machine.specs.Tables.{WordStep, word_step}
+use Rattle.step_machine.specs.Machine.{AnyMove}
 use Rattle.atomic_table.specs.Seated.{TableId}
 use Rattle.node_arena.specs.declared.roles.Role.{Role}
 use Rattle.node_arena.specs.Arenas.{Arena}
@@ -18,7 +19,8 @@ use Rattle.node_arena.specs.declared.seats.Seat.{Seat}
 use Rattle.node_arena.specs.Prologues.{Prologue, after_prologue, at_rest, CanStart}
 use Rattle.node_arena.specs.Knowledge.{SeatView, seated, knows, known_by}
 use Rattle.node_arena.specs.Plans.{Layout, IsTable, PermitsLine, permits_by, may_push, may_pop}
-use Rattle.node_arena.specs.Rule.{Steps, Fitted}
+use Rattle.node_arena.specs.Traces.{Traced}
+use Rattle.node_arena.specs.Rule.{Steps, LearnsRun, Fitted}
 use Rattle.node_arena.specs.Deeds.{Deed}
 use Rattle.node_arena.specs.Beside.{HasNone, KnowsNow, LoadedAt, Moves}
 
@@ -206,10 +208,13 @@ pub record IsReady {T : Type 0} (r : Arena) (s : Seat T) : Type 0 where
   pub free : (at_rest (view s).actor).line ≡ None
   pub pocket : pocket_of s ≡ (at_rest (view s).actor).pocket
 
--- a seat stores and knows the same as before, but that it has now seen this, which begins with what it had seen
-pub record Sees {T : Type 0} (s t : Seat T) (all : List Entry) : Type 0 where
+-- a seat stores and knows the same as before, but that it has now seen this, which begins with what it had seen, and knows of the
+-- run up to this world
+pub record Sees {T : Type 0} (z : Layout) (s t : Seat T) (all : List Entry) (was : Traced) : Type 0 where
   pub stored : KeepsStored s t
-  pub knows : view t ≡ record (view s) { seen = all }
+  pub ran : List AnyMove
+  pub run : LearnsRun z (view s) ran was
+  pub knows : view t ≡ record (view s) { seen = all; ran = ran }
   pub more : List Entry
   pub begins : all ≡ (view s).seen ++ more
 
@@ -219,13 +224,15 @@ pub record MeetsValues {T : Type 0} (s t s' t' : Seat T) : Type 0 where
   pub first : SeesMoreDeeds s s'
   pub second : SeesMoreDeeds t t'
 
--- two seats have met: both have seen one history, which begins with what each had seen, and where values are carried one of
--- these; no slot is out with one of them
+-- two seats have met: both have seen the history of one world, which begins with what each had seen, and where values are carried
+-- one of these; no slot is out with one of them
 pub record Meets {T : Type 0} (r : Arena) (s t s' t' : Seat T) : Type 0 where
   pub one : IsReady r s'
   pub other : IsReady r t'
+  pub was : Traced
   pub all : List Entry
-  pub first : Sees s s' all
-  pub second : Sees t t' all
+  pub history : was.history ≡ all
+  pub first : Sees r.plan s s' all was
+  pub second : Sees r.plan t t' all was
   pub none_out : HasNoSlot s' × HasNoSlot t'
   pub values : carries_of r ≡ true → MeetsValues s t s' t'

@@ -1,6 +1,6 @@
 -- Traced worlds: a world, the path of each actor, and the entries of all calls that had their effect.
 use Rattle.std.specs.Prelude.{◌≡◌, ◌⊎◌, ℕ, ◌+◌, ◌<◌, ◌≤◌, Bool, true, false, if◌then◌else◌, nat_eq, List, [], ◌∷◌, ◌++◌, length, take, Option, Some, None}
-use Rattle.std.specs.List.{count_by}
+use Rattle.std.specs.List.{All, count_by}
 use Rattle.line_table.specs.declared.lines.Line.{Line}
 use Rattle.line_table.specs.declared.lines.Line.TheVariants.{E7, E9, D4, D13, A5, B3, B5, S3, S4, S8}
 use Rattle.history.specs.declared.operations.Entry.{Entry}
@@ -17,7 +17,7 @@ use Rattle.step_machine.specs.declared.actors.Move.TheVariants.{Begin, Step, Giv
 use Rattle.step_machine.specs.Places.{IsQueueChain}
 use Rattle.step_machine.specs.Chains.{queue_in}
 use Rattle.step_machine.specs.Words.{encoded}
-use Rattle.step_machine.specs.Machine.{World, actor_of, stepped, entry_or, opening, AnyMove, made, Rest, next_any, IsSized}
+use Rattle.step_machine.specs.Machine.{World, actor_of, stepped, entry_or, opening, AnyMove, made, Rest, mover, next_any, IsSized}
 
 -- a line that an actor went through: the number found there, the line gone to, or none where the call ended, and how
 -- many entries the history then had
@@ -133,6 +133,18 @@ trace (m ∷ ms) t = traced_on (trace ms) (traced_next t m (next_any t.world m))
 -- the trace in which nothing happened yet
 abbrev pub first_trace : Setup → (actors : ℕ) → Traced
 first_trace s actors = record { world = opening s actors; paths = λ p. []; history = [] }
+
+-- who makes a move
+abbrev pub made_by : AnyMove → ℕ
+made_by (made m) = mover m
+made_by (Rest me) = me
+
+-- a traced world leads to another by at most so many moves, each of them of this actor
+pub record LeadsBy (me most : ℕ) (t u : Traced) : Type 0 where
+  pub moves : List AnyMove
+  pub few : length moves ≤ most
+  pub alone : All (λ m. made_by m ≡ me) moves
+  pub led : trace moves t ≡ Some u
 
 -- a traced world that some list of moves leads to
 pub record IsTraced (t : Traced) : Type 0 where

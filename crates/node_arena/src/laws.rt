@@ -6,6 +6,8 @@ ghost use Rattle.node_arena.specs.Arenas.{Arena};
 ghost use Rattle.node_arena.specs.declared.seats.Seat.{Seat};
 ghost use Rattle.node_arena.specs.Seats.{EachSeatIsSound, IsSeat, IsReady};
 ghost use Rattle.node_arena.specs.Moments.{EachMomentIsLinearizable};
+ghost use Rattle.node_arena.specs.Courses.{StepsComeInOrder, EachStepHasOneWorld, EachCourseIsOfTheMachine, WhatEndedComesFirst};
+ghost use Rattle.node_arena.specs.Courses.{EachStepTellsItsOperation, OtherChangesAreQuiet, ToldStepsAreSteps, WhatWasSeenIsSeen, SeenValuesAreSeen};
 ghost use Rattle.node_arena.specs.Causes.{TakersMeetNoCause};
 ghost use Rattle.node_arena.specs.AsMany.{LeavesAsMany, SeenEmptyOfValues};
 ghost use Rattle.node_arena.specs.Hands.{EachSeatKnowsValues};
@@ -23,6 +25,80 @@ pub fn every_moment_is_linearizable()
     //=   for each role, which stands as its seat knows it. Of that world's pushes, pops and shuts, by rising place, a
     //=   seat has seen a prefix, and its own are just its actor's. The history is placed, legal and linearizable.
     ensures { EachMomentIsLinearizable }
+{}
+
+/// Whichever worlds fit the states before and after a step: moves of its seat's actor alone lead from the one, at most two to the
+/// world in which the step was made, and at most three to the other, which is the world that the step tells of, with exactly the
+/// words of the table. So a state determines its world after each step.
+pub fn each_step_has_one_world()
+    //= atomics/steps: Whichever worlds fit the states before and after a step that a seat was told of, at most three moves
+    //=   of its actor alone lead from the one to the other: a give or a rest, a begin, and the step. The other is the
+    //=   world that the step tells of, with exactly the words of the table.
+    ensures { EachStepHasOneWorld 2 3 }
+{}
+
+/// What each seat knew of the run before a step begins what the step's seat knows of it then.
+pub fn steps_come_in_order()
+    //= atomics/order: What any seat knew of the run before a step begins what the step's seat knows after it.
+    ensures { StepsComeInOrder }
+{}
+
+/// In any states of the table, each by the rule and each after the one before by a step of a seat, or by a change of views in
+/// which no seat is lost or knows less of the run: the worlds of which the steps tell lie on one list of moves from the opening
+/// world, in the order of the steps. What had ended in one of them stands in each later one as it was, and before each operation
+/// that began later; and the history of each is linearizable.
+pub fn each_course_is_of_the_machine()
+    //= atomics/courses: Of any states of the rule, each after the one before by a step that a seat was told of, or by a
+    //=   change of views in which no seat is lost or knows less: the worlds after the steps lie on one list of moves from
+    //=   the opening world, in the order of the steps. Each is a past of all later ones, and its history is linearizable.
+    ensures { EachCourseIsOfTheMachine }
+{}
+
+/// What had ended after a step, in the world that it tells of, stands so after each later step of a course of the table, and ended
+/// before each operation that begins with that step. So a call that returned before another one began comes first, in every
+/// history of the course: in real time, as Herlihy and Wing say it, for all seats together.
+pub fn what_ended_comes_first()
+    //= atomics/real_time: What had ended after a step stands so after each later step of a course, and ended before each
+    //=   operation that begins with that step.
+    ensures { WhatEndedComesFirst }
+{}
+
+/// Each step of a seat takes the next number, and tells it to an operation of its actor: a new one where a call begins with it, which
+/// ends with it where the step replies.
+pub fn each_step_tells_its_operation()
+    //= atomics/operations: A step takes the next number, and gives it to one operation of its seat's actor: to a new one
+    //=   where a call begins with it, as its last one where the step replies.
+    ensures { EachStepTellsItsOperation 1 }
+{}
+
+/// Whichever worlds fit the states before and after a step at a line at which its seat sees the whole history: the seat has then
+/// seen what any seat had seen before. So a pop that begins after a push returned has seen that push.
+pub fn what_was_seen_is_seen()
+    //= atomics/seen_later: After a step at a line at which it sees the whole history a seat has seen what any seat had
+    //=   seen before; and of values too, where the table carries them.
+    ensures { WhatWasSeenIsSeen }
+{}
+
+/// The same of values: as what a seat has seen of values goes one by one with what it has seen of numbers, so does their order along
+/// a course.
+pub fn what_was_seen_of_values_is_seen<T>()
+    //= atomics/seen_later
+    ensures { SeenValuesAreSeen T }
+{}
+
+/// Of a table with slots too: each step that a seat is told of is a step of the queue's part of the table.
+pub fn told_steps_are_steps<T>()
+    //= atomics/course_steps: Each step that a call tells a seat of, of a table with slots too, is a step of a
+    //=   course; where seats are dealt, cut in two, become one, meet or look, and where a token comes and takes in a
+    //=   seat, no seat is lost or knows less of the run.
+    ensures { ToldStepsAreSteps T }
+{}
+
+/// Each change of views that isn't a step keeps each seat among them, with what it knows of the run: where seats are dealt, are
+/// cut in two, become one, meet or look, and where a token comes and takes in a seat.
+pub fn other_changes_are_quiet()
+    //= atomics/course_steps
+    ensures { OtherChangesAreQuiet }
 {}
 
 /// The history of a traced world has just the entries of that world's operations that had their effect, by rising place:

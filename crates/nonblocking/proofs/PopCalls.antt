@@ -71,7 +71,7 @@ pop_gives_up r s t spent turns (suc m) some all g =
       ready = record { seat = kept_seat r t None turns g.before.seat; free = ap (λ b. b.line) rest; pocket = sym (ap (λ b. b.pocket) rest ∙ empty_before r t continues D2 g.before) };
       same = record { number = g.stored.number; role = g.stored.role; keeps = g.stored.keeps };
       slots = kept_slots s t None turns g.slots;
-      path = g.walks.path ∙ ap (λ p. (view s).path ++ p) (sym e);
+      later = record { path = g.walks.path ∙ ap (λ p. (view s).path ++ p) (sym e); run = g.walks.run };
       answer = tt;
       few = tt;
       freed = λ off. tt;
@@ -101,4 +101,4 @@ module _ {T : Type 0} (r : Arena) (s t : Seat T) (failed turns : ℕ) where
       (record { over = k.over; due = k.due; node = k.node; mark = k.mark }) k.acts k.never
 
   pub pop_empty : failed < turns → Turns r s t turn.Empty → PopsWithoutNode pop_worn r s (keeping t None failed) failed turns (Ok None)
-  pop_empty less f = let k = f.turned in draws_empty pop_worn r s t failed turns f.lines less f.seat k.over f.empty f.stored f.slots k.path k.never k.found
+  pop_empty less f = let k = f.turned in draws_empty pop_worn r s t failed turns f.lines less f.seat k.over f.empty f.stored f.slots k.path k.run k.never k.found

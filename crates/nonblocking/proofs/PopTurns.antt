@@ -22,7 +22,8 @@ use Rattle.node_arena.proofs.Loads.{takes_slot, then_takes}
 use Rattle.node_arena.specs.Turns.{failed_at, failed_turns}
 use Rattle.node_arena.specs.Paths.{ExtendsPath}
 use Rattle.node_arena.proofs.Known.{empty_before}
-use Rattle.node_arena.proofs.Paths.{then_shut_empty, shut_empty_on, no_walk, walk_then, then_act, then_stored, then_slots, quiet_slots, sees_on}
+use Rattle.node_arena.proofs.PrologueTraces.{prefix_then}
+use Rattle.node_arena.proofs.Paths.{ran_on, then_shut_empty, shut_empty_on, no_walk, walk_then, then_act, then_stored, then_slots, quiet_slots, sees_on}
 use Rattle.node_arena.proofs.Paths.{stopped_behind, failed_behind, failed-append, event, walk_one, walk_on, act_on, stopped_at}
 use Rattle.nonblocking.specs.Values.{IsNonBlocking}
 use Rattle.node_arena.specs.Machine.{value_of}
@@ -137,6 +138,7 @@ module _ {T : Type 0} (r : Arena) (s u t v x : Seat T) (prologue : Prologue) (a 
         record {
           over = f.over;
           path = f5.did.told.path ∙ ap (λ p. p ++ five ∷ []) walked.path ∙ append_assoc (view s).path reads (five ∷ []);
+          run = prefix_then (view s).ran (view v).ran (view x).ran walked.run (ran_on r v x continues D5 f5.found f5.did);
           never = counts None f.over;
           found = record {
             number = f5.did.told.number ∙ walked.number;
@@ -281,6 +283,7 @@ module _ {T : Type 0} (r : Arena) (s t x : Seat T) (es : List Event) (stored : K
       record {
         over = k.over;
         path = k.path ∙ ap (λ p. p ++ fs) w.path ∙ append_assoc (view s).path es fs;
+        run = prefix_then (view s).ran (view t).ran (view x).ran w.run k.run;
         never = omega (arith, failed-append es fs, never, k.never);
         found = answers_then (known_of s) (known_of t) (known_of x) None (sees_on (view s) (view t) es w) k.found;
       }

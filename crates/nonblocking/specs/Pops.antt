@@ -1,4 +1,5 @@
 -- A running pop: what it remembers before each line, and what its turns come to.
+use mathlib.Core.List.{IsPrefix}
 use Rattle.std.specs.Prelude.{◌≡◌, ℕ, zero, suc, ◌≤◌, if◌then◌else◌, nat_eq, List, ◌++◌, Option, Some, None, Result}
 use Rattle.counted_ref.specs.Ref.{Ref, ref_of, is_null, is_shut, same_ref}
 use Rattle.line_table.specs.declared.lines.Line.{Line}
@@ -122,6 +123,7 @@ pub record TurnFailed {T : Type 0} (r : Arena) (s t : Seat T) (es : List Event) 
 pub record SawEmpty {T : Type 0} (s t : Seat T) (es : List Event) : Type 0 where
   pub over : (view t).actor.line ≡ None
   pub path : (view t).path ≡ (view s).path ++ es
+  pub run : IsPrefix (view s).ran (view t).ran
   pub never : failed_turns es ≡ 0
   pub found : FoundEmpty (known_by (view s)) (known_by (view t))
 
@@ -130,7 +132,7 @@ pub record SawShut {T : Type 0} (r : Arena) (s t : Seat T) (es : List Event) : T
   pub over : (view t).actor.line ≡ None
   pub never : failed_turns es ≡ 0
   pub finds : FindsShutEmpty (view s) (view t) es
-  pub cause : EndedAt r s es (IsRefusedAt r.plan.setup (view s).number Closed)
+  pub cause : EndedAt r s (view t).ran es (IsRefusedAt r.plan.setup (view s).number Closed)
 
 -- Tail was found worn out
 pub record SawWorn {T : Type 0} (r : Arena) (s t : Seat T) (es : List Event) (refusal : Refusal) : Type 0 where
@@ -138,7 +140,7 @@ pub record SawWorn {T : Type 0} (r : Arena) (s t : Seat T) (es : List Event) (re
   pub walks : ExtendsPath (view s) (view t) es
   pub never : failed_turns es ≡ 0
   pub is : refusal ≡ WornOut OfTail
-  pub cause : EndedAt r s es (IsRefusedAt r.plan.setup (view s).number (WornOut OfTail))
+  pub cause : EndedAt r s (view t).ran es (IsRefusedAt r.plan.setup (view s).number (WornOut OfTail))
 
 -- why a turn ends its call: the queue was found shut and empty, or Tail worn out
 abbrev pub Stops : {T : Type 0} → Arena → Seat T → Seat T → List Event → Refusal → Type 0

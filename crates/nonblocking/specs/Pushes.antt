@@ -116,7 +116,7 @@ pub record FoundWorn {T : Type 0} (r : Arena) (s t : Seat T) (p : Option Held) (
   pub pocket : (view t).actor.pocket ≡ p
   pub never : failed_turns es ≡ 0
   pub is : refusal ≡ WornOut word
-  pub cause : EndedAt r s es (IsRefusedAt r.plan.setup (view s).number (WornOut word))
+  pub cause : EndedAt r s (view t).ran es (IsRefusedAt r.plan.setup (view s).number (WornOut word))
 
 -- the call is over, with its node in the pocket, since the queue was found shut
 pub record SawShut {T : Type 0} (r : Arena) (s t : Seat T) (p : Option Held) (es : List Event) : Type 0 where
@@ -125,7 +125,7 @@ pub record SawShut {T : Type 0} (r : Arena) (s t : Seat T) (p : Option Held) (es
   pub pocket : (view t).actor.pocket ≡ p
   pub never : failed_turns es ≡ 0
   pub finds : FindsShut (view s) (view t) es
-  pub cause : EndedAt r s es (IsRefusedAt r.plan.setup (view s).number Closed)
+  pub cause : EndedAt r s (view t).ran es (IsRefusedAt r.plan.setup (view s).number Closed)
 
 -- why a turn ends its call: the queue was found shut, or Tail worn out
 abbrev pub Stops : {T : Type 0} → Arena → Seat T → Seat T → Running → List Event → Refusal → Type 0

@@ -96,7 +96,7 @@ pub record SawShut {T : Type 0} (r : Arena) (s t : Seat T) (es : List Event) : T
   pub over : (view t).actor.line ≡ None
   pub never : failed_turns es ≡ 0
   pub finds : FindsShut (view s) (view t) es
-  pub cause : EndedAt r s es (IsRefusedAt r.plan.setup (view s).number Closed)
+  pub cause : EndedAt r s (view t).ran es (IsRefusedAt r.plan.setup (view s).number Closed)
 
 -- Tail was found worn out
 pub record SawWorn {T : Type 0} (r : Arena) (s t : Seat T) (es : List Event) (refusal : Refusal) : Type 0 where
@@ -104,7 +104,7 @@ pub record SawWorn {T : Type 0} (r : Arena) (s t : Seat T) (es : List Event) (re
   pub walks : ExtendsPath (view s) (view t) es
   pub never : failed_turns es ≡ 0
   pub is : refusal ≡ WornOut OfTail
-  pub cause : EndedAt r s es (IsRefusedAt r.plan.setup (view s).number (WornOut OfTail))
+  pub cause : EndedAt r s (view t).ran es (IsRefusedAt r.plan.setup (view s).number (WornOut OfTail))
 
 -- why a turn ends its call: the queue was found shut, or Tail worn out
 abbrev pub Stops : {T : Type 0} → Arena → Seat T → Seat T → List Event → Refusal → Type 0

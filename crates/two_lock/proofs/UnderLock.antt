@@ -22,7 +22,8 @@ use Rattle.node_arena.proofs.Loads.{takes_slot, then_takes, takes_then}
 use Rattle.node_arena.specs.Paths.{ExtendsPath, Passes, Acts}
 use Rattle.node_arena.proofs.Noting.{IsSilent}
 use Rattle.node_arena.proofs.Known.{empty_before}
-use Rattle.node_arena.proofs.Paths.{then_shut_empty, shut_empty_on, walk_then, then_act, act_then, then_stored, then_slots, quiet_slots, event, walk_on, pass_on, act_on, stopped_at}
+use Rattle.node_arena.proofs.PrologueTraces.{prefix_then}
+use Rattle.node_arena.proofs.Paths.{ran_on, then_shut_empty, shut_empty_on, walk_then, then_act, act_then, then_stored, then_slots, quiet_slots, event, walk_on, pass_on, act_on, stopped_at}
 use Rattle.node_arena.specs.Machine.{value_of}
 use Rattle.arena_lines.specs.declared.outcomes.RowOutcome.{RowOutcome}
 use Rattle.arena_lines.specs.declared.outcomes.RowOutcome.TheVariants.{Goes, Ends}
@@ -167,6 +168,7 @@ saw_empty r s u t x a b c l k out h f2 f3 is f6 = ⊎_elim none shut (found_end 
             path = f6.did.told.path ∙ ap (λ p. p ++ event r t x continues B6 f6.found f6.did ∷ []) w.path ∙ append_assoc (view s).path
                 (event r s u continues B2 f2.found f2.did ∷ event r u t continues B3 f3.found f3.did ∷ [])
                 (event r t x continues B6 f6.found f6.did ∷ []);
+            run = prefix_then (view s).ran (view t).ran (view x).ran w.run (ran_on r t x continues B6 f6.found f6.did);
             found = record {
               number = f6.did.told.number ∙ w.number;
               between = w.rest;

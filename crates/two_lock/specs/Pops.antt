@@ -1,4 +1,5 @@
 -- A running pop: what it remembers before each line, and what its turns come to.
+use mathlib.Core.List.{IsPrefix}
 use Rattle.std.specs.Prelude.{◌≡◌, ℕ, zero, suc, ◌≤◌, Bool, true, false, if◌then◌else◌, nat_eq, List, ◌++◌, Option, Some, None}
 use Rattle.counted_ref.specs.Ref.{Ref, ref_of, is_null, is_shut}
 use Rattle.line_table.specs.declared.lines.Line.{Line}
@@ -113,20 +114,21 @@ pub record Took {T : Type 0} (r : Arena) (s t : Seat T) (es : List Event) (a : R
 pub record SawEmpty {T : Type 0} (s t : Seat T) (es : List Event) : Type 0 where
   pub over : (view t).actor.line ≡ None
   pub path : (view t).path ≡ (view s).path ++ es
+  pub run : IsPrefix (view s).ran (view t).ran
   pub found : FoundEmpty (known_by (view s)) (known_by (view t))
 
 -- the queue was found shut and empty
 pub record SawShut {T : Type 0} (r : Arena) (s t : Seat T) (es : List Event) : Type 0 where
   pub over : (view t).actor.line ≡ None
   pub finds : FindsShutEmpty (view s) (view t) es
-  pub cause : EndedAt r s es (IsRefusedAt r.plan.setup (view s).number Closed)
+  pub cause : EndedAt r s (view t).ran es (IsRefusedAt r.plan.setup (view s).number Closed)
 
 -- Head was found worn out
 pub record SawWorn {T : Type 0} (r : Arena) (s t : Seat T) (es : List Event) (refusal : Refusal) : Type 0 where
   pub over : (view t).actor.line ≡ None
   pub walks : ExtendsPath (view s) (view t) es
   pub is : refusal ≡ WornOut OfHead
-  pub cause : EndedAt r s es (IsRefusedAt r.plan.setup (view s).number (WornOut OfHead))
+  pub cause : EndedAt r s (view t).ran es (IsRefusedAt r.plan.setup (view s).number (WornOut OfHead))
 
 -- why a pop ends under the lock: the queue was found shut and empty, or Head worn out
 abbrev pub Stops : {T : Type 0} → Arena → Seat T → Seat T → List Event → Refusal → Type 0

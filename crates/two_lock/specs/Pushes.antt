@@ -104,7 +104,7 @@ pub record SawShut {T : Type 0} (r : Arena) (s t : Seat T) (a : Running) (es : L
   pub pocket : (view t).actor.pocket ≡ Some (in_hand a)
   pub is : refusal ≡ Closed
   pub finds : FindsShut (view s) (view t) es
-  pub cause : EndedAt r s es (IsRefusedAt r.plan.setup (view s).number Closed)
+  pub cause : EndedAt r s (view t).ran es (IsRefusedAt r.plan.setup (view s).number Closed)
 
 -- what the lines under the lock come to
 abbrev pub PushedUnderLock : {T : Type 0} → Arena → Seat T → Seat T → Running → List Event → Result (Unit {0}) Refusal → Type 0

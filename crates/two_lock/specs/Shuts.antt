@@ -81,7 +81,7 @@ pub record LetsGo {T : Type 0} (r : Arena) (s t : Seat T) (a : Running) (out : R
 pub record SawShut {T : Type 0} (r : Arena) (s t : Seat T) (es : List Event) (refusal : Refusal) : Type 0 where
   pub is : refusal ≡ Closed
   pub finds : FindsShut (view s) (view t) es
-  pub cause : EndedAt r s es (IsRefusedAt r.plan.setup (view s).number Closed)
+  pub cause : EndedAt r s (view t).ran es (IsRefusedAt r.plan.setup (view s).number Closed)
 
 -- what the lines under the lock come to
 abbrev pub ShutUnderLock : {T : Type 0} → Arena → Seat T → Seat T → List Event → Result (Unit {0}) Refusal → Type 0

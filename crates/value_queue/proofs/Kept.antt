@@ -28,7 +28,7 @@ module _ {T : Type 0} (s x y : Seat T) (k : KeepsKnown x y) where
 
   -- the cause that its last step met
   met_still : (r : Arena) (refusal : Refusal) → MetCause r s x refusal → MetCause r s y refusal
-  met_still r refusal f = subst (λ (v : SeatView). EndedAt r s (drop (length (view s).path) v.path) (IsRefusedAt r.plan.setup (view s).number refusal)) (sym k.view) f
+  met_still r refusal f = subst (λ (v : SeatView). EndedAt r s v.ran (drop (length (view s).path) v.path) (IsRefusedAt r.plan.setup (view s).number refusal)) (sym k.view) f
 
   -- a push that was refused
   pub stops_still : (refusal : Refusal) → StopsAPush s x refusal → StopsAPush s y refusal

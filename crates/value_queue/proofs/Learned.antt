@@ -20,6 +20,7 @@ use Rattle.node_arena.specs.Hands.{AddsOwn}
 use Rattle.node_arena.specs.Loads.{PopsFront}
 use Rattle.node_arena.specs.Beside.{slots_in}
 use Rattle.node_arena.specs.Knowledge.{SeatView}
+use Rattle.node_arena.specs.Traces.{Traced}
 use Rattle.node_arena.specs.Seats.{IsSeat, IsReady, Sees, SeesMoreDeeds, Meets, HasNoSlot, carries_of, deeds_of, known_of, view}
 use Rattle.arena_queue.specs.Answers.{AnswersShut}
 use Rattle.arena_queue.proofs.Pushes.{learns}
@@ -155,12 +156,12 @@ meets-deeds {T} r s t s' t' carries is it m =
     let values = m.values carries in
     record {
       same = ap (told []) values.same;
-      first = sees-deeds r carries s s' is m.one.seat values.first (sees_all s s' m.all m.first);
-      second = sees-deeds r carries t t' it m.other.seat values.second (sees_all t t' m.all m.second);
+      first = sees-deeds r carries s s' is m.one.seat values.first (sees_all s s' m.all m.was m.first);
+      second = sees-deeds r carries t t' it m.other.seat values.second (sees_all t t' m.all m.was m.second);
     }
   where
-    sees_all : (s s' : Seat T) (all : List Entry) → Sees s s' all → SeesMore (known_of s) (known_of s')
-    sees_all s s' all m =
+    sees_all : (s s' : Seat T) (all : List Entry) (was : Traced) → Sees r.plan s s' all was → SeesMore (known_of s) (known_of s')
+    sees_all s s' all was m =
         record {
           number = ap (λ (v : SeatView). v.number) m.knows;
           between = m.more;

@@ -1,6 +1,9 @@
 use Rattle.std.proofs.Common.{arith}
-use Rattle.nonblocking.proofs.PopCalls.{pop_again, pop_ends, pop_gives_up}
+use Rattle.nonblocking.proofs.PopCalls.{pops_out, pop_again, pop_ends, pop_gives_up}
 use Rattle.nonblocking.proofs.pops.pop_with_empty_pocket.Goals as goal
+
+pub loop-index-init : goal.loop-index-init
+loop-index-init g c = pops_out c.args.arena.now c.args.seat.now c.requires.ready c.requires.empty c.requires.non_blocking
 
 pub loop-index-preserved : goal.loop-index-preserved
 loop-index-preserved g c = pop_again c.args.arena.now c.args.seat.now c.loop-index.seat c.pop_by_turn.new.seat c.loop-index.index c.loop-index.invariant c.in_default.ensures

@@ -1,5 +1,8 @@
-use Rattle.nonblocking.proofs.ShutCalls.{shut_again, shut_ends, shut_stops}
+use Rattle.nonblocking.proofs.ShutCalls.{shuts_out, shut_again, shut_ends, shut_stops}
 use Rattle.nonblocking.proofs.shuts.shut_queue.Goals as goal
+
+pub loop-index-init : goal.loop-index-init
+loop-index-init g c = shuts_out c.args.arena.now c.args.seat.now c.requires.ready c.requires.non_blocking
 
 pub returns-in-Shut : goal.returns-in-Shut
 returns-in-Shut g c = rw c.keep.ensures (shut_ends c.args.arena.now c.args.seat.now c.loop-index.seat c.shut_turn.new.seat c.pocket-pocket.result

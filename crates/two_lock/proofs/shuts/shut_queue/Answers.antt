@@ -1,6 +1,9 @@
 use Rattle.std.proofs.Common.{◌∙◌, sym, arith}
-use Rattle.two_lock.proofs.ShutTries.{shut_again, shut_ends, shut_gives_up}
+use Rattle.two_lock.proofs.ShutTries.{shuts_out, shut_again, shut_ends, shut_gives_up}
 use Rattle.two_lock.proofs.shuts.shut_queue.Goals as goal
+
+pub loop-index-init : goal.loop-index-init
+loop-index-init g c = shuts_out c.args.arena.now c.args.seat.now c.requires.ready c.requires.two_lock
 
 pub loop-index-preserved : goal.loop-index-preserved
 loop-index-preserved g c = shut_again c.args.arena.now c.args.seat.now c.loop-index.seat c.s6.new.seat c.loop-index.index c.loop-index.invariant _

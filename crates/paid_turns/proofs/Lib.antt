@@ -1,5 +1,0 @@
-pub mod Sums
-pub mod Tolls
-pub mod Amounts
-pub mod Moves
-pub mod Runs

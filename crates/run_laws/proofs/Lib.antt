@@ -1,0 +1,11 @@
+pub mod Sums
+pub mod Tolls
+pub mod Amounts
+pub mod Moves
+pub mod Paid
+pub mod Between
+pub mod Lines
+pub mod Seats
+pub mod Begun
+pub mod Lasting
+pub mod Again

@@ -1,0 +1,6 @@
+-- The lemma is the law.
+use Rattle.run_laws.proofs.Paid.{each_call_paid}
+use Rattle.run_laws.proofs.turns.the_failed_turns_of_a_running_call_are_paid.Goals as goal
+
+pub returns : goal.returns
+returns c = each_call_paid

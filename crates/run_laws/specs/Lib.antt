@@ -1,0 +1,5 @@
+pub mod Others
+pub mod Turns
+pub mod Begun
+pub mod PushesLeft
+pub mod Again

@@ -1,4 +1,0 @@
-pub mod FreeCounts
-pub mod FreeList
-pub mod TailCounts
-pub mod Lasting
