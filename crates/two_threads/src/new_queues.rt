@@ -59,8 +59,7 @@ pub fn on_two_lock_queue<R: Threads + Wait + Sync>(
 ///
 /// Refusals: `Memory`, `WornOut`, `Busy`. Takes memory for the queue.
 pub fn met(alloc: Global) -> Result<Option<Taken>, Refusal> {
-    let roles = [Role::Giver, Role::Taker];
-    let (queue, seats) = MsQueue::new(alloc, NODES, LIMIT, &roles)?;
+    let (queue, seats) = MsQueue::new(alloc, NODES, LIMIT, &[Role::Giver, Role::Taker])?;
     match Body::new(MET) {
         Some(body) => hand_over_by_last_seats(&queue, seats, body),
         None => Err(Refusal::BadSize),
