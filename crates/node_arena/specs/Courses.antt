@@ -159,33 +159,37 @@ SeenValuesAreSeen T =
     → sees (line_or_first (after_prologue z.setup (knows me.0.plain).number prologue (knows me.0.plain).actor).line) ≡ true
     → (j : ℕ) (w : Beside T) (v : SeatView) → get_elem? s.views j ≡ some w → w.plain ≡ seated v → IsPrefix w.deeds me'.0.deeds
 
--- two seats become one, and one becomes two
+-- two seats become one
 abbrev pub PairsKeep : Type 0
 PairsKeep = (views : List View) (id other : ℕ) (v w : SeatView) → get_elem? views id ≡ some (seated v) → other ≢ id → get_elem? views other ≡ some (seated w) → Keeps views (slice_set (slice_set views id (paired v w)) other spent)
 
+-- two seats that are one become two
 abbrev pub PartsKeep : Type 0
 PartsKeep = (views : List View) (id : ℕ) (v w : SeatView) → get_elem? views id ≡ some (paired v w) → Keeps views (slice_set views id (seated v) ++ seated w ∷ [])
 
--- a seat is cut from one that knows nothing of it, and a seat is dealt
+-- a token that knows nothing is cut from a seat's
 abbrev pub SparesKeep : Type 0
 SparesKeep = (views : List View) (id : ℕ) (v : SeatView) (x : View) → get_elem? views id ≡ some (seated v) → Keeps views (slice_set views id (seated v) ++ x ∷ [])
 
+-- a seat is dealt
 abbrev pub DealsKeep : Type 0
 DealsKeep = (views : List View) (id n m : ℕ) (x : View) → get_elem? views id ≡ some (keeper n) → Keeps views (slice_set views id (keeper m) ++ x ∷ [])
 
--- a new token comes, and takes in a seat
+-- a new token comes
 abbrev pub OpensKeep : Type 0
 OpensKeep = (views : List View) (x : View) → Keeps views (views ++ x ∷ [])
 
+-- a token that gathers takes in a seat
 abbrev pub GathersKeep : Type 0
 GathersKeep =
     (views : List View) (id other : ℕ) (vs : List SeatView) (w : SeatView) → get_elem? views id ≡ some (gathered vs) → other ≢ id → get_elem? views other ≡ some (seated w)
     → Keeps views (slice_set (slice_set views id (gathered (vs ++ w ∷ []))) other spent)
 
--- one seat, or two that are one, know more
+-- one seat knows more
 abbrev pub LooksKeep : Type 0
 LooksKeep = (views : List View) (id : ℕ) (v v' : SeatView) → get_elem? views id ≡ some (seated v) → v'.number ≡ v.number → IsPrefix v.ran v'.ran → Keeps views (slice_set views id (seated v'))
 
+-- two seats that are one know more
 abbrev pub MeetsKeep : Type 0
 MeetsKeep =
     (views : List View) (id : ℕ) (v w v' w' : SeatView) → get_elem? views id ≡ some (paired v w) → v'.number ≡ v.number → IsPrefix v.ran v'.ran → w'.number ≡ w.number → IsPrefix w.ran w'.ran
