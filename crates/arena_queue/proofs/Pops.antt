@@ -154,6 +154,7 @@ module _ (worn : WornWord → Type 0) where
         slots = takes_then r (value_of word) s t x takes seat g.ready.seat (record {
           same = g.slots.same;
           hand = g.slots.hand;
+          tries = g.slots.tries;
           number =
               g.slots.number;
           more = record { between = g.slots.more.between; deeds = g.slots.more.deeds };

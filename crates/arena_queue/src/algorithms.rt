@@ -4,7 +4,7 @@ ghost use Rattle.line_table.specs.declared.lines.Kind.{Kind as TheKind};
 ghost use Rattle.history.specs.declared.refusals.WornWord.{WornWord as TheWornWord};
 ghost use Rattle.node_arena.specs.Machine.{Held as TheHeld};
 ghost use Rattle.node_arena.specs.Plans.{may_push, may_pop};
-ghost use Rattle.node_arena.specs.Loads.{IsLoaded};
+ghost use Rattle.node_arena.specs.Loads.{IsLoaded, IsBare};
 ghost use Rattle.node_arena.specs.Seats.{IsReady, role_of, pocket_of};
 ghost use Rattle.arena_queue.specs.Answers.{IsOfKind, PushesWithNode, PopsWithoutNode, AnswersShut};
 
@@ -57,6 +57,7 @@ pub trait Algorithm<const B: u32> {
     ) -> Result<Option<Taken>, Refusal>
         requires ready { IsReady arena.now seat.old }
         requires kind { IsOfKind arena.now kind }
+        requires bare { IsBare arena.now seat.old }
         requires role { IsTrue (may_pop (role_of seat.old)) }
         requires empty { pocket_of seat.old ≡ None }
         requires turns { spent < turns }

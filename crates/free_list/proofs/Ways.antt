@@ -90,7 +90,7 @@ leaves r s t p n w f ready =
     record {
       ready = ready;
       same = record { number = w.stored.number; role = w.stored.role; keeps = w.stored.keeps };
-      slots = record { same = w.slots.same; hand = w.slots.hand; number = w.slots.number; more = record { between = w.slots.more.between; deeds = w.slots.more.deeds } };
+      slots = record { same = w.slots.same; hand = w.slots.hand; tries = w.slots.tries; number = w.slots.number; more = record { between = w.slots.more.between; deeds = w.slots.more.deeds } };
       lines = subst (ExtendsPath (view s) (view t)) (sym e) w.walks.walks;
       seen = w.walks.same;
       failed = sym (ap failed_turns e ∙ f);

@@ -27,6 +27,7 @@ pub mod Handing
 pub mod Counting
 pub mod Calls
 pub mod Moved
+pub mod Flags
 pub mod AsMany
 pub mod Vacant
 pub mod Deals

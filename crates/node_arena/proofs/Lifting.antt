@@ -1,7 +1,7 @@
 -- The step of a seat, of which node_arena says that it keeps its rule, also keeps the rule of the slots.
 use Rattle.std.proofs.Common.{◌≡◌, ◌≢◌, ℕ, ◌-◌, ◌<◌, ◌≤◌, Bool, true, false, if◌then◌else◌, Option, Some, List, [], ◌∷◌, ◌++◌, zero, suc, length}
 use Rattle.std.proofs.Common.{get_or, set, slice_get, sym, refl, ap, ◌∙◌, subst, ⊎_elim, arith, append-nil, append_assoc}
-use Rattle.std.proofs.lemmas.List.{length-set}
+use Rattle.std.proofs.lemmas.List.{length-set, set-get_or}
 use mathlib.Core.Option.{some, some-injective, some-ne-none}
 use lib.ListN.{get_elem?}
 use Rattle.atomic_table.specs.Table.{State, Me, keeps, Allows}
@@ -39,14 +39,14 @@ use Rattle.line_steps.specs.Memory.{Found}
 use Rattle.node_arena.specs.Traces.{entries_of}
 use Rattle.node_arena.proofs.Seens.{history_legal}
 use Rattle.node_arena.specs.Deeds.{item, Deed, pushed, popped, closed, Matches}
-use Rattle.node_arena.specs.Slots.{Changes, item_of}
+use Rattle.node_arena.specs.Slots.{Try, Changes, item_of}
 use Rattle.node_arena.specs.ValueHistories.{Rides, number_of}
 use Rattle.node_arena.specs.Beside.{Beside, hand_in, hand_at, home_at, plain_of, plain_state, words_of, flag_at, Begins, CarriedBy, HoldsFor}
-use Rattle.node_arena.specs.Beside.{KnowsValues, KnowsBy, Effect, EffectBy, TellsBeside, LoadedAt}
+use Rattle.node_arena.specs.Beside.{KnowsValues, KnowsBy, Effect, EffectBy, TellsBeside, LoadedAt, with_hand, with_tries}
 use Rattle.node_arena.proofs.Riding.{rides_push, rides_pop, rides_shut, rides_same}
 use Rattle.node_arena.proofs.StepsPreserve.{becomes, one_seat, allows_seated}
 use Rattle.node_arena.proofs.StepsPreserve as landed
-use Rattle.node_arena.proofs.Lifts.{map_set, moved, lift_allows}
+use Rattle.node_arena.proofs.Lifts.{map_set, hand_set, moved, lift_allows, none_hand}
 use Rattle.node_arena.proofs.KnownValues.{knows_values, all_on}
 
 -- what a step adds to the history: nothing, a push by a line that pushes, a pop or a shut
@@ -55,8 +55,13 @@ pushes_at E9 = true
 pushes_at A5 = true
 pushes_at l = false
 
+abbrev pub takes_at : Line → Bool
+takes_at D13 = true
+takes_at B5 = true
+takes_at l = false
+
 abbrev Kinds : (me : ℕ) (a : Actor) (l : Line) → List Entry → Type 0
-Kinds me a l es = (es ≡ []) ⊎ (((pushes_at l ≡ true) × (es ≡ Push me a.val.body ∷ [])) ⊎ ((es ≡ Pop me a.val ∷ []) ⊎ (es ≡ Shut me ∷ [])))
+Kinds me a l es = (es ≡ []) ⊎ (((pushes_at l ≡ true) × (es ≡ Push me a.val.body ∷ [])) ⊎ (((takes_at l ≡ true) × (es ≡ Pop me a.val ∷ [])) ⊎ (es ≡ Shut me ∷ [])))
 
 kinds : (s : Setup) (me : ℕ) (a : Actor) (l : Line) (c : Found (action s me a l)) → Kinds me a l (entries_of s me a l c)
 kinds s me a E9 c = go (same_ref c a.next)
@@ -67,14 +72,14 @@ kinds s me a E9 c = go (same_ref c a.next)
 kinds s me a D13 c = go (same_ref c a.head)
   where
     go : (b : Bool) → Kinds me a D13 (if b then Pop me a.val ∷ [] else [])
-    go true = inr (inr (inl refl))
+    go true = inr (inr (inl (refl, refl)))
     go false = inl refl
 kinds s me a A5 c = go (same_ref c null)
   where
     go : (b : Bool) → Kinds me a A5 (if b then Push me a.val.body ∷ [] else [])
     go true = inr (inl (refl, refl))
     go false = inl refl
-kinds s me a B5 c = inr (inr (inl refl))
+kinds s me a B5 c = inr (inr (inl (refl, refl)))
 kinds s me a S4 c = go (same_ref c a.next)
   where
     go : (b : Bool) → Kinds me a S4 (if b then Shut me ∷ [] else [])
@@ -99,14 +104,14 @@ pub record HoldsBeside {T : Type 0} (z : Layout) (m n : ℕ) (s : State (Option 
   pub known : (j : ℕ) (w : Beside T) → get_elem? s.views j ≡ some w → Begins rides.deeds w
 
 module _ {T : Type 0} (z : Layout) (m n : ℕ) (s : State (Option T) (Beside T)) (H : HoldsBeside z m n s) (count : length s.homes ≡ n) (id : ℕ)
-    (v : SeatView) (ds : List (Deed T)) (hd : maybe.Option ℕ) (os : List (List (Deed T)))
-    (mine : get_elem? s.views id ≡ some (record { plain = seated v; deeds = ds; hand = hd; others = os })) (prologue : Prologue) (l : Line)
+    (v : SeatView) (ds : List (Deed T)) (hd : maybe.Option ℕ) (os : List (List (Deed T))) (ts : List Try)
+    (mine : get_elem? s.views id ≡ some (record { plain = seated v; deeds = ds; hand = hd; others = os; tries = ts })) (prologue : Prologue) (l : Line)
     (can : CanStart prologue v.actor) (line : (after_prologue z.setup v.number prologue v.actor).line ≡ Some l)
     (role : Role) (its : slice_get z.roles (v.number - 1) ≡ Some role) (permits : PermitsLine role l) (x : WordStep)
     (acts : word_step z.setup.bits (action z.setup v.number (after_prologue z.setup v.number prologue v.actor) l) ≡ x)
     (within : place (word_index x) < m) where
   abbrev w : Beside T
-  w = record { plain = seated v; deeds = ds; hand = hd; others = os }
+  w = record { plain = seated v; deeds = ds; hand = hd; others = os; tries = ts }
 
   abbrev s0 : State ℕ View
   s0 = plain_state m s
@@ -152,7 +157,7 @@ module _ {T : Type 0} (z : Layout) (m n : ℕ) (s : State (Option T) (Beside T))
   flags i = get_or-set_other s.words p (m + i) (becomes x (get_or s.words p 0)) 0 (λ e. (let lt = within in omega (arith, e, lt)))
 
   abbrev seat_after : List (Deed T) → maybe.Option ℕ → Beside T
-  seat_after d h = record { plain = seated v'; deeds = if sees l then H.rides.deeds ++ d else ds; hand = h; others = [] }
+  seat_after d h = record { plain = seated v'; deeds = if sees l then H.rides.deeds ++ d else ds; hand = h; others = []; tries = ts }
 
   hands : (d : List (Deed T)) (h : maybe.Option ℕ) → Changes (hand_at s.views) (hand_at (set s.views id (seat_after d h))) id h
   hands d h = (ap hand_in (set_there s.views id w (seat_after d h) mine), λ i ne. ap hand_in (set_else s.views id i (seat_after d h) ne))
@@ -234,7 +239,7 @@ module _ {T : Type 0} (z : Layout) (m n : ℕ) (s : State (Option T) (Beside T))
 
   abbrev Told : (held : List (ℕ × Option T)) (k : ℕ) → Beside T × List (ℕ × Option T) → Type 0
   Told held k o = ((o.0.plain ≡ seated (knows o.0.plain)) × Steps z prologue l k v (knows o.0.plain))
-      × ((fs : List Entry) × ((knows o.0.plain).mine ≡ v.mine ++ fs) × Effect v.number fs w held o.0 o.1)
+      × ((fs : List Entry) × ((knows o.0.plain).mine ≡ v.mine ++ fs) × Effect v.number fs w held o.0 o.1 × (o.0.tries ≡ w.tries))
 
   told0 : Steps z prologue l (get_or s.words p 0) v v'
   told0 = subst (λ (k : ℕ). Steps z prologue l k v v') (get_or-take m s.words p 0 within) (landed.steps_told z s0 H.base id v mine0 prologue l can line role its permits x acts)
@@ -257,7 +262,7 @@ module _ {T : Type 0} (z : Layout) (m n : ℕ) (s : State (Option T) (Beside T))
   stays_put : (held : List (ℕ × Option T)) (d : List (Deed T)) (fs : List Entry) → es ≡ fs → At d hd s.homes fs → Effect v.number fs w held (seat_after d hd) held → Result held
   stays_put held d fs is r effect =
       let r' = subst (At d hd s.homes) (sym is) r in
-      (seat_after d hd, keeps, tt, built d hd s.homes r'.0 r'.1, ((refl, told0), (fs, ap (λ y. v.mine ++ y) is, effect)))
+      (seat_after d hd, keeps, tt, built d hd s.homes r'.0 r'.1, ((refl, told0), (fs, ap (λ y. v.mine ++ y) is, effect, refl)))
 
   by_none : (held : List (ℕ × Option T)) → es ≡ [] → Result held
   by_none held is =
@@ -290,69 +295,72 @@ module _ {T : Type 0} (z : Layout) (m n : ℕ) (s : State (Option T) (Beside T))
         gives,
         tt,
         built d none homes' r'.0 r'.1,
-        ((refl, told0), (Push v.number b ∷ [], ap (λ y. v.mine ++ y) is, (y, refl, refl, refl, (fit.rest, all_seen d (some_entry (Push v.number b) is))))),
+        ((refl, told0), (Push v.number b ∷ [], ap (λ y. v.mine ++ y) is, (y, refl, refl, refl, (fit.rest, all_seen d (some_entry (Push v.number b) is))), refl)),
       )
 
-  by_pop : (held : List (ℕ × Option T)) → es ≡ Pop v.number a.val ∷ [] → Result held
-  by_pop held is =
+  by_pop : (held : List (ℕ × Option T)) → hd ≡ none → es ≡ Pop v.number a.val ∷ [] → Result held
+  by_pop held has_none is =
       let it = rides_pop hist n (flag_at m s.words) (home_at s.homes) (hand_at s.views) v.number H.rides a.val (subst IsQueueRun (ap (λ y. hist ++ y) is) legal) in
       let b = a.val.body in
       let d = popped v.number (item a.val.from it.0) ∷ [] in
       let homes' = set s.homes b none in
-      let r = it.3 (flag_at m words') (home_at homes') (hand_at (set s.views id (seat_after d (some b)))) id flags
+      let r = it.3 (flag_at m words') (home_at homes') (hand_at (set s.views id (seat_after d (some b)))) id (ap hand_in mine ∙ has_none) flags
       (homes s.homes b none (let lt = it.1 in omega (arith, lt, count))) (hands d (some b)) in
       let r' = subst (At d (some b) homes') (sym is) r in (
         seat_after d (some b),
         takes b (Some it.0),
         it.2,
         built d (some b) homes' r'.0 r'.1,
-        ((refl, told0), (Pop v.number a.val ∷ [], ap (λ y. v.mine ++ y) is, (it.0, refl, refl, (fit.rest, all_seen d (some_entry (Pop v.number a.val) is))))),
+        ((refl, told0), (Pop v.number a.val ∷ [], ap (λ y. v.mine ++ y) is, (it.0, refl, refl, (fit.rest, all_seen d (some_entry (Pop v.number a.val) is))), refl)),
       )
 
   -- every line and every form of access: a push gives the slot that the seat holds, a pop takes that of the front
-  pub goes_beside : (held : List (ℕ × Option T)) → (pushes_at l ≡ true → (y : T) × (held ≡ (a.val.body, Some y) ∷ []) × (hd ≡ some a.val.body) × (a.val.body < n)) → Result held
-  goes_beside held ready =
+  pub goes_beside : (held : List (ℕ × Option T)) → (pushes_at l ≡ true → (y : T) × (held ≡ (a.val.body, Some y) ∷ []) × (hd ≡ some a.val.body) × (a.val.body < n))
+      → (takes_at l ≡ true → hd ≡ none) → Result held
+  goes_beside held ready bare =
       ⊎_elim (by_none held)
       (λ k1. ⊎_elim
       (λ (e : (pushes_at l ≡ true) × (es ≡ Push v.number a.val.body ∷ [])). let got = ready e.0 in subst Result (sym got.1) (by_push got.0 got.2 got.3 e.1))
-      (λ k2. ⊎_elim (by_pop held) (by_shut held) k2) k1)
+      (λ k2. ⊎_elim (λ (e : (takes_at l ≡ true) × (es ≡ Pop v.number a.val ∷ [])). by_pop held (bare e.0) e.1) (by_shut held) k2) k1)
       (kinds z.setup v.number a l (found (action z.setup v.number a l) (landed.u z s0 H.base id v mine0 prologue l can line role its permits).world.shared))
+
+-- a view with other tries, and this slot, or none, out with its seat
+abbrev pub handed : {T : Type 0} → Beside T → maybe.Option ℕ → List Try → Beside T
+handed w h ts = with_tries (with_hand w h) ts
 
 -- what a step tells: what node_arena tells, and what became of the slots and of the history of values
 abbrev pub ToldBeside : {T : Type 0} (z : Layout) (prologue : Prologue) (l : Line) (v : SeatView) (w : Beside T) (held : List (ℕ × Option T)) (k : ℕ) → Me (Option T) (Beside T) → Type 0
 ToldBeside z prologue l v w held k o = ((o.0.plain ≡ seated (knows o.0.plain)) × Steps z prologue l k v (knows o.0.plain))
-    × ((fs : List Entry) × ((knows o.0.plain).mine ≡ v.mine ++ fs) × Effect v.number fs w held o.0 o.1)
+    × ((fs : List Entry) × ((knows o.0.plain).mine ≡ v.mine ++ fs) × Effect v.number fs w held o.0 o.1 × (o.0.tries ≡ w.tries))
 
 module _ {T : Type 0} (z : Layout) (m n id : ℕ) where
   -- every step of both queues keeps the rule of the slots
-  pub allows_beside : (v : SeatView) (ds : List (Deed T)) (hd : maybe.Option ℕ) (os : List (List (Deed T))) (prologue : Prologue) (l : Line)
+  pub allows_beside : (v : SeatView) (ds : List (Deed T)) (hd : maybe.Option ℕ) (os : List (List (Deed T))) (ts : List Try) (prologue : Prologue) (l : Line)
       (x : WordStep) (role : Role) → CanStart prologue v.actor → (after_prologue z.setup v.number prologue v.actor).line ≡ Some l
       → slice_get z.roles (v.number - 1) ≡ Some role → PermitsLine role l
       → word_step z.setup.bits (action z.setup v.number (after_prologue z.setup v.number prologue v.actor) l) ≡ x → place (word_index x) < m → (held : List (ℕ × Option T))
       → (pushes_at l ≡ true → (y : T) × (held ≡ ((after_prologue z.setup v.number prologue v.actor).val.body, Some y) ∷ [])
       × (hd ≡ some (after_prologue z.setup v.number prologue v.actor).val.body)
-      × ((after_prologue z.setup v.number prologue v.actor).val.body < n))
-      → Allows {S = Option T} (HoldsBeside z m n) n id (record { plain = seated v; deeds = ds; hand = hd; others = os }, held) (place (word_index x))
-      (becomes x) (ToldBeside z prologue l v (record { plain = seated v; deeds = ds; hand = hd; others = os }) held)
-  allows_beside v ds hd os prologue l x role can line its permits acts within held ready s H count mine small =
-      goes_beside z m n s H count id v ds hd os mine prologue l can line role its permits x acts within held ready
+      × ((after_prologue z.setup v.number prologue v.actor).val.body < n)) → (takes_at l ≡ true → hd ≡ none)
+      → Allows {S = Option T} (HoldsBeside z m n) n id (record { plain = seated v; deeds = ds; hand = hd; others = os; tries = ts }, held) (place (word_index x))
+      (becomes x) (ToldBeside z prologue l v (record { plain = seated v; deeds = ds; hand = hd; others = os; tries = ts }) held)
+  allows_beside v ds hd os ts prologue l x role can line its permits acts within held ready bare s H count mine small =
+      goes_beside z m n s H count id v ds hd os ts mine prologue l can line role its permits x acts within held ready bare
 
   abbrev same_base : (s s' : State (Option T) (Beside T)) → take m s'.words ≡ take m s.words → map plain_of s'.views ≡ map plain_of s.views → Holds z (plain_state m s) → Holds z (plain_state m s')
   same_base s s' words views h = moved z (plain_state m s) (plain_state m s') h words views
 
-  -- a free slot is got, by its flag; or it is busy
-  abbrev pub Gets : (i : ℕ) → Beside T → ℕ → Me (Option T) (Beside T) → Type 0
-  Gets i w k o = (k ≡ 0 → (o.1 ≡ (i, None) ∷ []) × (o.0 ≡ record { plain = w.plain; deeds = w.deeds; hand = some i; others = w.others })) × (k ≢ 0 → o ≡ (w, []))
-
-  pub gets_beside : (w : Beside T) (i : ℕ) → i < n → (s : State (Option T) (Beside T)) (H : HoldsBeside z m n s) → length s.homes ≡ n
+  -- a free slot is got, by its flag
+  pub gets_beside : (w : Beside T) (ts : List Try) (i : ℕ) → i < n → w.hand ≡ none → (s : State (Option T) (Beside T)) (H : HoldsBeside z m n s) → length s.homes ≡ n
       → m + n ≤ length s.words → get_elem? s.views id ≡ some w → get_or s.words (m + i) 0 ≡ 0
-      → (get_elem? s.homes i ≡ some (some None)) × HoldsBeside z m n (stepped s (m + i) 1 id [] (record { plain = w.plain; deeds = w.deeds; hand = some i; others = w.others }) (takes i None))
-  gets_beside w i lt s H count long mine down =
-      let w' : Beside T = record { plain = w.plain; deeds = w.deeds; hand = some i; others = w.others } in
+      → (get_elem? s.homes i ≡ some (some None)) × HoldsBeside z m n (stepped s (m + i) 1 id [] (handed w (some i) ts) (takes i None))
+  gets_beside w ts i lt has_none s H count long mine down =
+      let w' : Beside T = handed w (some i) ts in
       let words' = set s.words (m + i) 1 in
       let homes' = set s.homes i none in
       let r = H.rides in
-      let got = acquires n (flag_at m s.words) (flag_at m words') (home_at s.homes) (home_at homes') (hand_at s.views) (hand_at (set s.views id w')) r.pops id i r.q r.slotted lt down
+      let got = acquires n (flag_at m s.words) (flag_at m words') (home_at s.homes) (home_at homes') (hand_at s.views) (hand_at (set s.views id w'))
+      r.pops id i r.q r.slotted lt down (ap hand_in mine ∙ has_none)
       (get_or-set_same s.words (m + i) 1 0 (omega (arith, lt, long)), λ j ne. get_or-set_other s.words (m + i) (m + j) 1 0 (λ e. ne (omega (arith, e))))
       (set_here s.homes i none (omega (arith, lt, count)), λ j ne. set_else s.homes i j none ne)
       (ap hand_in (set_there s.views id w w' mine), λ j ne. ap hand_in (set_else s.views id j w' ne)) in
@@ -369,12 +377,31 @@ module _ {T : Type 0} (z : Layout) (m n id : ℕ) where
         },
       )
 
+  -- a try that missed: nothing changes but the seat's tries
+  pub misses_beside : (w : Beside T) (ts : List Try) (i : ℕ) (s : State (Option T) (Beside T)) (H : HoldsBeside z m n s) → get_elem? s.views id ≡ some w
+      → HoldsBeside z m n (stepped s (m + i) (get_or s.words (m + i) 0) id [] (with_tries w ts) keeps)
+  misses_beside w ts i s H mine =
+      let w' : Beside T = with_tries w ts in
+      let views : List (Beside T) = set s.views id w' in
+      let r = rides_same H.base.trace.history n (flag_at m s.words) (flag_at m s.words) (home_at s.homes) (hand_at s.views) (hand_at views) H.rides (λ j. refl) (hand_set s.views id w w' mine refl) in
+      let same_views : map plain_of views ≡ map plain_of s.views = map_set plain_of s.views id w' ∙ set_again (map plain_of s.views) id w.plain (at_map plain_of s.views id w mine) in
+      let kept : HoldsBeside z m n (record { words = s.words; homes = s.homes; views = views }) = record {
+        base = same_base s (record { words = s.words; homes = s.homes; views = views }) refl same_views H.base;
+        rides = r.0;
+        known = λ j o at. subst (λ (ds : List (Deed T)). Begins ds o) (sym r.1) (⊎_elim
+            (λ (e : (j ≡ id) × (w' ≡ o)). subst (Begins H.rides.deeds) e.1 (let f = H.known id w mine in let g : Begins H.rides.deeds w' =
+            record { rest = f.rest; begins = f.begins; matches = f.matches; pair = f.pair; others = f.others } in g))
+            (λ (e : (j ≢ id) × (get_elem? s.views j ≡ some o)). H.known j o e.1)
+            (at_set s.views id j w' o at));
+      } in
+      subst (λ (words : List ℕ). HoldsBeside z m n (record { words = words; homes = s.homes; views = views })) (sym (set-get_or s.words (m + i) 0)) kept
+
   -- an empty slot is given back
   pub frees_beside : (w : Beside T) (k : ℕ) → k < n → w.hand ≡ some k → (s : State (Option T) (Beside T)) (H : HoldsBeside z m n s)
       → length s.homes ≡ n → m + n ≤ length s.words → get_elem? s.views id ≡ some w
-      → HoldsBeside z m n (stepped s (m + k) 0 id ((k, None) ∷ []) (record { plain = w.plain; deeds = w.deeds; hand = none; others = w.others }) gives)
+      → HoldsBeside z m n (stepped s (m + k) 0 id ((k, None) ∷ []) (with_hand w none) gives)
   frees_beside w k lt hand s H count long mine =
-      let w' : Beside T = record { plain = w.plain; deeds = w.deeds; hand = none; others = w.others } in
+      let w' : Beside T = with_hand w none in
       let words' = set s.words (m + k) 0 in
       let homes' = set s.homes k (some None) in
       let r = H.rides in
@@ -409,12 +436,18 @@ ready_at z E9 body me loaded carries e = loaded carries
 ready_at z A5 body me loaded carries e = loaded carries
 ready_at z l body me loaded carries e = cc
 
+-- at a line whose step may pop no slot is out
+bare_at : {T : Type 0} (z : Layout) (l : Line) (body : ℕ) (me : Me (Option T) (Beside T)) → LoadedAt l z body me → z.carries ≡ true → takes_at l ≡ true → me.0.hand ≡ none
+bare_at z D13 body me loaded carries e = none_hand me.0.hand (loaded carries).1
+bare_at z B5 body me loaded carries e = none_hand me.0.hand (loaded carries).1
+bare_at z l body me loaded carries e = cc
+
 module _ {T : Type 0} (z : Layout) (slots id : ℕ) (all : z.carries ≡ true → slots ≡ z.setup.size) (v : SeatView) (ds : List (Deed T))
-    (hd : maybe.Option ℕ) (os : List (List (Deed T))) (held : List (ℕ × Option T)) (prologue : Prologue) (l : Line) (x : WordStep) (role : Role)
+    (hd : maybe.Option ℕ) (os : List (List (Deed T))) (ts : List Try) (held : List (ℕ × Option T)) (prologue : Prologue) (l : Line) (x : WordStep) (role : Role)
     (can : CanStart prologue v.actor) (line : (after_prologue z.setup v.number prologue v.actor).line ≡ Some l) (its : slice_get z.roles (v.number - 1) ≡ Some role) (permits : PermitsLine role l)
     (acts : word_step z.setup.bits (action z.setup v.number (after_prologue z.setup v.number prologue v.actor) l) ≡ x) (within : place (word_index x) < words_of z) where
   abbrev before : Me (Option T) (Beside T)
-  before = (record { plain = seated v; deeds = ds; hand = hd; others = os }, held)
+  before = (record { plain = seated v; deeds = ds; hand = hd; others = os; tries = ts }, held)
 
   -- where values are carried
   carrying : z.carries ≡ true → LoadedAt l z (after_prologue z.setup v.number prologue v.actor).val.body before
@@ -428,7 +461,7 @@ module _ {T : Type 0} (z : Layout) (slots id : ℕ) (all : z.carries ≡ true �
       (fit.matches (knows w.plain) is) (λ i e. (after.rides.slotted.out id i (ap hand_in there ∙ e)).0) in
       let c = subst (λ (b : Bool). CarriedBy b z h.base.trace.history s) carries h.values in
       let q = goes_beside z (words_of z) z.setup.size s (record { base = h.base; rides = c.rides; known = c.known }) (count ∙ all carries) id v ds hd
-      os mine prologue l can line role its permits x acts within held (ready_at z l _ before loaded carries) in (
+      os ts mine prologue l can line role its permits x acts within held (ready_at z l _ before loaded carries) (bare_at z l _ before loaded carries) in (
         q.0,
         q.1,
         q.2,
@@ -445,7 +478,7 @@ module _ {T : Type 0} (z : Layout) (slots id : ℕ) (all : z.carries ≡ true �
         },
         (
           (ap (λ y. (y, [])) q.4.0.0, subst (λ (k : Line). Steps z prologue k (get_or s.words (place (word_index x)) 0) v (knows q.0.plain)) (sym (ap line_or_first line)) q.4.0.1),
-          (q.4.1.0, q.4.1.1, subst (λ (b : Bool). EffectBy b v.number q.4.1.0 before (q.0, carried_after held q.1)) (sym carries) q.4.1.2),
+          (q.4.1.0, q.4.1.1, subst (λ (b : Bool). EffectBy b v.number q.4.1.0 before (q.0, carried_after held q.1)) (sym carries) q.4.1.2, q.4.1.3),
           subst (λ (b : Bool). KnowsBy b z (knows q.0.plain).seen q.0) (sym carries) (told_values q.0 q.1 q.3 q.4.0.0 (set_there s.views id before.0 q.0 mine)),
         ),
       )
@@ -470,7 +503,8 @@ module _ {T : Type 0} (z : Layout) (slots id : ℕ) (all : z.carries ≡ true �
             q.4.0.1.mine,
             subst (λ (b : Bool). EffectBy b v.number (entries_at z.setup q.4.0.1.was v.number
                 (after_prologue z.setup v.number prologue v.actor) (line_or_first (after_prologue z.setup v.number prologue v.actor).line)) before
-                (q.0, carried_after held q.1)) (sym carries) q.4.1,
+                (q.0, carried_after held q.1)) (sym carries) (q.4.1.0, q.4.1.1, q.4.1.2),
+            q.4.1.3,
           ),
           subst (λ (b : Bool). KnowsBy b z (knows q.0.plain).seen q.0) (sym carries) tt,
         ),
@@ -495,9 +529,9 @@ pub allows_as : {T : Type 0} (z key : Layout) (slots id : ℕ) (me : Me (Option 
     → Allows {S = Option T} (HoldsFor key) slots id me (place (word_index x)) (becomes x) (λ n m. TellsBeside key prologue me n m)
 allows_as {T} z key slots id me prologue l x role same all is can line its permits acts within loaded =
     let v : SeatView = knows me.0.plain in
-    let at : Me (Option T) (Beside T) = (record { plain = seated v; deeds = me.0.deeds; hand = me.0.hand; others = me.0.others }, me.1) in
-    let back : at ≡ me = (λ i. (record { plain = sym is i; deeds = me.0.deeds; hand = me.0.hand; others = me.0.others }, me.1)) in
+    let at : Me (Option T) (Beside T) = (record { plain = seated v; deeds = me.0.deeds; hand = me.0.hand; others = me.0.others; tries = me.0.tries }, me.1) in
+    let back : at ≡ me = (λ i. (record { plain = sym is i; deeds = me.0.deeds; hand = me.0.hand; others = me.0.others; tries = me.0.tries }, me.1)) in
     let P : Layout × Me (Option T) (Beside T) → Type 0 = λ y. Allows {S = Option T} (HoldsFor y.0) slots id y.1 (place (word_index x)) (becomes x) (λ n m. TellsBeside y.0 prologue y.1 n m) in
     subst P (λ i. (sym same i, back i))
-    (allows_either z slots id (λ c. all ∙ ap (λ (b : Bool). if b then z.setup.size else 0) c) v me.0.deeds me.0.hand me.0.others me.1 prologue l x role can line its permits acts within
+    (allows_either z slots id (λ c. all ∙ ap (λ (b : Bool). if b then z.setup.size else 0) c) v me.0.deeds me.0.hand me.0.others me.0.tries me.1 prologue l x role can line its permits acts within
     (subst (λ (y : Me (Option T) (Beside T)). LoadedAt l z (after_prologue z.setup v.number prologue v.actor).val.body y) (sym back) loaded))

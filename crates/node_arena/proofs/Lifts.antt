@@ -94,7 +94,7 @@ module _ {T : Type 0} (z : Layout) where
   -- a step on a word of the queue
   pub lift_allows : (slots id : ℕ) (w : Beside T) (held : List (ℕ × Option T)) (p : ℕ) (f : ℕ → ℕ) (then : ℕ → Me ℕ View → Type 0) → p < words_of z
       → Allows {S = ℕ} (Holds z) 0 id (w.plain, []) p f then
-      → Allows {S = Option T} (PlainFor z) slots id (w, held) p f (λ n o. then n (o.0.plain, []) × ((o.1 ≡ held) × (o.0.hand ≡ w.hand) × (o.0.deeds ≡ w.deeds)))
+      → Allows {S = Option T} (PlainFor z) slots id (w, held) p f (λ n o. then n (o.0.plain, []) × ((o.1 ≡ held) × (o.0.hand ≡ w.hand) × (o.0.deeds ≡ w.deeds) × (o.0.tries ≡ w.tries)))
   lift_allows slots id w held p f then within allows s h count mine small =
       let m : ℕ = words_of z in
       let same : get_or (take m s.words) p 0 ≡ get_or s.words p 0 = get_or-take m s.words p 0 within in
@@ -105,7 +105,7 @@ module _ {T : Type 0} (z : Layout) where
         tt,
         moved z (stepped (plain_state m s) p (f (get_or (take m s.words) p 0)) id [] q.0 q.1) (plain_state m (stepped s p (f (get_or s.words p 0)) id held w' keeps)) q.3
             (take-set-lt m s.words p (f (get_or s.words p 0)) within ∙ ap (λ (k : ℕ). set (take m s.words) p (f k)) (sym same)) (map_set plain_of s.views id w'),
-        (subst (λ (y : ℕ × List (ℕ × ℕ)). then y.0 (q.0, y.1)) (λ i. (same i, (none_moved q.1 q.2).0 i)) q.4, (refl, refl, refl)),
+        (subst (λ (y : ℕ × List (ℕ × ℕ)). then y.0 (q.0, y.1)) (λ i. (same i, (none_moved q.1 q.2).0 i)) q.4, (refl, refl, refl, refl)),
       )
 
 module _ {T : Type 0} where
@@ -239,14 +239,14 @@ Learns es u = ((v : SeatView) → u ≡ seated v → v.seen ≡ es) × ((v o : S
 module _ {T : Type 0} (key : Layout) (slots id : ℕ) (w : Beside T) (held : List (ℕ × Option T)) (p : ℕ) (told : ℕ → View → Type 0) where
   pub lift_learns : p < words_of key → ((es : List Entry) → Allows {S = ℕ} (HoldsWith key es) 0 id (w.plain, []) p (λ n. n)
       (λ n o. told n o.0 × Learns es o.0)) → Allows {S = Option T} (HoldsFor key) slots id (w, held) p (λ n. n)
-      (λ n o. told n o.0.plain × (o.1 ≡ held) × (o.0.hand ≡ w.hand) × KnowsNow key o.0 × GrowsBy key.carries w o.0)
+      (λ n o. told n o.0.plain × (o.1 ≡ held) × (o.0.hand ≡ w.hand) × KnowsNow key o.0 × GrowsBy key.carries w o.0 × (o.0.tries ≡ w.tries))
   lift_learns within learns s h count mine small =
       let m : ℕ = words_of key in
       let es : List Entry = h.base.trace.history in
       let same : get_or (take m s.words) p 0 ≡ get_or s.words p 0 = get_or-take m s.words p 0 within in
       let q = learns es (plain_state m s) (h.base, refl) refl (at_map plain_of s.views id w mine) (subst (λ (k : ℕ). k < 18446744073709551616) (sym same) small) in
       let words : List ℕ = set s.words p (get_or s.words p 0) in
-      let after : List (Deed T) → Beside T = λ ds. record { plain = q.0; deeds = ds; hand = w.hand; others = [] } in
+      let after : List (Deed T) → Beside T = λ ds. record { plain = q.0; deeds = ds; hand = w.hand; others = []; tries = w.tries } in
       let base : (ds : List (Deed T)) → HoldsWith key es (plain_state m (record { words = words; homes = s.homes; views = set s.views id (after ds) })) = λ ds. (
         moved key (stepped (plain_state m s) p (get_or (take m s.words) p 0) id [] q.0 q.1) (plain_state m (record { words = words; homes = s.homes; views = set s.views id (after ds) })) q.3.0
             (take-set-lt m s.words p (get_or s.words p 0) within ∙ ap (λ (k : ℕ). set (take m s.words) p k) (sym same)) (map_set plain_of s.views id (after ds)),
@@ -254,13 +254,13 @@ module _ {T : Type 0} (key : Layout) (slots id : ℕ) (w : Beside T) (held : Lis
       ) in
       let tells : told (get_or s.words p 0) q.0 = subst (λ (n : ℕ). told n q.0) same q.4.0 in
       let Out : Type 0 = (w' : Beside T) × (a : Act (Option T)) × Valid s.homes held a × HoldsFor key (stepped s p (get_or s.words p 0) id held w' a)
-      × (told (get_or s.words p 0) w'.plain × (carried_after held a ≡ held) × (w'.hand ≡ w.hand) × KnowsNow key w' × GrowsBy key.carries w w') in
+      × (told (get_or s.words p 0) w'.plain × (carried_after held a ≡ held) × (w'.hand ≡ w.hand) × KnowsNow key w' × GrowsBy key.carries w w' × (w'.tries ≡ w.tries)) in
       let plainly : key.carries ≡ false → Out = λ e. (
         after w.deeds,
         keeps,
         tt,
         record { base = (base w.deeds).0; values = subst (λ (b : Bool). CarriedBy b key (base w.deeds).0.trace.history (stepped s p (get_or s.words p 0) id held (after w.deeds) keeps)) (sym e) tt },
-        (tells, refl, refl, subst (λ (b : Bool). KnowsBy b key (knows q.0).seen (after w.deeds)) (sym e) tt, subst (λ (b : Bool). GrowsBy b w (after w.deeds)) (sym e) refl),
+        (tells, refl, refl, subst (λ (b : Bool). KnowsBy b key (knows q.0).seen (after w.deeds)) (sym e) tt, subst (λ (b : Bool). GrowsBy b w (after w.deeds)) (sym e) refl, refl),
       ) in
       let carrying : key.carries ≡ true → Out = λ e.
       let c = subst (λ (b : Bool). CarriedBy b key es s) e h.values in
@@ -294,6 +294,7 @@ module _ {T : Type 0} (key : Layout) (slots id : ℕ) (w : Beside T) (held : Lis
               (subst (λ (x : List Entry). Matches x ds) (sym q.4.1.2) c.rides.matches)
               (λ i k. (c.rides.slotted.out id i (ap hand_in mine ∙ k)).0)),
           subst (λ (b : Bool). GrowsBy b w (after ds)) (sym e) (let f = c.known id w mine in ((f.rest, f.begins), f.others)),
+          refl,
         ),
       ) in
       by_bool plainly carrying

@@ -19,17 +19,17 @@ use Rattle.node_arena.specs.Hands.{HasSlot, AddsOwn}
 use Rattle.node_arena.proofs.Lifts.{none_held}
 use Rattle.node_arena.proofs.Moved.{effect, hand_there}
 use Rattle.node_arena.proofs.Paths.{quiet_slots}
-use Rattle.node_arena.specs.Loads.{IsLoaded, PopsFront, TakesSlot, GivesSlot}
+use Rattle.node_arena.specs.Loads.{IsLoaded, IsBare, PopsFront, TakesSlot, GivesSlot}
 
 -- what is in the pocket has no part in which slots are out
 pub kept_slots : {T : Type 0} (s t : Seat T) (p : Option Held) (n : ℕ) → KeepsSlots s t → KeepsSlots s (keeping t p n)
-kept_slots s t p n k = record { same = k.same; hand = k.hand; number = k.number; more = record { between = k.more.between; deeds = k.more.deeds } }
+kept_slots s t p n k = record { same = k.same; hand = k.hand; tries = k.tries; number = k.number; more = record { between = k.more.between; deeds = k.more.deeds } }
 
 abbrev kept_adds : {T : Type 0} (s t : Seat T) (p : Option Held) (n : ℕ) (d : Deed T) → AddsOwn s t d → AddsOwn s (keeping t p n) d
 kept_adds s t p n d a = record { between = a.between; deeds = a.deeds }
 
 pub kept_gives : {T : Type 0} (r : Arena) (body : ℕ) (s t : Seat T) (p : Option Held) (n : ℕ) → GivesSlot r body s t → GivesSlot r body s (keeping t p n)
-kept_gives r body s t p n gives carried = let e = gives carried in (e.0, (e.1.0, e.1.1, kept_adds s t p n (pushed (view s).number e.1.0) e.1.2))
+kept_gives r body s t p n gives carried = let e = gives carried in (e.0, (e.1.0, e.1.1, kept_adds s t p n (pushed (view s).number e.1.0) e.1.2), e.2)
 
 pub kept_takes : {T : Type 0} (r : Arena) (v : Taken) (s t : Seat T) (p : Option Held) (n : ℕ) → TakesSlot r v s t → TakesSlot r v s (keeping t p n)
 kept_takes r v s t p n takes carried =
@@ -39,6 +39,9 @@ kept_takes r v s t p n takes carried =
 -- over lines that move no slot
 pub still_loaded : {T : Type 0} (r : Arena) (body : ℕ) (s t : Seat T) → KeepsSlots s t → IsLoaded r body s → IsLoaded r body t
 still_loaded r body s t k loaded carried = let l = loaded carried in (l.0, k.same ∙ l.1, k.hand ∙ l.2, l.3)
+
+pub still_bare : {T : Type 0} (r : Arena) (s t : Seat T) → KeepsSlots s t → IsBare r s → IsBare r t
+still_bare r s t k bare carried = let none_out = bare carried in (ap length k.same ∙ none_out.0, ap slots_in k.hand ∙ none_out.1)
 
 -- by another name of the body
 pub loaded_as : {T : Type 0} (r : Arena) (b body : ℕ) (s : Seat T) → b ≡ body → IsLoaded r b s → IsLoaded r body s
@@ -94,17 +97,17 @@ module _ {T : Type 0} (r : Arena) where
       → GivesSlot r body s t
   gives_slot s t prologue l n d me body pushes carried =
       let e = effect r s t prologue l n d carried (Push me body ∷ []) (d.told.mine ∙ ap (λ es. (view s).mine ++ es) pushes) in
-      ((ap length e.2, ap slots_in e.3), (e.0, e.1, record { between = e.4.0; deeds = e.4.1 }))
+      ((ap length e.2, ap slots_in e.3), (e.0, e.1, record { between = e.4.0; deeds = e.4.1 }), d.moves.3)
 
   pub then_gives : (body : ℕ) (s t u : Seat T) → KeepsSlots s t → GivesSlot r body t u → GivesSlot r body s u
   then_gives body s t u k gives carried =
       let e = gives carried in
-      (e.0, (e.1.0, sym k.same ∙ e.1.1, then_adds s t u (pushed (view t).number e.1.0) (pushed (view s).number e.1.0) (ap (λ n. pushed n e.1.0) k.number) k e.1.2))
+      (e.0, (e.1.0, sym k.same ∙ e.1.1, then_adds s t u (pushed (view t).number e.1.0) (pushed (view s).number e.1.0) (ap (λ n. pushed n e.1.0) k.number) k e.1.2), e.2 ∙ k.tries)
 
   pub gives_then : (body : ℕ) (s t u : Seat T) → GivesSlot r body s t → IsSeat r t → IsSeat r u → KeepsSlots t u → (view u).seen ≡ (view t).seen → GivesSlot r body s u
   gives_then body s t u gives it iu k same carried =
       let e = gives carried in
-      ((ap length k.same ∙ e.0.0, ap slots_in k.hand ∙ e.0.1), (e.1.0, e.1.1, adds_then s t u (pushed (view s).number e.1.0) e.1.2 (same_deeds t u it iu carried k same)))
+      ((ap length k.same ∙ e.0.0, ap slots_in k.hand ∙ e.0.1), (e.1.0, e.1.1, adds_then s t u (pushed (view s).number e.1.0) e.1.2 (same_deeds t u it iu carried k same)), k.tries ∙ e.2)
 
   -- a line that pops takes the slot that its number names
   pub takes_slot : (s t : Seat T) (prologue : Prologue) (l : Line) (n : ℕ) (d : DidStep r s t prologue l n) (me : ℕ) (v : Taken)
@@ -165,8 +168,9 @@ shut_slots {T} r s t prologue l n d me true adds =
     go true e = record {
       same = e.0;
       hand = e.1;
+      tries = d.moves.3;
       number = d.told.number;
       more =
           record { between = e.2.0 ++ closed (view s).number ∷ []; deeds = e.2.1 ∙ append_assoc (deeds_of s) e.2.0 (closed (view s).number ∷ []) };
     }
-    go false e = record { same = e.0; hand = e.1; number = d.told.number; more = record { between = []; deeds = e.2 ∙ sym (append-nil (deeds_of s)) } }
+    go false e = record { same = e.0; hand = e.1; tries = d.moves.3; number = d.told.number; more = record { between = []; deeds = e.2 ∙ sym (append-nil (deeds_of s)) } }

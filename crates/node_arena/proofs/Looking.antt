@@ -47,7 +47,7 @@ abbrev pub LooksTold : Layout → (p : ℕ) → View → ℕ → View → Type 0
 LooksTold z p u n u' = (u' ≡ seated (knows u')) × LooksIn z p n (knows u) (knows u')
 
 abbrev pub LooksBeside : {T : Type 0} → Layout → (p : ℕ) → Me (Option T) (Beside T) → ℕ → Me (Option T) (Beside T) → Type 0
-LooksBeside z p me n me' = LooksTold z p me.0.plain n me'.0.plain × (me'.1 ≡ me.1) × (me'.0.hand ≡ me.0.hand) × KnowsNow z me'.0 × GrowsBy z.carries me.0 me'.0
+LooksBeside z p me n me' = LooksTold z p me.0.plain n me'.0.plain × (me'.1 ≡ me.1) × (me'.0.hand ≡ me.0.hand) × KnowsNow z me'.0 × GrowsBy z.carries me.0 me'.0 × (me'.0.tries ≡ me.0.tries)
 
 -- a load of a place by a seat that may rest: it has then seen the whole history
 looks : (z : Layout) (es : List Entry) (id p : ℕ) (v : SeatView) → (at_rest v.actor).line ≡ None
@@ -131,6 +131,12 @@ looked r s t word p n i less at h =
           (ap (λ (v : SeatView). v.actor) told.knows) (ap (λ (v : SeatView). v.mine) told.knows) told.fits;
       stored = record { number = refl; role = refl; keeps = refl; pocket = refl; failed = refl };
       told = record { was = told.was; reached = told.reached; setup = told.setup; held = told.held word (sym at) less; rest = told.rest; begins = told.begins; ran = told.ran; run = told.run; knows = told.knows };
-      slots = record { same = h.2.1; hand = h.2.2; number = ap (λ (v : SeatView). v.number) told.knows; more = sees_more s (record s { token = t }) r.key.carries h.2.4 };
+      slots = record {
+        same = h.2.1;
+        hand = h.2.2;
+        tries = h.2.5;
+        number = ap (λ (v : SeatView). v.number) told.knows;
+        more = sees_more s (record s { token = t }) r.key.carries h.2.4;
+      };
       values = λ c. let g = subst (λ (b : Bool). GrowsBy b s.token.me.0 t.me.0) (ap (λ (z : Layout). z.carries) i.seat.arena.key ∙ c) h.2.4 in record { between = g.0.0; deeds = g.0.1 };
     }

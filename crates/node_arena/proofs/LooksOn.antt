@@ -10,7 +10,7 @@ module _ {T : Type 0} where
   more_on s t u a b = record { between = a.between ++ b.between; deeds = b.deeds ∙ ap (λ ds. ds ++ b.between) a.deeds ∙ append_assoc (deeds_of s) a.between b.between }
 
   keeps_on : (s t u : Seat T) → KeepsSlots s t → KeepsSlots t u → KeepsSlots s u
-  keeps_on s t u a b = record { same = b.same ∙ a.same; hand = b.hand ∙ a.hand; number = b.number ∙ a.number; more = more_on s t u a.more b.more }
+  keeps_on s t u a b = record { same = b.same ∙ a.same; hand = b.hand ∙ a.hand; tries = b.tries ∙ a.tries; number = b.number ∙ a.number; more = more_on s t u a.more b.more }
 
   module _ (r : Arena) (s0 s1 s2 s3 : Seat T) (w0 w1 w2 n0 n1 n2 : ℕ) (a : Looks r s0 s1 w0 n0) (b : Looks r s1 s2 w1 n1) (c : Looks r s2 s3 w2 n2) where
     -- three looks

@@ -269,7 +269,7 @@ module _ {T : Type 0} (key : Layout) (id : ℕ) (me : Me (Option T) (Beside T)) 
       × (k.all ≡ es))) (sym is) (meets key es id v w vf wf) (plain_state m s) (h.base, refl) refl (at_map plain_of s.views id me.0 mine)
       (subst (λ (k : ℕ). k < 18446744073709551616) (sym same) small) in
       let words : List ℕ = set s.words 0 (get_or s.words 0 0) in
-      let after : List (Deed T) → Beside T = λ ds. record { plain = q.0; deeds = ds; hand = me.0.hand; others = [] } in
+      let after : List (Deed T) → Beside T = λ ds. record { plain = q.0; deeds = ds; hand = me.0.hand; others = []; tries = me.0.tries } in
       let base : (ds : List (Deed T)) → HoldsWith key es (plain_state m (record { words = words; homes = s.homes; views = set s.views id (after ds) })) = λ ds. (
         moved key (stepped (plain_state m s) 0 (get_or (take m s.words) 0 0) id [] q.0 q.1) (plain_state m (record { words = words; homes = s.homes; views = set s.views id (after ds) })) q.3.0
             (take-set-lt m s.words 0 (get_or s.words 0 0) (omega arith) ∙ ap (λ (k : ℕ). set (take m s.words) 0 k) (sym same)) (map_set plain_of s.views id (after ds)),

@@ -43,7 +43,7 @@ module _ {T : Type 0} (r : Arena) (s t : Seat T) (prologue : Prologue) (l : Line
 
   -- a step that added nothing moved no slot
   pub moved_nothing : (view t).mine ≡ (view s).mine ++ [] → KeepsSlots s t
-  moved_nothing is = let e = effect [] is in record { same = e.0; hand = e.1; number = did.told.number; more = record { between = e.2.0; deeds = e.2.1 } }
+  moved_nothing is = let e = effect [] is in record { same = e.0; hand = e.1; tries = did.moves.3; number = did.told.number; more = record { between = e.2.0; deeds = e.2.1 } }
 
   -- a push gave the slot of its body, in which the value lay
   pub moved_push : (me b : ℕ) (x : T) → (view t).mine ≡ (view s).mine ++ Push me b ∷ [] → HasSlot r s b (Some x) → HasNoSlot t × AddsOwn s t (pushed (view s).number x)
@@ -82,6 +82,7 @@ module _ {T : Type 0} (r : Arena) (s t : Seat T) (prologue : Prologue) (l : Line
         record {
           same = e.0;
           hand = e.1;
+          tries = did.moves.3;
           number = did.told.number;
           more = record {
             between = e.2.0 ++ closed (view s).number ∷ [];

@@ -106,12 +106,13 @@ then_stored s t u f g = record { number = g.number ∙ f.number; role = g.role �
 
 -- the slots that are out with a seat, over two lines, and over a line that adds nothing
 pub no_slots : {T : Type 0} (s : Seat T) → KeepsSlots s s
-no_slots s = record { same = refl; hand = refl; number = refl; more = record { between = []; deeds = sym (append-nil (deeds_of s)) } }
+no_slots s = record { same = refl; hand = refl; tries = refl; number = refl; more = record { between = []; deeds = sym (append-nil (deeds_of s)) } }
 
 pub then_slots : {T : Type 0} (s t u : Seat T) → KeepsSlots s t → KeepsSlots t u → KeepsSlots s u
 then_slots s t u f g = record {
   same = g.same ∙ f.same;
   hand = g.hand ∙ f.hand;
+  tries = g.tries ∙ f.tries;
   number = g.number ∙ f.number;
   more = record { between = f.more.between ++ g.more.between; deeds = g.more.deeds ∙ (ap (λ ds. ds ++ g.more.between) f.more.deeds ∙ append_assoc (deeds_of s) f.more.between g.more.between) };
 }
@@ -127,8 +128,8 @@ quiet_slots {T} r s t prologue l n d none =
     go r.plan.carries (subst (λ (es : List Entry). EffectBy r.plan.carries (view s).number es s.token.me t.token.me) (nothing_added (view s).mine d.moves.0 same) d.moves.2)
   where
     go : (b : Bool) → EffectBy b (view s).number [] s.token.me t.token.me → KeepsSlots s t
-    go true e = record { same = e.0; hand = e.1; number = d.told.number; more = record { between = e.2.0; deeds = e.2.1 } }
-    go false e = record { same = e.0; hand = e.1; number = d.told.number; more = record { between = []; deeds = e.2 ∙ sym (append-nil (deeds_of s)) } }
+    go true e = record { same = e.0; hand = e.1; tries = d.moves.3; number = d.told.number; more = record { between = e.2.0; deeds = e.2.1 } }
+    go false e = record { same = e.0; hand = e.1; tries = d.moves.3; number = d.told.number; more = record { between = []; deeds = e.2 ∙ sym (append-nil (deeds_of s)) } }
 
 -- what a seat's path has more is what was added
 pub added_path : {T : Type 0} (s t : Seat T) (es : List Event) → (view t).path ≡ (view s).path ++ es → added s t ≡ es

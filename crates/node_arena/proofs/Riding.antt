@@ -151,7 +151,8 @@ module _ {T : Type 0} where
   pub rides_pop : (history : List Entry) (n : ℕ) (flag : ℕ → ℕ) (home : ℕ → Home T) (hand : ℕ → maybe.Option ℕ) (me : ℕ)
       (r : Rides history n flag home hand) (t : Taken) → IsQueueRun (history ++ Pop me t ∷ [])
       → (x : T) × (t.body < n) × (home t.body ≡ some (some (Some x)))
-      × ((flag' : ℕ → ℕ) (home' : ℕ → Home T) (hand' : ℕ → maybe.Option ℕ) (id : ℕ) → ((i : ℕ) → flag' i ≡ flag i) → Changes home home' t.body (some none) → Changes hand hand' id (some t.body)
+      × ((flag' : ℕ → ℕ) (home' : ℕ → Home T) (hand' : ℕ → maybe.Option ℕ) (id : ℕ) → hand id ≡ none → ((i : ℕ) → flag' i ≡ flag i)
+      → Changes home home' t.body (some none) → Changes hand hand' id (some t.body)
       → (r' : Rides (history ++ Pop me t ∷ []) n flag' home' hand') × (r'.deeds ≡ r.deeds ++ popped me (item t.from x) ∷ []))
   rides_pop history n flag home hand me r t run =
       let vs = map number_of r.q in
@@ -160,7 +161,8 @@ module _ {T : Type 0} where
       let it = split_front r.q t front.0 front.1 in
       let l = it.0 in
       let P : Taken → Type 0 = λ u. (x : T) × (u.body < n) × (home u.body ≡ some (some (Some x)))
-      × ((flag' : ℕ → ℕ) (home' : ℕ → Home T) (hand' : ℕ → maybe.Option ℕ) (id : ℕ) → ((i : ℕ) → flag' i ≡ flag i) → Changes home home' u.body (some none) → Changes hand hand' id (some u.body)
+      × ((flag' : ℕ → ℕ) (home' : ℕ → Home T) (hand' : ℕ → maybe.Option ℕ) (id : ℕ) → hand id ≡ none → ((i : ℕ) → flag' i ≡ flag i)
+      → Changes home home' u.body (some none) → Changes hand hand' id (some u.body)
       → (r' : Rides (history ++ Pop me u ∷ []) n flag' home' hand') × (r'.deeds ≡ r.deeds ++ popped me (item u.from x) ∷ [])) in
       let leads = subst (λ (y : List (Lying T)). Leads history r.shut (map number_of y)) it.2 r.leads in
       let runs = subst (λ (y : List (Lying T)). Runs [] false r.deeds (map item_of y) r.shut) it.2 r.runs in
@@ -170,7 +172,7 @@ module _ {T : Type 0} where
         l.value,
         lies.0,
         lies.2,
-        λ flag' home' hand' id flags homes hands. (
+        λ flag' home' hand' id has_none flags homes hands. (
           record {
             deeds = r.deeds ++ popped me (item_of l) ∷ [];
             q = it.1;
@@ -179,7 +181,7 @@ module _ {T : Type 0} where
             leads = plays_then empty (queue_of (map number_of (l ∷ it.1)) r.shut) (queue_of (map number_of it.1) r.shut) history (Pop me (number_of l) ∷ []) leads (refl, refl);
             runs = runs_pop [] false r.deeds (map item_of it.1) r.shut me (item_of l) runs;
             matches = matches_on history (Pop me (number_of l) ∷ []) r.deeds (popped me (item_of l) ∷ []) r.matches (refl, refl, tt);
-            slotted = (pops_front n flag flag' home home' hand hand' r.pops id l.slot it.1 l.from l.value slotted flags homes hands).2;
+            slotted = (pops_front n flag flag' home home' hand hand' r.pops id l.slot it.1 l.from l.value slotted has_none flags homes hands).2;
           },
           refl,
         ),

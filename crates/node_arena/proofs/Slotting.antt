@@ -5,7 +5,7 @@ use mathlib.Core.Option as maybe
 use mathlib.Core.Logic.{dite}
 use native.Mathlib.Decide.{ℕ_discrete}
 use lib.ListN.{get_elem?}
-use Rattle.node_arena.specs.Slots.{Lying, Place, free, queued, held, Home, Stands, Slotted, Changes}
+use Rattle.node_arena.specs.Slots.{Lying, Place, free, queued, held, Home, Stands, Slotted, IsNamed, Changes}
 
 -- by cases on whether two numbers are one
 split : {P : Type 0} (i k : ℕ) → (i ≡ k → P) → (¬ (i ≡ k) → P) → P
@@ -76,6 +76,16 @@ at_back [] a b (suc m) e = absurd (some-ne-none b (sym e))
 at_back (x ∷ xs) a b zero e = inl e
 at_back (x ∷ xs) a b (suc m) e = ⊎_elim (λ h. inl h) (λ h. inr (ap suc h.0, h.1)) (at_back xs a b m e)
 
+-- an element stays where others follow
+pub at_first : {A : Type 0} (l : List A) (a b : A) (m : ℕ) → get_elem? l m ≡ some b → get_elem? (l ++ a ∷ []) m ≡ some b
+at_first [] a b m e = absurd (some-ne-none b (sym e))
+at_first (x ∷ xs) a b zero e = e
+at_first (x ∷ xs) a b (suc m) e = at_first xs a b m e
+
+pub at_last : {A : Type 0} (l : List A) (a : A) → get_elem? (l ++ a ∷ []) (length l) ≡ some a
+at_last [] a = refl
+at_last (x ∷ xs) a = at_last xs a
+
 module _ {T : Type 0} (n : ℕ) (flag flag' : ℕ → ℕ) (home home' : ℕ → Home T) (hand hand' : ℕ → maybe.Option ℕ) (pops id k : ℕ) where
   -- all slots but one stand as before
   stand : (q : List (Lying T)) (s : Slotted n flag home hand pops q) (p : Place) (to : Moves s.place k p) → ((i : ℕ) → ¬ (i ≡ k) → flag' i ≡ flag i) → ((i : ℕ) → ¬ (i ≡ k) → home' i ≡ home i)
@@ -85,10 +95,15 @@ module _ {T : Type 0} (n : ℕ) (flag flag' : ℕ → ℕ) (home home' : ℕ →
       (λ e. subst (λ (j : ℕ). Stands (flag' j) (home' j) (to.to j)) (sym e) (subst (λ r. Stands (flag' k) (home' k) r) (sym to.here) here))
       (λ ne. let P : ℕ × Home T × Place → Type 0 = λ y. Stands y.0 y.1 y.2 in subst P (λ d. (sym (flags i ne) d, sym (homes i ne) d, sym (to.aside i ne) d)) (s.stands i lt))
 
+  -- who has another slot than this seat has it still
+  still_out : (i : ℕ) → ¬ (hand id ≡ some i) → ((j : ℕ) → ¬ (j ≡ id) → hand' j ≡ hand j) → (j : ℕ) × (hand j ≡ some i) → (j : ℕ) × (hand' j ≡ some i)
+  still_out i apart hands has = (has.0, hands has.0 (λ e. apart (sym (ap hand e) ∙ has.1)) ∙ has.1)
+
   -- a slot that is free goes to a seat
-  pub acquires : (q : List (Lying T)) → Slotted n flag home hand pops q → k < n → flag k ≡ 0 → Changes flag flag' k 1 → Changes home home' k (some none) → Changes hand hand' id (some k)
+  pub acquires : (q : List (Lying T)) → Slotted n flag home hand pops q → k < n → flag k ≡ 0 → hand id ≡ none
+      → Changes flag flag' k 1 → Changes home home' k (some none) → Changes hand hand' id (some k)
       → (home k ≡ some (some None)) × Slotted n flag' home' hand' pops q
-  acquires q s lt down flags homes hands =
+  acquires q s lt down empty flags homes hands =
       let was = free_by (flag k) (home k) (s.place k) (s.stands k lt) down in
       let to = moves s.place k (held id) in
       let apart : (l : Lying T) (p : ℕ) → s.place l.slot ≡ queued p → ¬ (l.slot ≡ k) = λ l p at e. queued_free p (sym at ∙ (ap s.place e ∙ was.0)) in (
@@ -100,6 +115,9 @@ module _ {T : Type 0} (n : ℕ) (flag flag' : ℕ → ℕ) (home home' : ℕ →
           out = λ j i e. split j id
               (λ same. let it : k ≡ i = some-injective k i (sym hands.0 ∙ (sym (ap hand' same) ∙ e)) in (subst (λ (x : ℕ). x < n) it lt, ap to.to (sym it) ∙ (to.here ∙ ap held (sym same))))
               (λ ne. let t = s.out j i (sym (hands.1 j ne) ∙ e) in (t.0, to.aside i (λ same. held_free j (sym t.1 ∙ (ap s.place same ∙ was.0))) ∙ t.1));
+          why = λ i there up. split i k
+              (λ e. inl (id, hands.0 ∙ ap some (sym e)))
+              (λ ne. ⊎_elim (λ (h : (j : ℕ) × (hand j ≡ some i)). inl (still_out i (λ e. some-ne-none i (sym e ∙ empty)) hands.1 h)) (λ h. inr h) (s.why i there (λ e. up (flags.1 i ne ∙ e))));
         },
       )
 
@@ -117,6 +135,9 @@ module _ {T : Type 0} (n : ℕ) (flag flag' : ℕ → ℕ) (home home' : ℕ →
         out = λ j i e. split j id
             (λ same. absurd (some-ne-none i (sym e ∙ (ap hand' same ∙ hands.0))))
             (λ ne. let t = s.out j i (sym (hands.1 j ne) ∙ e) in (t.0, to.aside i (λ same. ne (held_same j id (sym t.1 ∙ (ap s.place same ∙ was.1)))) ∙ t.1));
+        why = λ i there up. split i k
+            (λ e. absurd (up (ap flag' e ∙ flags.0)))
+            (λ ne. ⊎_elim (λ (h : (j : ℕ) × (hand j ≡ some i)). inl (still_out i (λ e. ne (some-injective i k (sym e ∙ mine))) hands.1 h)) (λ h. inr h) (s.why i there (λ e. up (flags.1 i ne ∙ e))));
       }
 
   -- a push: the seat's slot, with the value, comes home and lies at the back
@@ -141,13 +162,18 @@ module _ {T : Type 0} (n : ℕ) (flag flag' : ℕ → ℕ) (home home' : ℕ →
         out = λ j i e. split j id
             (λ same. absurd (some-ne-none i (sym e ∙ (ap hand' same ∙ hands.0))))
             (λ ne. let t = s.out j i (sym (hands.1 j ne) ∙ e) in (t.0, to.aside i (λ same. ne (held_same j id (sym t.1 ∙ (ap s.place same ∙ was.1)))) ∙ t.1));
+        why = λ i there raised. split i k
+            (λ e. inr (length q, new, at_last q new, sym e))
+            (λ ne. ⊎_elim (λ (h : (j : ℕ) × (hand j ≡ some i)). inl (still_out i (λ e. ne (some-injective i k (sym e ∙ mine))) hands.1 h))
+            (λ (h : (m : ℕ) × (l : Lying T) × (get_elem? q m ≡ some l) × (l.slot ≡ i)). inr (h.0, h.1, at_first q new h.1 h.0 h.2, h.3))
+            (s.why i there (λ e. raised (flags i ∙ e))));
       }
 
   -- a pop: the slot at the front goes to the seat, with the value that was pushed
   pub pops_front : (q : List (Lying T)) (from : ℕ) (x : T) → Slotted n flag home hand pops (record { from = from; slot = k; value = x } ∷ q)
-      → ((i : ℕ) → flag' i ≡ flag i) → Changes home home' k (some none) → Changes hand hand' id (some k)
+      → hand id ≡ none → ((i : ℕ) → flag' i ≡ flag i) → Changes home home' k (some none) → Changes hand hand' id (some k)
       → (k < n) × (home k ≡ some (some (Some x))) × Slotted n flag' home' hand' (suc pops) q
-  pops_front q from x s flags homes hands =
+  pops_front q from x s empty flags homes hands =
       let front : Lying T = record { from = from; slot = k; value = x } in
       let was = s.lies 0 front refl in
       let to = moves s.place k (held id) in
@@ -163,5 +189,14 @@ module _ {T : Type 0} (n : ℕ) (flag flag' : ℕ → ℕ) (home home' : ℕ →
           out = λ j i e. split j id
               (λ same. let it : k ≡ i = some-injective k i (sym hands.0 ∙ (sym (ap hand' same) ∙ e)) in (subst (λ (y : ℕ). y < n) it was.0, ap to.to (sym it) ∙ (to.here ∙ ap held (sym same))))
               (λ ne. let t = s.out j i (sym (hands.1 j ne) ∙ e) in (t.0, to.aside i (λ same. queued_held (pops + 0) j (sym was.1 ∙ (ap s.place (sym same) ∙ t.1))) ∙ t.1));
+          why = λ i there raised. split i k
+              (λ e. inl (id, hands.0 ∙ ap some (sym e)))
+              (λ ne. ⊎_elim (λ (h : (j : ℕ) × (hand j ≡ some i)). inl (still_out i (λ e. some-ne-none i (sym e ∙ empty)) hands.1 h))
+              (λ (h : (m : ℕ) × (l : Lying T) × (get_elem? (front ∷ q) m ≡ some l) × (l.slot ≡ i)). later i ne h.0 h.1 h.2 h.3)
+              (s.why i there (λ e. raised (flags i ∙ e))));
         },
       )
+    where
+      later : (i : ℕ) → ¬ (i ≡ k) → (m : ℕ) (l : Lying T) → get_elem? (record { from = from; slot = k; value = x } ∷ q) m ≡ some l → l.slot ≡ i → IsNamed hand' q i
+      later i ne zero l got is = absurd (ne (sym is ∙ ap (λ (y : Lying T). y.slot) (sym (some-injective (record { from = from; slot = k; value = x }) l got))))
+      later i ne (suc m) l got is = inr (m, l, got, is)

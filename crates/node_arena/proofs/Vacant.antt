@@ -55,6 +55,7 @@ lift_vacant T z words carries long down h nothing = record {
         stands = λ i lt. (down i, empties T z z.setup.size i lt);
         lies = λ m l at. absurd (some-ne-none l (sym at));
         out = λ j i e. absurd (no_hand T z j i e);
+        why = λ i lt up. absurd (up (down i));
       };
     };
     known = one_view T z;

@@ -6,7 +6,7 @@ use mathlib.Core.Option as maybe
 use lib.ListN.{get_elem?}
 use Rattle.atomic_table.specs.Table.{State, Me}
 use Rattle.line_table.specs.declared.lines.Line.{Line}
-use Rattle.line_table.specs.declared.lines.Line.TheVariants.{E9, A5}
+use Rattle.line_table.specs.declared.lines.Line.TheVariants.{E9, A5, D13, B5}
 use Rattle.history.specs.declared.operations.Entry.{Entry}
 use Rattle.history.specs.declared.operations.Entry.TheVariants.{Push, Pop, Shut}
 use Rattle.node_arena.specs.Knowledge.{SeatView, View, keeper, seated, paired, spent, dealt_left, dealt_right, both_of, first_of, second_of, knows, knows_second}
@@ -14,16 +14,17 @@ use Rattle.node_arena.specs.Plans.{Layout}
 use Rattle.node_arena.specs.Prologues.{Prologue}
 use Rattle.node_arena.specs.Rule.{Holds, Tells, Met, Opens}
 use Rattle.node_arena.specs.Deeds.{Item, item, Deed, pushed, popped, closed, Runs, Matches}
-use Rattle.node_arena.specs.Slots.{Home}
+use Rattle.node_arena.specs.Slots.{Home, Try}
 use Rattle.node_arena.specs.ValueHistories.{Rides}
 
--- what a seat knows of its queue, a beginning of the history of values, the slot that is out with it, and what seats that it
--- took in had seen of that history
+-- what a seat knows of its queue, a beginning of the history of values, the slot that is out with it, what seats that it took in
+-- had seen of that history, and its tries at the flags of slots
 pub record Beside (T : Type 0) : Type 0 where
   pub plain : View
   pub deeds : List (Deed T)
   pub hand : maybe.Option ℕ
   pub others : List (List (Deed T))
+  pub tries : List Try
 
 -- the words of the queue, which lie first in the table, before a flag for each slot
 abbrev pub words_of : Layout → ℕ
@@ -112,7 +113,7 @@ KnowsBy false z seen w = Unit {0}
 module _ {T : Type 0} where
   -- what is known of the queue, where nothing is known of values
   abbrev pub alone : View → Beside T
-  alone v = record { plain = v; deeds = []; hand = none; others = [] }
+  alone v = record { plain = v; deeds = []; hand = none; others = []; tries = [] }
 
   -- the first view deals number 1 first
   abbrev pub first_beside : Layout → Beside T
@@ -120,7 +121,7 @@ module _ {T : Type 0} where
 
   -- a view that goes on with the same values
   abbrev pub onward : (View → View) → Beside T → Beside T
-  onward f w = record { plain = f w.plain; deeds = w.deeds; hand = w.hand; others = w.others }
+  onward f w = record { plain = f w.plain; deeds = w.deeds; hand = w.hand; others = w.others; tries = w.tries }
 
   -- the arena's own token once it dealt a seat
   abbrev pub left_dealt : Beside T → Beside T
@@ -140,7 +141,7 @@ module _ {T : Type 0} where
 
   -- two seats become one; one that gathers takes in a seat that is closed
   abbrev pub both_beside : Beside T → Beside T → Beside T
-  both_beside a b = record { plain = both_of a.plain b.plain; deeds = a.deeds; hand = a.hand; others = b.deeds ∷ a.others }
+  both_beside a b = record { plain = both_of a.plain b.plain; deeds = a.deeds; hand = a.hand; others = b.deeds ∷ a.others; tries = a.tries }
 
   -- the first of two seats that were one
   abbrev pub first_beside_of : Beside T → Beside T
@@ -148,11 +149,19 @@ module _ {T : Type 0} where
 
   -- the second of them
   abbrev pub second_beside_of : Beside T → Beside T
-  second_beside_of w = record { plain = second_of w.plain; deeds = w.deeds; hand = none; others = [] }
+  second_beside_of w = record { plain = second_of w.plain; deeds = w.deeds; hand = none; others = []; tries = [] }
 
   -- a view that goes on, but with this slot out with its seat
   abbrev pub with_hand : Beside T → maybe.Option ℕ → Beside T
-  with_hand w h = record { plain = w.plain; deeds = w.deeds; hand = h; others = w.others }
+  with_hand w h = record { plain = w.plain; deeds = w.deeds; hand = h; others = w.others; tries = w.tries }
+
+  -- a view that goes on, but with these tries
+  abbrev pub with_tries : Beside T → List Try → Beside T
+  with_tries w ts = record { plain = w.plain; deeds = w.deeds; hand = w.hand; others = w.others; tries = ts }
+
+  -- the tries of a view, and one more
+  abbrev pub one_more_try : Beside T → (slot found : ℕ) → List Try
+  one_more_try w slot found = w.tries ++ record { slot = slot; found = found } ∷ []
 
   -- a new token gathers, and has taken in none
   abbrev pub OpensBeside : Me (Option T) (Beside T) → Type 0
@@ -172,9 +181,9 @@ module _ {T : Type 0} where
   EffectBy true n es me me' = Effect n es me.0 me.1 me'.0 me'.1
   EffectBy false n es me me' = (me'.1 ≡ me.1) × (me'.0.hand ≡ me.0.hand) × (me'.0.deeds ≡ me.0.deeds)
 
-  -- a step moved the slots that belong to what it added to the seat's own entries
+  -- a step moved the slots that belong to what it added to the seat's own entries, and tried none
   abbrev pub Moves : Layout → Me (Option T) (Beside T) → Me (Option T) (Beside T) → Type 0
-  Moves z me me' = (es : List Entry) × ((knows me'.0.plain).mine ≡ (knows me.0.plain).mine ++ es) × EffectBy z.carries (knows me.0.plain).number es me me'
+  Moves z me me' = (es : List Entry) × ((knows me'.0.plain).mine ≡ (knows me.0.plain).mine ++ es) × EffectBy z.carries (knows me.0.plain).number es me me' × (me'.0.tries ≡ me.0.tries)
 
   -- what a seat knows of values is so, by what it has then seen
   abbrev pub KnowsNow : Layout → Beside T → Type 0
@@ -205,8 +214,10 @@ module _ {T : Type 0} where
   abbrev pub HasLoaded : Layout → (body : ℕ) → Me (Option T) (Beside T) → Type 0
   HasLoaded z body me = z.carries ≡ true → (x : T) × (me.1 ≡ (body, Some x) ∷ []) × (me.0.hand ≡ some body) × (body < z.setup.size)
 
-  -- where values are carried, the slot of what a line may push is out with the seat, with a value in it
+  -- where values are carried, the slot of what a line may push is out with the seat, with a value in it; where it may pop, none is
   abbrev pub LoadedAt : Line → Layout → (body : ℕ) → Me (Option T) (Beside T) → Type 0
   LoadedAt E9 z body me = HasLoaded z body me
   LoadedAt A5 z body me = HasLoaded z body me
+  LoadedAt D13 z body me = z.carries ≡ true → HasNone me
+  LoadedAt B5 z body me = z.carries ≡ true → HasNone me
   LoadedAt l z body me = Unit {0}

@@ -14,6 +14,7 @@ pub mod Seats
 pub mod Loads
 pub mod Hands
 pub mod Moves
+pub mod Flags
 pub mod AsMany
 pub mod NewArenas
 pub mod Remains

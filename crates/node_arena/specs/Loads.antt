@@ -1,4 +1,4 @@
--- What a push needs out with its seat, and what a push and a pop do where values are carried: which slot moves, and which deed
+-- What a push and a pop need out with their seat, and what a push and a pop do where values are carried: which slot moves, and which deed
 -- is added to the history of values.
 use Rattle.std.specs.Prelude.{◌≡◌, ℕ, Bool, false, true, List, [], ◌∷◌, ◌++◌, Some}
 use mathlib.Core.Option.{some}
@@ -8,11 +8,15 @@ use Rattle.node_arena.specs.declared.seats.Seat.{Seat}
 use Rattle.node_arena.specs.Deeds.{Item, item, pushed, popped, Runs}
 use Rattle.node_arena.specs.Beside.{HasLoaded}
 use Rattle.node_arena.specs.Seats.{carries_of, HasNoSlot, deeds_of, view}
-use Rattle.node_arena.specs.Hands.{AddsOwn}
+use Rattle.node_arena.specs.Hands.{AddsOwn, KeepsTries}
 
 -- where an arena carries values, the slot of a body is out with a seat, with a value in it
 abbrev pub IsLoaded : {T : Type 0} → Arena → (body : ℕ) → Seat T → Type 0
 IsLoaded r body s = HasLoaded r.plan body s.token.me
+
+-- where an arena carries values, no slot is out with a seat
+abbrev pub IsBare : {T : Type 0} → Arena → Seat T → Type 0
+IsBare r s = carries_of r ≡ true → HasNoSlot s
 
 -- a seat popped this: its pop is the last deed that it has seen, and what it had then seen leads to a queue with this in front
 pub record PopsFront {T : Type 0} (s t : Seat T) (front : Item T) : Type 0 where
@@ -31,6 +35,6 @@ abbrev pub PushesFrom : {T : Type 0} → (slot : ℕ) → (s t : Seat T) → Typ
 PushesFrom {T} slot s t = (x : T) × (s.token.me.1 ≡ (slot, Some x) ∷ []) × AddsOwn s t (pushed (view s).number x)
 
 -- where an arena carries values, the slot of what was pushed went with it, so that none is out with the seat, which pushed the
--- value in it
+-- value in it, and has tried no more slots
 abbrev pub GivesSlot : {T : Type 0} → Arena → (body : ℕ) → (s t : Seat T) → Type 0
-GivesSlot r body s t = carries_of r ≡ true → HasNoSlot t × PushesFrom body s t
+GivesSlot r body s t = carries_of r ≡ true → HasNoSlot t × PushesFrom body s t × KeepsTries s t

@@ -22,6 +22,7 @@ use Rattle.node_arena.specs.Plans.{Layout, IsTable, PermitsLine, permits_by, may
 use Rattle.node_arena.specs.Traces.{Traced}
 use Rattle.node_arena.specs.Rule.{Steps, LearnsRun, Fitted}
 use Rattle.node_arena.specs.Deeds.{Deed}
+use Rattle.node_arena.specs.Slots.{Try}
 use Rattle.node_arena.specs.Beside.{HasNone, KnowsNow, LoadedAt, Moves}
 
 -- the plan of an arena
@@ -165,7 +166,8 @@ pub record IsBefore {T : Type 0} (r : Arena) (s : Seat T) (prologue : Prologue) 
   pub line : (after_prologue r.plan.setup (view s).number prologue (view s).actor).line ≡ Some l
 
 -- the seat's next move by the rule is this step on a word, at this line, with these moves before it, and the seat's role
--- permits it; where values are carried and the line may push, the slot of the body is out with the seat, with a value in it
+-- permits it; where values are carried and the line may push, the slot of the body is out with the seat, with a value in it, and
+-- where it may pop, none is
 pub record MayStep {T : Type 0} (r : Arena) (s : Seat T) (prologue : Prologue) (l : Line) (x : WordStep) : Type 0 where
   pub seat : IsSeat r s
   pub leads : CanStart prologue (view s).actor
@@ -178,15 +180,20 @@ pub record MayStep {T : Type 0} (r : Arena) (s : Seat T) (prologue : Prologue) (
 abbrev pub deeds_of : {T : Type 0} → Seat T → List (Deed T)
 deeds_of s = s.token.me.0.deeds
 
+-- a seat's tries at slots
+abbrev pub tries_of : {T : Type 0} → Seat T → List Try
+tries_of s = s.token.me.0.tries
+
 -- what a seat has seen of values goes on from what it had seen
 pub record SeesMoreDeeds {T : Type 0} (s t : Seat T) : Type 0 where
   pub between : List (Deed T)
   pub deeds : deeds_of t ≡ deeds_of s ++ between
 
--- the slots that are out with a seat are those that were, and what it has seen of values goes on
+-- the slots that are out with a seat are those that were, it has tried no more of them, and what it has seen of values goes on
 pub record KeepsSlots {T : Type 0} (s t : Seat T) : Type 0 where
   pub same : t.token.me.1 ≡ s.token.me.1
   pub hand : t.token.me.0.hand ≡ s.token.me.0.hand
+  pub tries : tries_of t ≡ tries_of s
   pub number : (view t).number ≡ (view s).number
   pub more : SeesMoreDeeds s t
 

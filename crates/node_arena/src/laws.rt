@@ -13,6 +13,7 @@ ghost use Rattle.node_arena.specs.AsMany.{LeavesAsMany, SeenEmptyOfValues};
 ghost use Rattle.node_arena.specs.Hands.{EachSeatKnowsValues};
 ghost use Rattle.node_arena.specs.Moves.{QuietStepsMoveNone, PushesGiveTheirSlot, PopsTakeTheirSlot};
 ghost use Rattle.node_arena.specs.Moves.{ShutsMoveNone};
+ghost use Rattle.node_arena.specs.Flags.{EachFlagIsSo};
 
 /// Between any two atomic steps of any threads, whichever of them stopped and also where nodes are used again: a list of
 /// begins, steps, give moves and rests leads from the opening world of the arena's setup to one with exactly the shared
@@ -169,6 +170,15 @@ pub fn a_step_moves_the_slot_of_what_it_adds<T>()
     ensures pushes { PushesGiveTheirSlot T }
     ensures pops { PopsTakeTheirSlot T }
     ensures shuts { ShutsMoveNone T }
+{}
+
+/// Between any two atomic steps of any threads the flag of a slot is up where the slot is out with a seat, or holds a value of
+/// the queue, and there alone: each other slot of an arena that carries values is empty, and free for whoever gets it first.
+pub fn a_flag_is_up_for_a_slot_that_is_out_or_queued<T>()
+    //= atomics/flags: In each state of the rule of an arena that carries values the flags that are up are just those of
+    //=   the slots that are out with a seat, and of those whose numbers are in the queue to which the history leads. Each
+    //=   other slot is empty.
+    ensures { EachFlagIsSo T }
 {}
 
 /// What a seat of an arena that carries values has seen of them goes one by one with the entries that it has seen, leads

@@ -99,8 +99,9 @@ impl<const B: u32> ArenaOf<B> {
     ) -> Result<(ArenaOf<B>, Vec<Seat>), Refusal>
         requires split { IsSplit B }
         //= atomics/rule: By what `atomic_table` states of a table, the arena's *rule* holds between any two atomic steps
-        //=   of any threads. By it no two seats have one number, no entry is of a seat whose role doesn't permit it, and
-        //=   of values that are carried each lies in the slot that its number names (`HoldsFor`).
+        //=   of any threads. By it no two seats have one number, no entry is of a seat whose role doesn't permit it, of
+        //=   values that are carried each lies in the slot that its number names, and the flag of each other slot is up
+        //=   only where that is out with a seat (`HoldsFor`).
         //= atomics/opening (ok, sized, refused): A new arena has the kind, nodes and greatest count asked for, and a
         //=   seat for each role, numbered from 1, ready, with an empty pocket, keeping no nodes. Sized.
         ensures ok { IfOk result (λ r. IsMade (making.plan B kind nodes limit roles.now) r.0 r.1.items) }

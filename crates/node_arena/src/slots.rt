@@ -1,8 +1,9 @@
 //! The slots of an arena that carries values, of which an `Arena` has none: the number that a push puts into the queue is
 //! that of the slot in which its value lies.
-ghost use Rattle.std.specs.Prelude.{◌≡◌, ◌+◌, ◌*◌, ◌<◌, true, false, IsTrue, Some, None, IfOk, IfErr};
+ghost use Rattle.std.specs.Prelude.{[], ◌≡◌, ◌+◌, ◌*◌, ◌<◌, true, false, IsTrue, Some, None, IfOk, IfErr};
 ghost use Rattle.node_arena.specs.Seats.{IsSeat, IsReady, HasNoSlot, carries_of, setup_of, plan_of};
-ghost use Rattle.node_arena.specs.Hands.{HasSlot, HasValue, KeepsKnown, IsMissed, FailedTries};
+ghost use Rattle.node_arena.specs.Hands.{HasSlot, HasValue, KeepsKnown, KeepsTries, IsMissed, FailedTries};
+ghost use Rattle.node_arena.specs.Hands.{HasTried, GotAt, hitting};
 ghost use Rattle.node_arena.specs.Hands as hands;
 
 use crate::arena::ArenaOf;
@@ -42,7 +43,8 @@ impl<const B: u32, T> ArenaOf<B, T> {
         ensures seat { IsSeat self.now seat.new }
         ensures ready { IsReady self.now seat.old → IsReady self.now seat.new }
         ensures keeps { KeepsKnown seat.old seat.new }
-        ensures got { result ≡ true → HasSlot self.now seat.new slot None }
+        ensures got { result ≡ true →
+            HasSlot self.now seat.new slot None × GotAt seat.old seat.new slot }
         ensures missed { result ≡ false → IsMissed self.now seat.old seat.new slot }
     {
         let flag = self.flag(slot);
@@ -62,8 +64,8 @@ impl<const B: u32, T> ArenaOf<B, T> {
         requires none { HasNoSlot seat.old }
         //= atomics/get_slot (*): A seat that has no slot gets an empty one, after fewer failed tries than it may make;
         //=   or Busy, after as many. Each try that failed, at one slot after another from that of a node's number on,
-        //=   was at a slot whose flag was up, in a state of the table by its rule in which the seat knew what it knew.
-        //=   The seat stores and knows the same as before.
+        //=   found the flag of that slot up, in a state of the table by its rule in which the seat knew what it knew;
+        //=   the seat made just these tries, and then that of the slot that it got. It stores and knows the same as before.
         ensures seat { IsSeat self.now seat.new }
         ensures ready { IsReady self.now seat.old → IsReady self.now seat.new }
         ensures keeps { KeepsKnown seat.old seat.new }
@@ -72,6 +74,10 @@ impl<const B: u32, T> ArenaOf<B, T> {
         ensures few { IfOk result (λ got. got.failed < turns) }
         ensures failed { IfOk result (λ got. FailedTries self.now seat.old node got.failed) }
         ensures busy { IfErr result (λ _. FailedTries self.now seat.old node turns) }
+        ensures hit { IfOk result (λ got. HasTried (plan_of self.now) seat.old seat.new
+            (hands.first_slot (setup_of self.now).size node) got.failed (hitting got.slot)) }
+        ensures missed { IfErr result (λ _. HasTried (plan_of self.now) seat.old seat.new
+            (hands.first_slot (setup_of self.now).size node) turns []) }
     {
         let size = self.setup().size as usize;
         let mut slot = first_slot(size, node as usize);
@@ -88,11 +94,12 @@ impl<const B: u32, T> ArenaOf<B, T> {
     pub fn put_value(&self, seat: &mut Seat<T>, slot: usize, value: T)
         requires seat { IsSeat self.now seat.old }
         requires has { HasSlot self.now seat.old slot None }
-        //= atomics/put_value (seat, ready, keeps, has): The slot of a seat holds the value that was put into it. The
-        //=   seat stores and knows the same as before.
+        //= atomics/put_value (seat, ready, keeps, tries, has): The slot of a seat holds the value that was put into it.
+        //=   The seat stores and knows the same as before.
         ensures seat { IsSeat self.now seat.new }
         ensures ready { IsReady self.now seat.old → IsReady self.now seat.new }
         ensures keeps { KeepsKnown seat.old seat.new }
+        ensures tries { KeepsTries seat.old seat.new }
         ensures has { HasSlot self.now seat.new slot (Some value) }
     {
         let _ = &self.plan;
@@ -110,11 +117,12 @@ impl<const B: u32, T> ArenaOf<B, T> {
     pub fn take_value(&self, seat: &mut Seat<T>, slot: usize) -> T
         requires seat { IsSeat self.now seat.old }
         requires has { HasValue self.now seat.old slot }
-        //= atomics/take_value (seat, ready, keeps, taken, has): A value that is taken is the one in the slot of the
+        //= atomics/take_value (seat, ready, keeps, tries, taken, has): A value that is taken is the one in the slot of the
         //=   seat, which has the slot empty. The seat stores and knows the same as before.
         ensures seat { IsSeat self.now seat.new }
         ensures ready { IsReady self.now seat.old → IsReady self.now seat.new }
         ensures keeps { KeepsKnown seat.old seat.new }
+        ensures tries { KeepsTries seat.old seat.new }
         ensures taken { HasSlot self.now seat.old slot (Some result) }
         ensures has { HasSlot self.now seat.new slot None }
     {
@@ -129,11 +137,12 @@ impl<const B: u32, T> ArenaOf<B, T> {
     pub fn free_slot(&self, seat: &mut Seat<T>, slot: usize)
         requires seat { IsSeat self.now seat.old }
         requires has { HasSlot self.now seat.old slot None }
-        //= atomics/free_slot (seat, ready, keeps, none): A seat that gave back its slot, which was empty, has none.
+        //= atomics/free_slot (seat, ready, keeps, tries, none): A seat that gave back its slot, which was empty, has none.
         //=   The seat stores and knows the same as before.
         ensures seat { IsSeat self.now seat.new }
         ensures ready { IsReady self.now seat.old → IsReady self.now seat.new }
         ensures keeps { KeepsKnown seat.old seat.new }
+        ensures tries { KeepsTries seat.old seat.new }
         ensures none { HasNoSlot seat.new }
     {
         let flag = self.flag(slot);

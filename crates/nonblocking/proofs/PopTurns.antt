@@ -17,8 +17,8 @@ use Rattle.history.specs.declared.operations.Taken.{Taken}
 use Rattle.node_arena.specs.Arenas.{Arena}
 use Rattle.node_arena.specs.declared.seats.Seat.{Seat}
 use Rattle.node_arena.specs.Seats.{IsBefore, KeepsStored, KeepsSlots, DidStep, view, known_of}
-use Rattle.node_arena.specs.Loads.{TakesSlot}
-use Rattle.node_arena.proofs.Loads.{takes_slot, then_takes}
+use Rattle.node_arena.specs.Loads.{IsBare, TakesSlot}
+use Rattle.node_arena.proofs.Loads.{still_bare, takes_slot, then_takes}
 use Rattle.node_arena.specs.Turns.{failed_at, failed_turns}
 use Rattle.node_arena.specs.Paths.{ExtendsPath}
 use Rattle.node_arena.proofs.Known.{empty_before}
@@ -199,6 +199,13 @@ module _ {T : Type 0} (r : Arena) (s t : Seat T) (a b : Running) (l : Line) (h :
       go true e q = absurd (let g : Goes l b ≡ Ends (IsRefused (WornOut OfHead)) = q in cc)
       go false e q = subst (CallIsAt r t continues D13) (sym (same_registers l D13 b (record a { val = f.found }) q)) (after_d12 r s t continues f.found a h f.did e)
 
+  read_slots : KeepsSlots s t
+  read_slots = quiet_slots r s t continues D12 f.found f.did refl
+
+  -- D12 moves no slot
+  pub bare_d13 : IsBare r s → IsBare r t
+  bare_d13 bare = still_bare r s t read_slots bare
+
   abbrev twelve : Event
   twelve = event r s t continues D12 f.found f.did
 
@@ -219,9 +226,6 @@ module _ {T : Type 0} (r : Arena) (s t : Seat T) (a b : Running) (l : Line) (h :
     where
       last : Event
       last = event r t x continues D13 g.found g.did
-
-      read_slots : KeepsSlots s t
-      read_slots = quiet_slots r s t continues D12 f.found f.did refl
 
       moves : (p : Bool) → same_ref (ref_of r.plan.setup.bits g.found) b.head ≡ p
           → TurnMoves r s x (turn_of (if p then Goes F1 (record b { node = b.head.node; mark = b.next.count; due = Some (IsValue b.val) }) else Goes

@@ -3,6 +3,7 @@ ghost use Rattle.std.specs.Prelude.{IsTrue};
 ghost use Rattle.line_table.specs.declared.lines.Line.TheVariants as lines;
 ghost use Rattle.node_arena.specs.Prologues.{continues};
 ghost use Rattle.node_arena.specs.Plans.{may_pop};
+ghost use Rattle.node_arena.specs.Loads.{IsBare};
 ghost use Rattle.node_arena.specs.Seats.{role_of};
 ghost use Rattle.nonblocking.specs.Pops.{popping, CallIsAt, Follows};
 
@@ -99,6 +100,7 @@ pub(crate) fn d13<const B: u32, T>(
     mut a: ActorOf<B>,
 ) -> RowOutcome<ActorOf<B>>
     requires stands { CallIsAt arena.now seat.old continues lines.D13 a }
+    requires bare { IsBare arena.now seat.old }
     requires role { IsTrue (may_pop (role_of seat.old)) }
     ensures { Follows arena.now seat.old seat.new continues lines.D13 a.entry result }
 {

@@ -3,6 +3,7 @@ ghost use Rattle.std.specs.Prelude.{◌≡◌, ◌<◌, IsTrue, None};
 ghost use Rattle.line_table.specs.declared.lines.Line.TheVariants as lines;
 ghost use Rattle.node_arena.specs.Prologues.{continues};
 ghost use Rattle.node_arena.specs.Plans.{may_pop};
+ghost use Rattle.node_arena.specs.Loads.{IsBare};
 ghost use Rattle.node_arena.specs.Seats.{IsReady, IsBefore, role_of, pocket_of};
 ghost use Rattle.nonblocking.specs.Values.{IsNonBlocking};
 ghost use Rattle.nonblocking.specs.Pops.{popping, CallIsAt, ReadsFront, Turns, Tries};
@@ -37,6 +38,7 @@ fn read_front<const B: u32, T>(
 fn move_head<const B: u32, T>(arena: &ArenaOf<B, T>, seat: &mut Seat<T>, a: ActorOf<B>) -> Turn
     requires stands { CallIsAt arena.now seat.old continues lines.D12 a }
     requires non_blocking { IsNonBlocking arena.now }
+    requires bare { IsBare arena.now seat.old }
     requires role { IsTrue (may_pop (role_of seat.old)) }
     ensures { Turns arena.now seat.old seat.new result }
 {
@@ -50,6 +52,7 @@ fn move_head<const B: u32, T>(arena: &ArenaOf<B, T>, seat: &mut Seat<T>, a: Acto
 fn pop_turn<const B: u32, T>(arena: &ArenaOf<B, T>, seat: &mut Seat<T>, index: u32) -> Turn
     requires before { IsBefore arena.now seat.old (popping index) lines.D2 }
     requires non_blocking { IsNonBlocking arena.now }
+    requires bare { IsBare arena.now seat.old }
     requires role { IsTrue (may_pop (role_of seat.old)) }
     ensures { Turns arena.now seat.old seat.new result }
 {
@@ -77,6 +80,7 @@ fn pop_by_turn<const B: u32, T>(
 ) -> Option<Result<Option<Taken>, Refusal>>
     requires before { IsBefore arena.now seat.old (popping index) lines.D2 }
     requires non_blocking { IsNonBlocking arena.now }
+    requires bare { IsBare arena.now seat.old }
     requires role { IsTrue (may_pop (role_of seat.old)) }
     requires turns { failed < turns }
     ensures { Tries arena.now seat.old seat.new failed turns result }
@@ -111,6 +115,7 @@ pub(crate) fn pop_with_empty_pocket<const B: u32, T>(
 ) -> Result<Option<Taken>, Refusal>
     requires ready { IsReady arena.now seat.old }
     requires non_blocking { IsNonBlocking arena.now }
+    requires bare { IsBare arena.now seat.old }
     requires role { IsTrue (may_pop (role_of seat.old)) }
     requires empty { pocket_of seat.old ≡ None }
     requires turns { spent < turns }

@@ -15,7 +15,7 @@ impl<T: Send> Carrier for ValueQueue<T> {
     ghost use Rattle.arena_queue.specs.Answers.{FailsFewer, FailsFew, FreesItsNode, PopCaused, ShutCaused};
     ghost use Rattle.nonblocking.specs.Worn.{push_worn, pop_worn, shut_worn};
     ghost use Rattle.value_queue.specs.ValuesSeen.{known_by};
-    ghost use Rattle.value_queue.specs.Pushes.{PushCaused};
+    ghost use Rattle.value_queue.specs.Pushes.{PushCaused, MissesFewer};
     ghost use Rattle.value_queue.specs.Pops.{KeepsItsNode};
     ghost use Rattle.value_queue.specs.Sound.{sound-seat, IsQueueSeat-prop};
     ghost use Rattle.picked_values.specs.Queues.{arena_of, permits_of, IsQueueSeat, carries};
@@ -49,8 +49,9 @@ impl<T: Send> Carrier for ValueQueue<T> {
         //= values/keeps
         ensures keeps { keeps_of seat.new ≡ keeps_of seat.old }
         ensures pushed { OnOk result (PushedOf (known_by seat.old) value (known_by seat.new)) }
-        //= values/done (few, pocket)
+        //= values/done (few, missed, pocket)
         ensures few { OnOk result (FailsFewer seat.old seat.new turns) }
+        ensures missed { OnOk result (MissesFewer (arena_of self.now) seat.old seat.new turns) }
         ensures pocket { OnOk result (pocket_of seat.new ≡ None) }
         ensures back { IfErr result (λ unpushed. unpushed.value ≡ value) }
         ensures refused { IfErr result

@@ -25,8 +25,8 @@ module _ {T : Type 0} (r : Arena) (s : Seat T) (prologue : Prologue) (b : ℕ) w
         loaded = subst (λ (k : ℕ). HasLoaded r.plan k s.token.me) (sym may.carried) (loaded_by r s b has);
       }
 
-  pub pop_step : (x : WordStep) → MayPop r s prologue b x → MayStep r s prologue D13 x
-  pop_step x may = record { seat = may.seat; leads = may.leads; line = may.line; access = may.access; permits = may.permits; loaded = tt }
+  pub pop_step : (x : WordStep) → MayPop r s prologue b x → HasNoSlot s → MayStep r s prologue D13 x
+  pop_step x may none_out = record { seat = may.seat; leads = may.leads; line = may.line; access = may.access; permits = may.permits; loaded = λ _. none_out }
 
   pub pushed_it : (t : Seat T) (p old new n : ℕ) → MayPush r s prologue b (exchange_at p old new) → HasValue r s b → DidStep r s t prologue E9 n → n ≡ old → HasNoSlot t × PushedIt r s t b
   pushed_it t p old new n may has did won =

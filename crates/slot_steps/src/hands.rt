@@ -1,11 +1,12 @@
 //! What a queue of values does with a slot, about the one exchange at which its call has its effect.
-ghost use Rattle.std.specs.Prelude.{◌≡◌, true, Some, IfOk, IfErr, OnOk, IfSome, MatchOption};
+ghost use Rattle.std.specs.Prelude.{[], ◌≡◌, true, Some, IfOk, IfErr, OnOk, IfSome, MatchOption};
 ghost use Rattle.line_table.specs.declared.lines.Line.TheVariants.{E9, D13};
 ghost use Rattle.step_machine.specs.Tables.{exchange_at};
 ghost use Rattle.node_arena.specs.Places as places;
 ghost use Rattle.node_arena.specs.Prologues.{Prologue};
-ghost use Rattle.node_arena.specs.Seats.{IsSeat, IsReady, HasNoSlot, carries_of};
-ghost use Rattle.node_arena.specs.Hands.{HasSlot, HasValue, FailedTries, KeepsKnown, SeesMoreDeeds};
+ghost use Rattle.node_arena.specs.Seats.{IsSeat, IsReady, HasNoSlot, carries_of, plan_of, setup_of};
+ghost use Rattle.node_arena.specs.Hands.{HasSlot, HasValue, FailedTries, HasTried, KeepsKnown};
+ghost use Rattle.node_arena.specs.Hands.{SeesMoreDeeds, first_slot};
 ghost use Rattle.slot_steps.specs.Steps.{MayPush, MayPop, PushedIt, PoppedIt, LostStep};
 
 use line_table::Line;
@@ -27,6 +28,8 @@ pub fn load_slot<const B: u32, T>(
     ensures loaded { IfOk result (λ slot. HasSlot arena.now seat.new slot (Some value)) }
     ensures back { IfErr result (λ back. (back ≡ value) × HasNoSlot seat.new) }
     ensures failed { IfErr result (λ _. FailedTries arena.now seat.old node turns) }
+    ensures tried { IfErr result (λ _. HasTried (plan_of arena.now) seat.old seat.new
+        (first_slot (setup_of arena.now).size node) turns []) }
 {
     let Ok(got) = arena.get_slot(seat, node, turns) else {
         return Err(value);

@@ -13,14 +13,15 @@ use Rattle.node_arena.specs.Traces.{Event}
 use Rattle.node_arena.specs.Prologues.{continues, at_rest, out_of}
 use Rattle.node_arena.specs.Arenas.{Arena}
 use Rattle.node_arena.specs.declared.seats.Seat.{Seat}
-use Rattle.node_arena.specs.Seats.{IsReady, IsBefore, view, keeping, pocket_of, keeps_of}
+use Rattle.node_arena.specs.Loads.{IsBare}
+use Rattle.node_arena.specs.Seats.{IsReady, IsBefore, KeepsSlots, view, keeping, pocket_of, keeps_of}
 use Rattle.node_arena.specs.Turns.{failed_turns, at_b1}
 use Rattle.node_arena.specs.Paths.{ExtendsPath, added}
 use Rattle.free_list.specs.Gives.{GiveAnswers}
 use Rattle.node_arena.proofs.Known.{empty_before}
 use Rattle.node_arena.proofs.Paths.{no_walk, walk_then, then_stored, no_slots, then_slots, quiet_slots, added_is, ends_failed, failed-append}
 use Rattle.node_arena.proofs.Paths.{failed_behind, kept_seat, event, walk_on, to_is, failed_last}
-use Rattle.node_arena.proofs.Loads.{kept_slots}
+use Rattle.node_arena.proofs.Loads.{still_bare, kept_slots}
 use Rattle.two_lock.specs.Values.{IsTwoLock}
 use Rattle.arena_lines.specs.declared.outcomes.RowOutcome.{RowOutcome}
 use Rattle.arena_lines.specs.declared.outcomes.RowOutcome.TheVariants.{Goes, Ends}
@@ -67,6 +68,12 @@ module _ {T : Type 0} (r : Arena) (s t u : Seat T) (n : ℕ) (g : Trying r s t n
   pub has_got : has_lock out ≡ true → IsBefore r u continues B2
   has_got e = won_b1 r t u (popping n) f.found a (stands_b1 r t (popping n) a g.before) f.did (found_is true e)
 
+  try_slots : KeepsSlots s u
+  try_slots = then_slots s t u g.slots (quiet_slots r t u (popping n) B1 f.found f.did refl)
+
+  pub has_bare : IsBare r s → IsBare r u
+  has_bare bare = still_bare r s u try_slots bare
+
   -- a turn failed
   pub pop_again : has_lock out ≡ false → Trying r s u (n + 1)
   pop_again e =
@@ -76,7 +83,7 @@ module _ {T : Type 0} (r : Arena) (s t u : Seat T) (n : ℕ) (g : Trying r s t n
       record {
         before = rw add-one x;
         stored = then_stored s t u g.stored f.did.stored;
-        slots = then_slots s t u g.slots (quiet_slots r t u (popping n) B1 f.found f.did refl);
+        slots = try_slots;
         lines = g.lines ++ try ∷ [];
         walks = tried;
         failed = omega (arith, failed-append g.lines (try ∷ []), g.failed, once);
@@ -92,7 +99,7 @@ module _ {T : Type 0} (r : Arena) (s t u : Seat T) (n : ℕ) (g : Trying r s t n
       let name = then_stored s t u g.stored f.did.stored in
       draws_late pop_worn r s u x (g.lines ++ try ∷ []) tried spent (spent + n) turns
       (omega (arith, failed-append g.lines (try ∷ []), g.failed, none)) o (record { number = name.number; role = name.role; keeps = name.keeps })
-      (then_slots s t u g.slots (quiet_slots r t u (popping n) B1 f.found f.did refl)) d
+      try_slots d
 
 -- all turns failed
 pub pop_gives_up : {T : Type 0} (r : Arena) (s t : Seat T) (spent turns n : ℕ) → 1 ≤ n → spent + n ≡ turns → Trying r s t n → PopsWithoutNode pop_worn r s (keeping t None turns) spent turns (Err Busy)

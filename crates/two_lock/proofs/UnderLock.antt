@@ -17,8 +17,8 @@ use Rattle.history.specs.declared.operations.Taken.{Taken}
 use Rattle.node_arena.specs.Arenas.{Arena}
 use Rattle.node_arena.specs.declared.seats.Seat.{Seat}
 use Rattle.node_arena.specs.Seats.{KeepsStored, KeepsSlots, view}
-use Rattle.node_arena.specs.Loads.{TakesSlot}
-use Rattle.node_arena.proofs.Loads.{takes_slot, then_takes, takes_then}
+use Rattle.node_arena.specs.Loads.{IsBare, TakesSlot}
+use Rattle.node_arena.proofs.Loads.{still_bare, takes_slot, then_takes, takes_then}
 use Rattle.node_arena.specs.Paths.{ExtendsPath, Passes, Acts}
 use Rattle.node_arena.proofs.Noting.{IsSilent}
 use Rattle.node_arena.proofs.Known.{empty_before}
@@ -220,6 +220,10 @@ module _ {T : Type 0} (r : Arena) (s u t v : Seat T) (a b c d : Running) (l k j 
   look_slots : KeepsSlots s v
   look_slots = then_slots s t v (then_slots s u t (quiet_slots r s u continues B2 f2.found f2.did refl)
       (quiet_slots r u t continues B3 f3.found f3.did refl)) (quiet_slots r t v continues B4 f4.found f4.did refl)
+
+  -- they move no slot
+  pub look_bare : IsBare r s → IsBare r v
+  look_bare bare = still_bare r s v look_slots bare
 
   look_stored : KeepsStored s v
   look_stored = then_stored s t v (then_stored s u t f2.did.stored f3.did.stored) f4.did.stored

@@ -3,6 +3,7 @@ ghost use Rattle.std.specs.Prelude.{IsTrue};
 ghost use Rattle.line_table.specs.declared.lines.Line.TheVariants as lines;
 ghost use Rattle.node_arena.specs.Prologues.{continues};
 ghost use Rattle.node_arena.specs.Plans.{may_pop};
+ghost use Rattle.node_arena.specs.Loads.{IsBare};
 ghost use Rattle.node_arena.specs.Seats.{role_of};
 ghost use Rattle.two_lock.specs.Pops.{popping, CallIsAt, Follows};
 
@@ -73,6 +74,7 @@ pub(crate) fn b5<const B: u32, T>(
     mut a: ActorOf<B>,
 ) -> ActorOf<B>
     requires stands { CallIsAt arena.now seat.old continues lines.B5 a }
+    requires bare { IsBare arena.now seat.old }
     requires role { IsTrue (may_pop (role_of seat.old)) }
     ensures { Follows arena.now seat.old seat.new continues lines.B5 a.entry
         (RowOutcome.Goes lines.B6 result) }

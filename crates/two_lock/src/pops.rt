@@ -3,6 +3,7 @@ ghost use Rattle.std.specs.Prelude.{◌≡◌, ◌<◌, IsTrue, None};
 ghost use Rattle.line_table.specs.declared.lines.Line.TheVariants as lines;
 ghost use Rattle.node_arena.specs.Prologues.{continues};
 ghost use Rattle.node_arena.specs.Plans.{may_pop};
+ghost use Rattle.node_arena.specs.Loads.{IsBare};
 ghost use Rattle.node_arena.specs.Seats.{IsReady, IsBefore, role_of, pocket_of};
 ghost use Rattle.two_lock.specs.Values.{IsTwoLock};
 ghost use Rattle.two_lock.specs.Pops.{CallIsAt, PopsUnderLock};
@@ -25,6 +26,7 @@ fn read_front<const B: u32, T>(
 ) -> RowOutcome<ActorOf<B>>
     requires stands { CallIsAt arena.now seat.old continues lines.B2 a }
     requires two_lock { IsTwoLock arena.now }
+    requires bare { IsBare arena.now seat.old }
     requires role { IsTrue (may_pop (role_of seat.old)) }
     ensures { PopsUnderLock arena.now seat.old seat.new result }
 {
@@ -51,6 +53,7 @@ fn pop_locked<const B: u32, T>(
 ) -> Result<Option<Taken>, Refusal>
     requires before { IsBefore arena.now seat.old continues lines.B2 }
     requires two_lock { IsTwoLock arena.now }
+    requires bare { IsBare arena.now seat.old }
     requires role { IsTrue (may_pop (role_of seat.old)) }
     requires turns { failed < turns }
     ensures { PopsWithoutNode pop_worn arena.now seat.old seat.new failed turns result }
@@ -85,6 +88,7 @@ pub(crate) fn pop_with_empty_pocket<const B: u32, T>(
 ) -> Result<Option<Taken>, Refusal>
     requires ready { IsReady arena.now seat.old }
     requires two_lock { IsTwoLock arena.now }
+    requires bare { IsBare arena.now seat.old }
     requires role { IsTrue (may_pop (role_of seat.old)) }
     requires empty { pocket_of seat.old ≡ None }
     requires turns { spent < turns }

@@ -17,16 +17,19 @@ use Rattle.node_arena.specs.Knowledge.{SeatView}
 use Rattle.node_arena.specs.Knowledge as seeing
 use Rattle.node_arena.specs.Deeds.{Deed, pushed}
 use Rattle.node_arena.specs.Beside.{HasLoaded, slots_in}
-use Rattle.node_arena.specs.Hands.{HasSlot, KeepsKnown, AddsOwn, FailedTries}
+use Rattle.node_arena.specs.Plans.{Layout}
+use Rattle.node_arena.specs.Slots.{Try}
+use Rattle.node_arena.specs.Hands.{HasSlot, KeepsKnown, KeepsTries, AddsOwn, FailedTries, HasTried, hitting, first_slot}
 use Rattle.node_arena.specs.Seats.{IsReady, KeepsSlots, KeepsName, HasNoSlot, SeesMoreDeeds, carries_of, deeds_of, known_of, view}
 use Rattle.node_arena.specs.Paths.{ExtendsPath, added}
 use Rattle.node_arena.specs.Turns.{failed_turns}
 use Rattle.node_arena.proofs.Paths.{no_walk, sees_on}
+use Rattle.node_arena.proofs.Handing.{tried_none}
 use Rattle.free_list.specs.Takes.{TakeRefused}
 use Rattle.arena_queue.specs.Answers.{PushWithNodeCaused, PushesWithNodeAnd, PushMoves, PushesWithNode}
 use Rattle.arena_queue.proofs.Pushes.{put_behind, learns, learns_of_take}
 use Rattle.value_queue.specs.ValuesSeen.{known_by}
-use Rattle.value_queue.specs.Pushes.{HasNode, TakesBack, MissedSlots, PushCaused, AnswersPush, back_with}
+use Rattle.value_queue.specs.Pushes.{HasNode, TakesBack, MissedSlots, PushCaused, AnswersPush, back_with, last_try}
 use Rattle.value_queue.proofs.Learned.{push-deed, push_refused-deeds}
 use Rattle.value_queue.proofs.Kept.{added_still, name_still, more_still, stops_still, cause_still}
 
@@ -60,6 +63,10 @@ pub loaded_by : {T : Type 0} (r : Arena) (v : Seat T) (slot body : ℕ) (value :
 loaded_by r v slot body value same has carries =
     subst (λ (b : ℕ). HasLoaded r.plan b v.token.me) (sym same) (λ _. (value, has.out, has.hand, has.there)) carries
 
+-- a seat that has tried no more slots than one did
+pub tried_still : {T : Type 0} (z : Layout) (s t u : Seat T) (first tries : ℕ) (last : List Try) → HasTried z s t first tries last → KeepsTries t u → HasTried z s u first tries last
+tried_still z s t u first tries last made same = record { missed = made.missed; count = made.count; tried = same ∙ made.tried; up = made.up }
+
 -- a seat that stores and knows the same as one that does
 pub keeps_on : {T : Type 0} (s t u : Seat T) → KeepsKnown s t → KeepsKnown t u → KeepsKnown s u
 keeps_on s t u f g =
@@ -79,8 +86,8 @@ module _ {T : Type 0} (worn : WornWord → Option Held → Type 0) (r : Arena) (
   stays_without : (t : Seat T) → KeepsSlots s t → HasNoSlot t
   stays_without t k = (ap length k.same ∙ none.0, ap slots_in k.hand ∙ none.1)
 
-  missed_none : MissedSlots r s 0
-  missed_none = record { seat = s; more = sees_itself (known_of s); node = 0; missed = tt }
+  missed_none : (t : Seat T) → KeepsTries s t → MissedSlots r s t 0
+  missed_none t same = record { seat = s; more = sees_itself (known_of s); node = 0; missed = tt; got = None; tried = tried_still r.plan s s t _ 0 [] (tried_none r s _) same }
 
   -- there was no node
   pub no_node : (t : Seat T) (refusal : Refusal) → HasNode r s t turns (Err refusal) → AnswersPush worn r s t value turns (Err (back_with refusal value))
@@ -91,6 +98,7 @@ module _ {T : Type 0} (worn : WornWord → Option Held → Type 0) (r : Arena) (
         same = h.same;
         pushed = tt;
         few = tt;
+        missed = tt;
         pocket = tt;
         back = refl;
         refused = push_refused-deeds r carries s t is.seat h.ready.seat refusal h.slots.more (learns_of_take r s t turns refusal h.lines h.refused);
@@ -106,7 +114,7 @@ module _ {T : Type 0} (worn : WornWord → Option Held → Type 0) (r : Arena) (
       stops _ x = absurd x
 
       by_cause : (refusal : Refusal) → TakeRefused r s t turns refusal → PushCaused worn r s t turns refusal
-      by_cause Busy x = (0, (let f = x.0 in omega arith), missed_none, inl x.1)
+      by_cause Busy x = (0, (let f = x.0 in omega arith), missed_none t h.slots.tries, inl x.1)
       by_cause NoNode x = x
       by_cause (WornOut OfFree) x = x
       by_cause _ x = absurd x
@@ -119,13 +127,28 @@ module _ {T : Type 0} (worn : WornWord → Option Held → Type 0) (r : Arena) (
     more_since : KeepsKnown u v → SeesMoreDeeds s v
     more_since k = record { between = h.slots.more.between; deeds = k.deeds ∙ h.slots.more.deeds }
 
-    missed_since : (tries : ℕ) → FailedTries r u first tries → MissedSlots r s tries
-    missed_since tries missed = record { seat = u; more = sees_on (view s) (view u) (added s u) h.lines; node = first; missed = missed }
+    missed_since : (x : Seat T) (tries : ℕ) (got : Option ℕ) → FailedTries r u first tries → HasTried r.plan u x (first_slot r.plan.setup.size first) tries (last_try got)
+        → MissedSlots r s x tries
+    missed_since x tries got missed made =
+        record {
+          seat = u;
+          more = sees_on (view s) (view u) (added s u) h.lines;
+          node = first;
+          missed = missed;
+          got = got;
+          tried = record { missed = made.missed; count = made.count; tried = made.tried ∙ ap (λ ts. ts ++ (made.missed ++ last_try got)) h.slots.tries; up = made.up };
+        }
+
+    -- what a push knows that got no slot
+    pub slot_refused : (refusal : Refusal) → IsReady r v → KeepsKnown u v → refusal ≡ Busy → PushRefusedOf (known_by s) refusal (known_by v)
+    slot_refused refusal ready k its =
+        subst (λ q. PushRefusedOf (known_by s) q (known_by v)) (sym its) (push_refused-deeds r carries s v is.seat ready.seat Busy (more_since k) (seen_since k))
 
     -- there was no slot
     pub no_slot : (refusal : Refusal) → IsReady r v → KeepsKnown u v → (refusal ≡ Busy) × HasNoSlot v → FailedTries r u first (turns - spent)
+        → HasTried r.plan u v (first_slot r.plan.setup.size first) (turns - spent) []
         → AnswersPush worn r s v value turns (Err (back_with refusal value))
-    no_slot refusal ready k its missed =
+    no_slot refusal ready k its missed made =
         let busy : Busy ≡ refusal = sym its.0 in
         record {
           ready = ready;
@@ -133,19 +156,21 @@ module _ {T : Type 0} (worn : WornWord → Option Held → Type 0) (r : Arena) (
           same = name_still s u v k h.same;
           pushed = tt;
           few = tt;
+          missed = tt;
           pocket = tt;
           back = refl;
-          refused = subst (λ q. PushRefusedOf (known_by s) q (known_by v)) busy (push_refused-deeds r carries s v is.seat ready.seat Busy (more_since k) (seen_since k));
+          refused = slot_refused refusal ready k its.0;
           refusal = subst StopsPush busy tt;
           caused = subst (PushCaused worn r s v turns) busy (
             turns - spent,
             (let a = ap failed_turns (added_still s u v k) in let b = h.spent.0 in let c = h.spent.1 in omega (arith, a, b, c)),
-            missed_since (turns - spent) missed,
+            missed_since v (turns - spent) None missed made,
             inr (let c = h.spent.1 in omega (arith, c)),
           );
         }
 
-    module _ (got : Got) (k : KeepsKnown u v) (has : HasSlot r v got.slot (Some value)) (missed : FailedTries r u first got.failed) (body : ℕ) where
+    module _ (got : Got) (k : KeepsKnown u v) (has : HasSlot r v got.slot (Some value)) (missed : FailedTries r u first got.failed)
+        (made : HasTried r.plan u v (first_slot r.plan.setup.size first) got.failed (hitting got.slot)) (body : ℕ) where
       same_name : KeepsName u v
       same_name = record { number = k.stored.number; role = k.stored.role; keeps = k.stored.keeps }
 
@@ -175,6 +200,11 @@ module _ {T : Type 0} (worn : WornWord → Option Held → Type 0) (r : Arena) (
             same = n.same;
             pushed = push-deed r carries s x is.seat n.ready.seat (Push (view s).number body) value adds n.pushed.0.adds;
             few = (let f = n.pushed.2 in omega (arith, f));
+            missed = (
+              got.failed,
+              (let f = n.pushed.2 in omega (arith, f)),
+              missed_since x got.failed (Some got.slot) missed (tried_still r.plan u v x _ got.failed (hitting got.slot) made gave.2),
+            );
             pocket = n.pushed.1;
             back = tt;
             refused = tt;
@@ -195,6 +225,7 @@ module _ {T : Type 0} (worn : WornWord → Option Held → Type 0) (r : Arena) (
             same = name_still s y x b.keeps n.same;
             pushed = tt;
             few = tt;
+            missed = tt;
             pocket = tt;
             back = value_is y.token.me.1 got.slot got.slot b.value value b.had.out (p.slots.same ∙ has.out);
             refused = push_refused-deeds r carries s x is.seat b.ready.seat refusal more (learns s x refusal (stops_still s y x b.keeps refusal n.refused.0));
@@ -209,7 +240,13 @@ module _ {T : Type 0} (worn : WornWord → Option Held → Type 0) (r : Arena) (
           stops _ z = absurd z
 
           by_cause : (refusal : Refusal) → PushWithNodeCaused worn r s x held.node got.failed turns refusal → PushCaused worn r s x turns refusal
-          by_cause Busy z = (got.failed, (let f = z.0 in omega (arith, f)), missed_since got.failed missed, inl z.1)
+          by_cause Busy z = (
+            got.failed,
+            (let f = z.0 in omega (arith, f)),
+            missed_since x got.failed (Some got.slot) missed
+                (tried_still r.plan u v x _ got.failed (hitting got.slot) made (b.tries ∙ p.slots.tries)),
+            inl z.1,
+          )
           by_cause (WornOut OfFree) z = z.0
           by_cause (WornOut OfNext) z = (z.0, z.1)
           by_cause (WornOut OfTail) z = (z.0, z.1)

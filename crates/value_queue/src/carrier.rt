@@ -28,7 +28,7 @@ impl<T: Send, A: Algorithm<B>, const B: u32> Carrier for QueueOf<T, A, B> {
     ghost use Rattle.arena_queue.specs.Answers.{FailsFewer, FailsFew, FreesItsNode, PopCaused, ShutCaused};
     ghost use Rattle.value_queue.specs.ValuesSeen.{known_by};
     ghost use Rattle.value_queue.specs.Queues.{arena_of, permits_of, IsQueueSeat};
-    ghost use Rattle.value_queue.specs.Pushes.{PushCaused};
+    ghost use Rattle.value_queue.specs.Pushes.{PushCaused, MissesFewer};
     ghost use Rattle.value_queue.specs.Pops.{KeepsItsNode};
     ghost use Rattle.value_queue.specs.Sound.{sound-seat, IsQueueSeat-prop};
 
@@ -66,17 +66,20 @@ impl<T: Send, A: Algorithm<B>, const B: u32> Carrier for QueueOf<T, A, B> {
         //= values/keeps: A push, a pop and a shut of a value don't change whether their seat keeps its nodes.
         ensures keeps { keeps_of seat.new ≡ keeps_of seat.old }
         ensures pushed { OnOk result (PushedOf (known_by seat.old) value (known_by seat.new)) }
-        //= values/done (few, pocket): Of a push or a shut that is done fewer than `turns` turns failed. The push leaves
-        //=   its seat's pocket empty; a shut, done or refused, leaves it as it was.
+        //= values/done (few, missed, pocket): Of a push or a shut that is done fewer than `turns` turns failed, and of the
+        //=   push fewer with its tries at slots that were taken, as `Busy` tells of them. The push leaves its seat's pocket
+        //=   empty; a shut, done or refused, leaves it as it was.
         ensures few { OnOk result (FailsFewer seat.old seat.new turns) }
+        ensures missed { OnOk result (MissesFewer (arena_of self.now) seat.old seat.new turns) }
         ensures pocket { OnOk result (pocket_of seat.new ≡ None) }
         ensures back { IfErr result (λ unpushed. unpushed.value ≡ value) }
         ensures refused { IfErr result
             (λ unpushed. PushRefusedOf (known_by seat.old) unpushed.refusal (known_by seat.new)) }
         ensures refusal { IfErr result (λ unpushed. StopsPush unpushed.refusal) }
         //= values/push_causes: A push of a value is refused only with the cause of a push of a number; or `Busy`,
-        //=   where turns and tries at slots failed, `turns` together: each such slot's flag was up in a state of the
-        //=   table by its rule in which a seat knew no less than this one did before the call.
+        //=   where turns and tries at slots failed, `turns` together: each such try was made, at one slot after another,
+        //=   and found that slot's flag up, in a state of the table by its rule in which a seat knew no less than this
+        //=   one did before the call. The seat made no other try but that of the slot that it got, if it got one.
         ensures caused { IfErr result (λ unpushed.
             PushCaused A.push_worn (arena_of self.now) seat.old seat.new turns unpushed.refusal) }
     {

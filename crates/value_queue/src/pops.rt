@@ -1,7 +1,7 @@
 //! The parts of a pop: the pop of a slot's number, and the value out of that slot.
 ghost use Rattle.std.specs.Prelude.{◌≡◌, ◌≤◌, IsTrue};
 ghost use Rattle.node_arena.specs.Plans.{may_pop};
-ghost use Rattle.node_arena.specs.Seats.{IsReady, role_of};
+ghost use Rattle.node_arena.specs.Seats.{IsReady, HasNoSlot, role_of};
 ghost use Rattle.node_arena.specs.Hands.{HasValue};
 ghost use Rattle.arena_queue.specs.Answers.{PopsWithoutNode};
 ghost use Rattle.value_queue.specs.Queues.{arena_of};
@@ -18,6 +18,7 @@ impl<T, A: Algorithm<B>, const B: u32> QueueOf<T, A, B> {
     // Pops the number of a slot, which is then out with the seat. A node in the pocket is given back first.
     pub(crate) fn pop_slot(&self, seat: &mut Seat<T>, turns: u32) -> Result<Option<Taken>, Refusal>
         requires ready { IsReady (arena_of self.now) seat.old }
+        requires none { HasNoSlot seat.old }
         requires role { IsTrue (may_pop (role_of seat.old)) }
         requires turns { 1 ≤ turns }
         ensures { PopsWithoutNode A.pop_worn (arena_of self.now) seat.old seat.new 0 turns result }

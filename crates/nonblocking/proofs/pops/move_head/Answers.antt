@@ -1,5 +1,5 @@
 use Rattle.std.proofs.Common.{lit≤, IsTrue, sym, subst}
-use Rattle.nonblocking.proofs.PopTurns.{never_worn, to_d13, moves_head}
+use Rattle.nonblocking.proofs.PopTurns.{never_worn, to_d13, bare_d13, moves_head}
 use Rattle.nonblocking.proofs.pops.move_head.Goals as goal
 use Rattle.node_arena.specs.Plans.{may_pop}
 
@@ -13,7 +13,10 @@ d13-requires g c = (
     lit≤ tt,
     (
       to_d13 c.args.arena.now c.args.seat.now c.d12.new.seat c.args.a c.in-Goes.a c.in-Goes.field-0 c.requires.stands c.in-Goes.ensures,
-      subst (λ x. IsTrue (may_pop x)) (sym c.in-Goes.ensures.did.stored.role) c.requires.role,
+      (
+        bare_d13 c.args.arena.now c.args.seat.now c.d12.new.seat c.args.a c.in-Goes.a c.in-Goes.field-0 c.requires.stands c.in-Goes.ensures c.requires.bare,
+        subst (λ x. IsTrue (may_pop x)) (sym c.in-Goes.ensures.did.stored.role) c.requires.role,
+      ),
     ),
   ),
 )

@@ -1,5 +1,6 @@
-use Rattle.std.proofs.Common.{◌∙◌, sym, arith}
-use Rattle.two_lock.proofs.PopCalls.{pops_out, pop_again, pop_ends, pop_gives_up}
+use Rattle.std.proofs.Common.{lit≤, IsTrue, ◌∙◌, sym, subst, arith}
+use Rattle.node_arena.specs.Plans.{may_pop}
+use Rattle.two_lock.proofs.PopCalls.{pops_out, has_got, has_bare, pop_again, pop_ends, pop_gives_up}
 use Rattle.two_lock.proofs.pops.pop_with_empty_pocket.Goals as goal
 
 pub loop-index-init : goal.loop-index-init
@@ -21,3 +22,12 @@ returns g c =
     let less = c.requires.turns in
     rw c.keep.ensures
     (pop_gives_up c.args.arena.now c.args.seat.now c.loop-index.seat c.args.spent c.args.turns c.loop-index.index (omega arith) (omega arith) c.loop-index.invariant)
+
+pub pop_locked-requires : goal.pop_locked-requires
+pop_locked-requires g c =
+    let got = sym c.got_lock.ensures ∙ c.if-got_lock.true in
+    let before = has_got c.args.arena.now c.args.seat.now c.loop-index.seat c.b1.new.seat c.loop-index.index c.loop-index.invariant _ c.b1.result c.b1.ensures got in
+    let bare = has_bare c.args.arena.now c.args.seat.now c.loop-index.seat c.b1.new.seat c.loop-index.index c.loop-index.invariant _ c.b1.result c.b1.ensures c.requires.bare in
+    let role = c.b1.ensures.did.stored.role ∙ c.loop-index.invariant.stored.role in
+    let less = c.loop-index-test.true in
+    (lit≤ tt, (before, (c.requires.two_lock, (bare, (subst (λ x. IsTrue (may_pop x)) (sym role) c.requires.role, omega (arith, less))))))

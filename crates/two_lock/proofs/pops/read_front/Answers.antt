@@ -1,6 +1,6 @@
 use Rattle.std.proofs.Common.{IsTrue, sym, subst, ◌∙◌, lit≤}
 use Rattle.node_arena.specs.Plans.{may_pop}
-use Rattle.two_lock.proofs.UnderLock.{to_b3, front_to_b4, front_to_b5, to_b6_empty, to_b6_worn, to_b6_value, saw_empty, saw_worn, took}
+use Rattle.two_lock.proofs.UnderLock.{to_b3, front_to_b4, front_to_b5, to_b6_empty, to_b6_worn, to_b6_value, saw_empty, saw_worn, took, look_bare}
 use Rattle.two_lock.proofs.pops.read_front.Goals as goal
 
 pub b3-next-requires : goal.b3-next-requires
@@ -33,7 +33,8 @@ b5-a-requires g c =
     let at_b5 = front_to_b5 _ _ _ _ _ _ _ _ _ _ _ _ c.requires.stands c.b2-a.ensures c.b3-next.ensures c.in_default.not-B6
     c.b4-next.ensures c.in_default-next.not-B6 in
     let role = c.b4-next.ensures.did.stored.role ∙ c.b3-next.ensures.did.stored.role ∙ c.b2-a.ensures.did.stored.role in
-    (lit≤ tt, (lit≤ tt, (at_b5, subst (λ x. IsTrue (may_pop x)) (sym role) c.requires.role)))
+    let bare = look_bare _ _ _ _ _ _ _ _ _ _ _ _ c.requires.stands c.b2-a.ensures c.b3-next.ensures c.in_default.not-B6 c.b4-next.ensures c.requires.bare in
+    (lit≤ tt, (lit≤ tt, (at_b5, (bare, subst (λ x. IsTrue (may_pop x)) (sym role) c.requires.role))))
 
 pub b6-requires-2 : goal.b6-requires-2
 b6-requires-2 g c =

@@ -1,5 +1,7 @@
 use Rattle.std.proofs.Common.{rules, lit≤, ◌∙◌}
+use Rattle.node_arena.proofs.Numbers.{asks_nothing}
 use Rattle.arena_queue.specs.Answers.{AnswersPop}
+use Rattle.arena_queue.specs.Queues.{arena_of}
 use Rattle.arena_queue.proofs.Pops.{drawn_at_once, drawn_after_give}
 use Rattle.arena_queue.proofs.Queues.{still_pops}
 use Rattle.arena_queue.proofs.queue.ArenaQueueOfFifo.try_pop.Given.{Over}
@@ -18,7 +20,7 @@ answers g c =
     ]
 
 pub pop_without_node-requires : goal.pop_without_node-requires
-pop_without_node-requires g c = (lit≤ tt, (search rules, (search rules, (search (still_pops, rules), (search rules, search rules)))))
+pop_without_node-requires g c = (lit≤ tt, (search rules, (search rules, (asks_nothing (arena_of c.args.self.now) c.args.self.now.numbers, (search (still_pops, rules), (search rules, search rules))))))
 
 pub returns-clause-answer : goal.returns-clause-answer
 returns-clause-answer g c = (answers g c).answer
