@@ -60,7 +60,7 @@ enum msq_code {
     MSQ_IN_USE = 35,    /* an msq_seat to be filled is full; or one of the queue to be closed is missing */
     MSQ_RACED = 36,     /* a close: the queue got a further seat meanwhile */
     MSQ_WORN_NEXT = 37, /* a push, at the limit 1 alone: the count of its node is at it; push again, by another node */
-    MSQ_WORN_TAIL = 38, /* Tail is worn: no push comes but from a reserve, and of MSQ_NON_BLOCKING no shut, and no pop
+    MSQ_WORN_TAIL = 38, /* Tail is worn: no push comes any more, and of MSQ_NON_BLOCKING no shut, and no pop
                             finds it empty or shut: its last value comes by msq_close alone */
     MSQ_WORN_HEAD = 39, /* a pop of MSQ_TWO_LOCK: Head is worn, and no value is popped any more */
     MSQ_TWO_QUEUES = 40, /* misuse: the seats are of two queues */
@@ -94,9 +94,6 @@ enum msq_kind {
     MSQ_TWO_LOCK = 1,     /* a thread that stops within a call may keep others from pushing, or from popping */
     MSQ_RING = 2          /* the fastest; a thread that stops within a push may keep others from popping */
 };
-
-/* So many pushes may a seat of MSQ_RING make, of two steps each, without a look whether there is room: its reserve. */
-#define MSQ_RESERVE 32
 
 enum msq_role { MSQ_GIVER = 1, MSQ_TAKER = 2, MSQ_BOTH = 3 };
 
@@ -139,7 +136,7 @@ typedef struct msq_remaining {
  * greatest count that so many nodes leave room for, where that is less: take MSQ_MOST_COUNT, but for tests. Up to 65,534 nodes
  * that is 2^48 - 1, enough for nearly 2^47 pushes and as many pops; docs/QUEUES.md has the others. An even limit may wear out
  * with an empty free list: a push then answers MSQ_NO_NODE for good, in place of MSQ_WORN_FREE. The greatest counts are odd.
- * MSQ_RING is full at `nodes` values, but reserves may add up to MSQ_RESERVE more a seat; it has 32,767 seats at most. At least
+ * MSQ_RING has room for `nodes` values, and never holds more; it has 32,767 seats at most. At least
  * `limit` pushes are done before it wears out, or 2^62 less its places, more than any program makes, where that is fewer.
  * MSQ_OK; MSQ_IN_USE where one of the seats is full; else MSQ_BAD_SIZE where a number is out of its range, or there are
  * fewer seats than roles, or more; else MSQ_MEMORY. Refused, it changes no seat.
@@ -172,8 +169,8 @@ uint32_t msq_try_shut(msq_seat *seat, uint32_t turns);
 
 /*
  * Pushes these bodies in their order, as msq_try_push does, until one is refused: how many were pushed goes to `pushed`, and
- * the code is that of the one which was refused, or 0. To MSQ_RING as many go at one step as the seat has in reserve, up
- * to MSQ_RESERVE; else each goes by itself. Pushes of other seats may come between them. Each step has so many turns. Where
+ * the code is that of the one which was refused, or 0. To MSQ_RING as many go at one step as there is room for, up
+ * to 32; else each goes by itself. Pushes of other seats may come between them. Each step has so many turns. Where
  * there are no bodies, any seat will do; without a seat 0 is written.
  */
 uint32_t msq_push_all(msq_seat *seat, const uint64_t *bodies, size_t bodies_len, uint32_t turns, size_t *pushed);
@@ -196,15 +193,15 @@ uint32_t msq_keep_nodes(msq_seat *seat, bool keeps);
 /*
  * Whether the queue holds a value, as it was at a moment of this call; any seat may ask, and nothing is popped. It is proved
  * that all that the seat did or found before is counted in. MSQ_OK where the queue holds a value; MSQ_EMPTY where it is empty,
- * MSQ_CLOSED where it is shut too, so that nothing comes any more; MSQ_BUSY where pops took effect meanwhile, or where a
- * MSQ_RING is shut and the push at its front, done or refused, hasn't ended: look again. MSQ_NO_SEAT.
+ * MSQ_CLOSED where it is shut too, so that nothing comes any more; MSQ_BUSY where pops took effect meanwhile: look
+ * again. MSQ_NO_SEAT.
  */
 uint32_t msq_emptiness(msq_seat *seat);
 
 /*
  * Writes bounds of how many values the queue held at a moment of this call; any seat may ask. It is proved that all that the
- * seat did or found before is counted in. The bounds are one number where no other call is under way, which is only tested;
- * but of a MSQ_RING that is shut MSQ_RESERVE a seat may lie between them. MSQ_OK; MSQ_UNCOUNTED of MSQ_TWO_LOCK, whose Tail
+ * seat did or found before is counted in. The bounds are one number where no other call is under way, which is only tested.
+ * MSQ_OK; MSQ_UNCOUNTED of MSQ_TWO_LOCK, whose Tail
  * counts no pushes; MSQ_NO_SEAT. Refused, it writes nothing.
  */
 uint32_t msq_len(msq_seat *seat, msq_length *length);
@@ -212,8 +209,8 @@ uint32_t msq_len(msq_seat *seat, msq_length *length);
 /*
  * Writes how many pushes are left at least until a word wears out; any seat may ask. While fewer pushes begin, done or
  * refused, those under way too, no call is answered MSQ_WORN_FREE, MSQ_WORN_TAIL or MSQ_WORN_HEAD. That a call begins one push
- * isn't proved, nor any of this of MSQ_RING. It is no limit: more may be left, about twice as many where seats keep nodes, or
- * of MSQ_RING the places in reserve. MSQ_OK or MSQ_NO_SEAT; refused, it writes nothing.
+ * isn't proved, nor any of this of MSQ_RING. It is no limit: more may be left, about twice as many where seats keep nodes.
+ * MSQ_OK or MSQ_NO_SEAT; refused, it writes nothing.
  */
 uint32_t msq_left(msq_seat *seat, msq_remaining *left);
 
@@ -225,7 +222,7 @@ uint32_t msq_meet(msq_seat *one, msq_seat *other);
 
 /*
  * Ends the queue of these seats, which are all of its seats that were not dropped, and empties them. The values left, from
- * the front, go to `values`, as many as have room there; msq_room_for tells how much is enough for all.
+ * the front, go to `values`, as many as have room there: `nodes` of msq_create are enough for all.
  * MSQ_OK; MSQ_TWO_QUEUES where they are not all of one queue, MSQ_BAD_SIZE where there is no seat, MSQ_NO_SEAT where one is
  * empty, MSQ_IN_USE where the queue has a further seat or, of MSQ_RING, had one that was dropped (such a ring can't be closed:
  * pop it empty, and drop its seats), or MSQ_MEMORY: each seat is then as it was. MSQ_RACED where the queue got a further seat
@@ -243,9 +240,6 @@ void msq_drop(msq_seat *seat);
 #define MSQ_INLINE static inline
 #endif
 
-/* Room for all values that a queue of this kind may hold, with so many nodes and seats. */
-MSQ_INLINE size_t msq_room_for(uint32_t kind, uint32_t nodes, size_t seats_len);
-
 /* What a code says in a few words, as "the queue is shut"; of another number "no such code". */
 MSQ_INLINE const char *msq_strerror(uint32_t code);
 
@@ -254,10 +248,6 @@ MSQ_INLINE const char *msq_code_name(uint32_t code);
 
 /* The name of a kind, as "non-blocking"; of another number "no such kind". */
 MSQ_INLINE const char *msq_kind_name(uint32_t kind);
-
-MSQ_INLINE size_t msq_room_for(uint32_t kind, uint32_t nodes, size_t seats_len) {
-    return kind == MSQ_RING ? nodes + MSQ_RESERVE * seats_len : nodes;
-}
 
 MSQ_INLINE const char *msq_kind_name(uint32_t kind) {
     switch (kind) {

@@ -176,7 +176,7 @@ inline std::pair<msq_code, std::vector<seat>> create(kind kind, uint32_t nodes, 
     std::vector<msq_seat> raw(roles.size());
     std::vector<seat> seats(roles.size());
     auto shared = std::make_shared<detail::shared>();
-    shared->room = msq_room_for(static_cast<uint32_t>(kind), nodes, roles.size());
+    shared->room = nodes;
     auto code = static_cast<msq_code>(msq_create(static_cast<uint32_t>(kind), nodes, limit,
                                                  reinterpret_cast<const uint8_t *>(roles.data()), roles.size(),
                                                  raw.data(), raw.size()));

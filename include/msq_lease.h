@@ -104,7 +104,7 @@ MSQ_INLINE uint32_t msq_queue_create(msq_queue *queue, uint32_t kind, uint32_t n
     for (size_t place = 0; code == MSQ_OK && place < roles_len; place++) {
         queue->places[place].seat = seats[place];
     }
-    queue->room = msq_room_for(kind, nodes, roles_len);
+    queue->room = nodes;
     if (code != MSQ_OK) {
         msq_queue_free(queue);
     }

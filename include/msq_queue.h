@@ -25,7 +25,7 @@ typedef void (*msq_free_one)(void *object, void *context);
 
 /*
  * Makes a queue, all zeros before, with room for `capacity` pointers, and seats for `threads` threads that call it at one time,
- * up to 65,535, or 32,767 of MSQ_RING. More may find room: as many as there are seats at most, of MSQ_RING MSQ_RESERVE a seat.
+ * up to 65,535, or 32,767 of MSQ_RING. More may find room, but in MSQ_RING: as many as there are seats at most.
  * MSQ_OK; MSQ_BAD_SIZE, MSQ_MEMORY, or MSQ_IN_USE where there is a queue already: refused, it changes nothing.
  */
 MSQ_INLINE uint32_t msq_queue_open(msq_queue *queue, uint32_t kind, uint32_t capacity, uint16_t threads);

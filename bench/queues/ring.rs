@@ -9,8 +9,6 @@ const HEAD: usize = 16;
 const SLOTS: usize = 32;
 const SHUT: u64 = 1 << 62;
 const PARITY: u64 = 1 << 63;
-/// How many places a seat may have in reserve.
-const CREDITS: u64 = 32;
 const PAUSES: u32 = 64;
 const TURNS: u32 = 8;
 
@@ -18,7 +16,6 @@ pub struct Ring {
     words: Vec<AtomicU64>,
     slots: u64,
     most: u64,
-    credits: u64,
     limit: u64,
     seats: u64,
 }
@@ -37,18 +34,18 @@ pub struct RingSeat<'a> {
     ring: &'a Ring,
     number: u64,
     head: u64,
-    credits: u64,
+    tail: u64,
     turns: u32,
 }
 
 impl Ring {
     pub fn measured(seats: usize, room: usize) -> Ring {
         let (most, seats) = (black_box(room as u64), seats as u64);
-        let slots = (most + CREDITS * seats).next_power_of_two();
+        let slots = most.next_power_of_two();
         let words: Vec<_> = (0..SLOTS + 2 * slots as usize).map(|_| AtomicU64::new(0)).collect();
         words[TAIL].store(slots, SeqCst);
         words[HEAD].store(slots, SeqCst);
-        Ring { words, slots, most, credits: CREDITS, limit: SHUT - 1, seats }
+        Ring { words, slots, most, limit: SHUT - 1, seats }
     }
 
     pub fn slots(&self) -> u64 {
@@ -60,7 +57,7 @@ impl Ring {
             ring: self,
             number,
             head: self.slots,
-            credits: 0,
+            tail: self.slots,
             turns: black_box(TURNS),
         })
     }
@@ -77,46 +74,44 @@ impl Ring {
         self.slot(place).store(self.parity(place) * PARITY + payload, SeqCst);
     }
 
-    fn put(&self, seat: &mut RingSeat, body: u64) -> Result<(), Refusal> {
-        let tail = self.words[TAIL].fetch_add(1, SeqCst);
-        seat.credits -= 1;
-        if tail < SHUT {
-            self.fill(tail, (seat.number << 48) + body);
-            Ok(())
-        } else {
-            self.fill(tail - SHUT, 0);
-            Err(Refusal::Closed)
-        }
-    }
-
     #[inline(always)]
     pub fn push(&self, seat: &mut RingSeat, body: u64) -> Result<(), Refusal> {
-        if seat.credits == 0 {
-            self.reserves(seat)?;
-        }
-        self.put(seat, body)
-    }
-
-    /// Fills the reserve of a seat that has no place.
-    #[cold]
-    #[inline(never)]
-    fn reserves(&self, seat: &mut RingSeat) -> Result<(), Refusal> {
-        for _ in 0..seat.turns {
-            let tail = self.words[TAIL].load(SeqCst);
-            if tail >= SHUT {
-                return Err(Refusal::Closed);
-            } else if tail + self.credits * self.seats > self.limit {
-                return Err(Refusal::Worn);
-            } else if tail < seat.head + self.most {
-                seat.credits = self.credits;
-                return Ok(());
+        for _ in 0..u64::from(seat.turns) + 1 {
+            if seat.tail >= seat.head + self.most || seat.tail >= self.limit {
+                self.look_for_room(seat)?;
             }
-            seat.head = self.words[HEAD].load(SeqCst);
-            if self.most <= tail.saturating_sub(seat.head) {
-                return Err(Refusal::Full);
+            let tail = seat.tail;
+            match self.words[TAIL].compare_exchange(tail, tail + 1, SeqCst, SeqCst) {
+                Ok(_) => {
+                    seat.tail = tail + 1;
+                    self.fill(tail, (seat.number << 48) + body);
+                    return Ok(());
+                }
+                Err(found) => {
+                    seat.tail = found % SHUT;
+                    if found >= SHUT {
+                        return Err(Refusal::Closed);
+                    }
+                }
             }
         }
         Err(Refusal::Busy)
+    }
+
+    #[cold]
+    #[inline(never)]
+    fn look_for_room(&self, seat: &mut RingSeat) -> Result<(), Refusal> {
+        let tail = self.words[TAIL].load(SeqCst);
+        seat.tail = tail % SHUT;
+        if tail >= SHUT {
+            return Err(Refusal::Closed);
+        } else if tail >= self.limit {
+            return Err(Refusal::Worn);
+        } else if tail < seat.head + self.most {
+            return Ok(());
+        }
+        seat.head = self.words[HEAD].load(SeqCst);
+        if self.most <= tail.saturating_sub(seat.head) { Err(Refusal::Full) } else { Ok(()) }
     }
 
     fn front(&self, seat: &RingSeat) -> Option<u64> {
@@ -149,13 +144,6 @@ impl Ring {
                 continue;
             };
             let (head, payload) = (seat.head, word % PARITY);
-            if payload == 0 {
-                seat.head = self.words[HEAD].load(SeqCst);
-                if seat.head == head {
-                    return Err(Refusal::Closed);
-                }
-                continue;
-            }
             match self.words[HEAD].compare_exchange(head, head + 1, SeqCst, SeqCst) {
                 Ok(_) => {
                     seat.head = head + 1;

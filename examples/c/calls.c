@@ -63,7 +63,7 @@ static void numbers_have_their_ranges(uint32_t kind) {
     all->drop();
 }
 
-/* At the limit 1 a node is taken from the free list or given back once. A ring has room for a reserve once. */
+/* At the limit 1 a node is taken from the free list or given back once. A ring has three places. */
 static void pushes_wear_out(uint32_t kind) {
     uint32_t code = MSQ_OK;
     opens(kind, 2, 1, 2);

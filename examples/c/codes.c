@@ -133,7 +133,7 @@ static void many_are_pushed_and_popped(uint32_t kind) {
     expect("in their order", values[0].body * 100 + values[1].body * 10 + values[2].body, 323);
     expect("no further value", values[3].body, 0);
     expect("a push of more than there is room for", msq_push_all(&seats[0], more, 100, 8, &held), MSQ_NO_NODE);
-    expect("as many as there is room for", held >= 15 && held < 16 + MSQ_RESERVE, true);
+    expect("as many as there is room for", held >= 15 && held <= 16, true);
     expect("a shut", msq_try_shut(&seats[0], 8), MSQ_OK);
     expect("a pop of all", msq_pop_up_to(&seats[1], 8, values, 100, &count), MSQ_CLOSED);
     expect("all that was held", count, held);
@@ -184,7 +184,7 @@ static void steps_are_pushed_and_popped(uint32_t kind) {
     expect("a push until it is full", msq_push_all(&seats[0], bodies, 300, 8, &held), MSQ_NO_NODE);
     expect("a pop of two of them", msq_pop_up_to(&seats[1], 8, values, 2, &count), MSQ_OK);
     expect("a push to a nearly full one", msq_push_all(&seats[0], bodies + held, 300 - held, 8, &further), MSQ_NO_NODE);
-    expect("no more than were popped, or a reserve", further <= 2 + MSQ_RESERVE, true);
+    expect("no more than were popped", further <= 2, true);
     expect("a shut by another seat", msq_try_shut(&seats[2], 8), MSQ_OK);
     expect("a push behind it, where no node is free", msq_push_all(&seats[0], bodies, MANY, 8, &count),
            kind == MSQ_RING ? MSQ_CLOSED : MSQ_NO_NODE);
@@ -197,7 +197,7 @@ static void steps_are_pushed_and_popped(uint32_t kind) {
     }
 }
 
-/* A shut comes between two calls of many, while their seat of a ring has places in reserve. */
+/* A shut comes between two calls of many. */
 static void a_shut_comes_between_steps(uint32_t kind) {
     const uint8_t roles[] = {MSQ_GIVER, MSQ_TAKER, MSQ_GIVER};
     uint64_t bodies[70];
@@ -294,20 +294,20 @@ static void the_ends_wear_out(uint32_t kind) {
     msq_drop(&seats[1]);
 }
 
-/* A ring that two values make full, and whose seats have places in reserve. */
+/* A ring with room for two values takes two, and refuses the next. */
 static void a_ring_is_full(void) {
     const uint8_t roles[] = {MSQ_BOTH, MSQ_BOTH};
     msq_seat seats[2] = {0};
-    msq_value values[2 + 2 * MSQ_RESERVE];
+    msq_value values[2];
     msq_rest rest = {0, 0, false, false};
     uint64_t count = 0;
     expect("create", msq_create(MSQ_RING, 2, MSQ_MOST_COUNT, roles, 2, seats, 2), MSQ_OK);
     while (count < 100 && msq_try_push(&seats[0], count, 8) == MSQ_OK) {
         count++;
     }
-    expect("a reserve is pushed", count, MSQ_RESERVE);
+    expect("two are pushed", count, 2);
     expect("a push to a full ring", msq_try_push(&seats[0], 1, 8), MSQ_NO_NODE);
-    expect("one by a seat without a reserve", msq_try_push(&seats[1], 1, 8), MSQ_NO_NODE);
+    expect("one by the other seat", msq_try_push(&seats[1], 1, 8), MSQ_NO_NODE);
     msq_drop(&seats[1]);
     expect("close without a seat that was dropped", msq_close(seats, 1, values, 2, &rest), MSQ_IN_USE);
     expect("a pop", msq_try_pop(&seats[0], 8, values), MSQ_OK);
@@ -319,27 +319,23 @@ static void a_ring_is_full(void) {
 static void a_full_ring_is_closed(void) {
     const uint8_t roles[] = {MSQ_BOTH, MSQ_BOTH};
     msq_seat seats[2] = {0};
-    msq_value values[2 + 2 * MSQ_RESERVE];
+    msq_value values[2];
     msq_rest rest = {0, 0, false, false};
     expect("create", msq_create(MSQ_RING, 2, MSQ_MOST_COUNT, roles, 2, seats, 2), MSQ_OK);
-    expect("a push that fills a reserve", msq_try_push(&seats[0], 0, 8), MSQ_OK);
-    expect("a push that fills the other", msq_try_push(&seats[1], 1, 8), MSQ_OK);
-    for (uint64_t body = 2; body < 2 * MSQ_RESERVE; body++) {
-        expect("a push from a reserve", msq_try_push(&seats[body % 2], body, 8), MSQ_OK);
-    }
-    expect("room", msq_room_for(MSQ_RING, 2, 2) >= 2 * MSQ_RESERVE, true);
-    expect("close", msq_close(seats, 2, values, msq_room_for(MSQ_RING, 2, 2), &rest), MSQ_OK);
-    expect("all are left", rest.left, 2 * MSQ_RESERVE);
-    expect("the last one", values[2 * MSQ_RESERVE - 1].body, 2 * MSQ_RESERVE - 1);
+    expect("a push", msq_try_push(&seats[0], 0, 8), MSQ_OK);
+    expect("a push by the other", msq_try_push(&seats[1], 1, 8), MSQ_OK);
+    expect("close", msq_close(seats, 2, values, 2, &rest), MSQ_OK);
+    expect("all are left", rest.left, 2);
+    expect("the last one", values[1].body, 1);
 }
 
-/* At the limit 1 a seat fills its reserve once, and then no more. */
+/* At the limit 1 a ring with room for two has three places, and then no more. */
 static void a_ring_wears_out(void) {
     const uint8_t roles[] = {MSQ_GIVER, MSQ_TAKER};
     msq_seat seats[2] = {0};
     uint32_t code;
     expect("create", msq_create(MSQ_RING, 2, 1, roles, 2, seats, 2), MSQ_OK);
-    expect("pushes", pushed(&seats[0], &seats[1], &code), MSQ_RESERVE);
+    expect("pushes", pushed(&seats[0], &seats[1], &code), 3);
     expect("a push of a worn ring", code, MSQ_WORN_TAIL);
     expect("a second one", msq_try_push(&seats[0], 1, 8), MSQ_WORN_TAIL);
     expect("a shut of a worn ring", msq_try_shut(&seats[0], 8), MSQ_OK);

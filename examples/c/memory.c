@@ -61,7 +61,7 @@ static const uint8_t roles[] = {MSQ_BOTH, MSQ_BOTH};
 static msq_seat seats[2];
 static msq_words_seat word_seats[2];
 static msq_word_seat single_seats[2];
-static msq_value values[8 + 2 * MSQ_RESERVE];
+static msq_value values[8];
 static msq_item items[8];
 static msq_rest rest;
 static msq_queue queue;

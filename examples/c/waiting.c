@@ -101,7 +101,7 @@ static int fail(uint32_t run, const char *what, uint32_t code) {
 /* Ends the queue: whether each body that was pushed came once, to a thread or as one that was left. */
 static int judge(uint32_t run, struct worker *workers, uint32_t givers, uint32_t all) {
     msq_seat seats[2 * MOST + 1];
-    msq_value left[NODES + MSQ_RESERVE * (2 * MOST + 1)];
+    msq_value left[NODES];
     msq_rest rest;
     uint32_t came[MOST * VALUES] = {0};
     for (uint32_t k = 0; k < all; k++) {

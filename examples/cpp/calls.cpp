@@ -148,7 +148,7 @@ template <class Seat> void each_state(msq::kind kind) {
     each(all.pushes, seats[0], "full", MSQ_NO_NODE, true);
 }
 
-// At the limit 1, where each word can be raised once, or a ring's place be claimed by one reserve.
+// At the limit 1, where each word can be raised once, and a ring has three places.
 template <class Seat> void words_wear_out(msq::kind kind) {
     const bool blocks = kind == msq::kind::two_lock, is_ring = kind == msq::kind::ring;
     const calls<Seat> all;

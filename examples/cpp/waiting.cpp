@@ -110,12 +110,11 @@ std::string one_by_one(msq::kind kind) {
     if (seats[1].push_wait(1) != MSQ_OK || seats[1].push_wait(2) != MSQ_OK) {
         return "a push";
     }
-    // A seat of a ring goes on from its reserve.
     size_t count = 2;
     while (seats[1].try_push(count + 1) == MSQ_OK) {
         count++;
     }
-    if (count != (kind == msq::kind::ring ? MSQ_RESERVE : 2) || seats[1].push_wait_for(3, time) != MSQ_NO_NODE) {
+    if (count != 2 || seats[1].push_wait_for(3, time) != MSQ_NO_NODE) {
         return "a push to a full queue";
     }
     if (std::chrono::steady_clock::now() - began < 2 * time) {

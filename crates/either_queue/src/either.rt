@@ -4,7 +4,7 @@ use history::{Body, Fifo, Refusal, Taken};
 /// A queue of one of two kinds. Threads share it by reference, each with a seat of its own.
 ///
 /// ```rust
-/// let (queue, seats) = RingQueue::new(alloc, 1024, 32, limit, &roles)?;
+/// let (queue, seats) = RingQueue::new(alloc, 1024, limit, &roles)?;
 /// let queue: EitherQueue<PickedQueue, RingQueue> = EitherQueue::Second(queue);
 /// ```
 #[derive(Drop)]

@@ -72,7 +72,7 @@ impl<A: Fifo + Drop, B: Fifo + Drop> EitherQueue<A, B> {
     /// Refused by `Memory` alone; the queue is then given up. Takes memory for the list, and doesn't wait.
     ///
     /// ```rust
-    /// let (queue, seats) = RingQueue::new(alloc, 1024, 32, limit, &roles)?;
+    /// let (queue, seats) = RingQueue::new(alloc, 1024, limit, &roles)?;
     /// let (queue, seats) = EitherQueue::<PickedQueue, RingQueue>::of_second(alloc, queue, seats)?;
     /// ```
     pub fn of_second(

@@ -42,10 +42,10 @@ pub record IsCrew {Q S : Type 0} (is_seat : Q → S → Type 0) (permits : Q →
 abbrev pub crew_plan : Kind → (nodes workers : ℕ) → Layout
 crew_plan kind nodes workers = plan 24 kind nodes (2 ^ count_bits 24 - 1) (crew_roles workers)
 
--- a ring was made for jobs: so many values make it full, each seat may have 32 places in reserve, its places go up to the
--- greatest one of all, and its seats have the crew's roles
+-- a ring was made for jobs: it has room for so many values, its places go up to the greatest one of all, and its seats have the
+-- crew's roles
 abbrev pub IsCrewRing : (values workers : ℕ) → RingQueue (Unit {0}) → Type 0
-IsCrewRing values workers q = (seats : List (Seat (Unit {0}))) × IsMade values 32 (2 ^ 62 - 1) (ring_crew_roles workers) q seats
+IsCrewRing values workers q = (seats : List (Seat (Unit {0}))) × IsMade values (2 ^ 62 - 1) (ring_crew_roles workers) q seats
 
 -- a queue was made for jobs: of this kind, with so many nodes, or values that make a ring full, and a crew of so many workers
 abbrev pub IsCrewQueue : QueueKind → (nodes workers : ℕ) → EitherQueue AnyQueue (RingQueue (Unit {0})) → Type 0

@@ -31,9 +31,6 @@ use std::alloc::Global;
 use std::sync::Wait;
 use std::thread::Threads;
 
-/// How many places a seat of a ring may have in reserve.
-const RESERVE: u32 = 32;
-
 /// The last place of a ring: the greatest one that a ring may have.
 const MOST_PLACE: u64 = (1 << 62) - 1;
 
@@ -158,7 +155,7 @@ fn results_by_ring<'a, R: Threads + Wait + Sync>(
     ensures refusal { IfErr result StopsWorkers }
 {
     let roles = ring_roles_of(alloc, workers)?;
-    let (queue, seats) = RingQueue::new(alloc, values, RESERVE, MOST_PLACE, &roles)?;
+    let (queue, seats) = RingQueue::new(alloc, values, MOST_PLACE, &roles)?;
     results_over(rt, alloc, queue, workers, seats, jobs)
 }
 

@@ -57,13 +57,13 @@ OpenRefused z BadSize = NewRefused z BadSize
 OpenRefused z Memory = Unit {0}
 OpenRefused z _ = ⊥
 
--- a ring was made for senders and their receiver: so many values make it full, each seat may have 32 places in reserve, its
--- places go up to the greatest one of all, and these are its seats
+-- a ring was made for senders and their receiver: it has room for so many values, its places go up to the greatest one of all, and these
+-- are its seats
 abbrev pub IsMailRing : (values senders : ℕ) → RingQueue (Unit {0}) → List (RingSeat (Unit {0})) → Type 0
-IsMailRing values senders q seats = IsMade values 32 (2 ^ 62 - 1) (ring_roles senders) q seats
+IsMailRing values senders q seats = IsMade values (2 ^ 62 - 1) (ring_roles senders) q seats
 
 -- a new ring is refused for this cause: a size is out of its range, or there was no memory
 abbrev pub OpenRingRefused : (values senders : ℕ) → Refusal → Type 0
-OpenRingRefused values senders BadSize = RingRefused values 32 (2 ^ 62 - 1) (ring_roles senders) BadSize
+OpenRingRefused values senders BadSize = RingRefused false values (2 ^ 62 - 1) (ring_roles senders) BadSize
 OpenRingRefused values senders Memory = Unit {0}
 OpenRingRefused values senders _ = ⊥

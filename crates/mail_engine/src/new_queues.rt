@@ -15,9 +15,6 @@ use node_arena::{Role, Seat};
 use ring_queue::{RingQueue, Role as RingRole, Seat as RingSeat};
 use std::alloc::Global;
 
-/// How many places a seat of a ring may have in reserve.
-const RESERVE: u32 = 32;
-
 /// The last place of a ring: the greatest one that a ring may have.
 const MOST_PLACE: u64 = (1 << 62) - 1;
 
@@ -69,7 +66,7 @@ pub fn mail_ring(
     ensures refused { IfErr result (OpenRingRefused values senders) }
 {
     let roles = ring_roles_of(alloc, senders)?;
-    let (queue, mut seats) = RingQueue::new(alloc, values, RESERVE, MOST_PLACE, &roles)?;
+    let (queue, mut seats) = RingQueue::new(alloc, values, MOST_PLACE, &roles)?;
     let Some(receiver) = seats.pop() else {
         unreachable!()
     };

@@ -1,13 +1,13 @@
 -- What pushes and pops of many values at one step of a ring tell.
-use Rattle.std.proofs.Common.{◌≡◌, ℕ, ◌≤◌, min, List, [], length, take, sym, subst, Result, Ok, Err, IfOk, IfErr}
+use Rattle.std.proofs.Common.{◌≡◌, ℕ, ◌≤◌, List, [], length, take, sym, subst, Result, Ok, Err, IfOk, IfErr}
 use Rattle.history.specs.declared.operations.Taken.{Taken}
 use Rattle.history.specs.declared.refusals.Refusal.{Refusal}
 use Rattle.history.specs.Answers.{StopsPush, StopsPop, PushRefused, PopRefused}
 use Rattle.ring_queue.specs.declared.queue.RingQueue.{RingQueue}
 use Rattle.ring_queue.specs.declared.seats.Seat.{Seat}
-use Rattle.ring_queue.specs.Seats.{known_of, reserve_of}
+use Rattle.ring_queue.specs.Seats.{known_of}
 use Rattle.ring_queue.specs.Steps.{PushedAll}
-use Rattle.ring_queue.specs.Many.{reserve_for}
+use Rattle.ring_queue.specs.Many.{AreEnough}
 use Rattle.ring_queue.specs.Queues.{push_causes, pop_causes}
 use Rattle.ring_queue.specs.Batches as ring
 use Rattle.either_queue.specs.Either.{second_of, as_second}
@@ -22,11 +22,11 @@ module _ (r : RingQueue (Unit {0})) (s t : Seat (Unit {0})) (q : Queue) (x : Sea
 
   -- a push of many by a ring tells what one at a step does
   pub tells_push : (bodies : List ℕ) (out : Result ℕ Refusal) → 1 ≤ length bodies
-      → IfOk out (λ count. count ≡ min (length bodies) (reserve_for r.plan (reserve_of s))) → IfOk out (λ count. PushedAll (known_of s) (take count bodies) (known_of t))
+      → IfOk out (AreEnough r.plan t bodies) → IfOk out (λ count. PushedAll (known_of s) (take count bodies) (known_of t))
       → IfErr out (λ refusal. PushRefused (known_of s) refusal (known_of t)) → IfErr out StopsPush → IfErr out (λ refusal. push_causes r s t turns refusal)
       → TellsPush bodies turns q x out (as_second t)
   tells_push bodies (Ok count) some same f refused stops caused = on_ring (λ z y. TellsPush bodies turns z y (Ok count) (as_second t))
-      (some_pushed (known_of s) (known_of t) r.plan (reserve_of s) count bodies r.laid.planned.given some same f)
+      (some_pushed (known_of s) (known_of t) count bodies (same.some some) same.few f)
   tells_push bodies (Err refusal) some same f refused stops caused = on_ring (λ z y. TellsPush bodies turns z y (Err refusal) (as_second t)) (stops, refused, caused)
 
   -- so does a pop

@@ -2,16 +2,13 @@
 use Rattle.std.proofs.Common.{◌≡◌, ℕ, zero, suc, ◌+◌, ◌-◌, ◌<◌, ◌≤◌, Bool, if◌then◌else◌, min, List, [], ◌∷◌, ◌++◌, length, map, take, drop, set, get_or, Some}
 use Rattle.std.proofs.Common.{None, Ok, Err, sym, refl, ap, ◌∙◌, subst, arith, append_assoc, take-add, take-take, take_at, drop_at, drop-drop, length-take}
 use Rattle.std.proofs.Common.{length-take-le, length-append, get_or-drop}
-use Rattle.std.proofs.Math.Dec.{eqb-suc-zero}
 use Rattle.std.proofs.lemmas.List.{take-append-drop, map-append, map_push, take_rest, take_more, take_more_set, drop_more, set_at, length-map, length_push}
 use Rattle.history.specs.declared.operations.Entry.{Entry}
 use Rattle.history.specs.declared.operations.Entry.TheVariants.{Push, Pop}
 use Rattle.history.specs.declared.operations.Taken.{Taken}
 use Rattle.history.specs.Seats.{Known}
 use Rattle.history.specs.Answers.{Adds, Pushed, Popped}
-use Rattle.ring_queue.specs.Plans.{Layout}
 use Rattle.ring_queue.specs.Steps.{AddsAll, PushedAll}
-use Rattle.ring_queue.specs.Many.{reserve_for}
 use Rattle.ring_queue.specs.Batches as ring
 use Rattle.msq_c.specs.declared.seat_blocks.SeatBlock.{SeatBlock}
 use Rattle.msq_c.specs.declared.values.MsqValue.{MsqValue}
@@ -59,18 +56,9 @@ first_pushed a b bodies some f = record {
   makes = subst (λ (xs : List ℕ). Makes a (pushes a.number xs) b) (sym (take_more bodies 0 0 some)) (makes_added a b (Push a.number (get_or bodies 0 0)) f);
 }
 
-some_reserve : (z : Layout) (reserve : ℕ) → 1 ≤ z.credits → 1 ≤ reserve_for z reserve
-some_reserve z zero g = g
-some_reserve z (suc n) g = subst (λ (b : Bool). 1 ≤ (if b then z.credits else suc n)) (sym (eqb-suc-zero n)) (let e : 1 ≤ suc n = omega arith in e)
-
--- a ring takes as many as its seat has places in reserve
-pub some_pushed : (a b : Known) (z : Layout) (reserve count : ℕ) (bodies : List ℕ) → 1 ≤ z.credits → 1 ≤ length bodies → count ≡ min (length bodies) (reserve_for z reserve)
-    → PushedAll a (take count bodies) b → PushesFirst a bodies b count
-some_pushed a b z reserve count bodies given some same f = let room = some_reserve z reserve given in record {
-  some = omega (arith, room, some, same);
-  few = omega (arith, same);
-  makes = makes_all a b (pushes a.number (take count bodies)) f;
-}
+-- a ring takes as many as it has room for
+pub some_pushed : (a b : Known) (count : ℕ) (bodies : List ℕ) → 1 ≤ count → count ≤ length bodies → PushedAll a (take count bodies) b → PushesFirst a bodies b count
+some_pushed a b count bodies some few f = record { some = some; few = few; makes = makes_all a b (pushes a.number (take count bodies)) f }
 
 -- the first number that is a body
 pub first_one : (numbers : List ℕ) (first : ℕ) → 1 ≤ length numbers → first ≡ get_or numbers 0 0 → first ∷ [] ≡ take 1 numbers

@@ -27,7 +27,7 @@ use Rattle.msq_c.specs.declared.seat_blocks.SeatBlock.{SeatBlock}
 use Rattle.msq_c.specs.declared.handles.MsqSeat.{MsqSeat}
 use Rattle.msq_c.specs.Blocks.{Owned, owned_in}
 use Rattle.msq_c.specs.Seats.{block_at, known_at}
-use Rattle.msq_c.specs.Made.{IsNew, AreUnused, ArePut, AreAsked, plan_for, places_for, reserve, kind_number, role_number, ring_role_number, seat_at}
+use Rattle.msq_c.specs.Made.{IsNew, AreUnused, ArePut, AreAsked, plan_for, places_for, kind_number, role_number, ring_role_number, seat_at}
 
 -- a new queue of nodes, and its seats, as those of one of any kind
 module _ (kind nodes limit : ℕ) (numbers : List ℕ) (k : Kind) (roles : List Role) (kinds : kind_number k ≡ kind) (those : map role_number roles ≡ numbers)
@@ -43,7 +43,7 @@ module _ (kind nodes limit : ℕ) (numbers : List ℕ) (k : Kind) (roles : List 
 -- a new ring, and its seats
 module _ (values limit : ℕ) (numbers : List ℕ) (roles : List RingRole) (those : map ring_role_number roles ≡ numbers)
     (r : RingQueue (Unit {0})) (within : List (RingSeat (Unit {0}))) (q : Queue) (seats : List SeatOf) (is : q ≡ second_of r) (are : seats ≡ map as_second within) where
-  pub ring_new : ring.IsMade values reserve (places_for values (length numbers) limit) roles r within → IsNew 2 values limit numbers q seats
+  pub ring_new : ring.IsMade values (places_for values limit) roles r within → IsNew 2 values limit numbers q seats
   ring_new made = subst (λ (x : Queue). IsNew 2 values limit numbers x seats) (sym is)
       (refl, record { roles = roles; of_roles = those; within = within; those = are; made = made })
 

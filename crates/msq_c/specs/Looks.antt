@@ -11,7 +11,7 @@ use Rattle.arena_queue.specs.Lefts.{HasLeft}
 use Rattle.any_queue.specs.declared.picked.PickedQueue.{PickedQueue}
 use Rattle.any_queue.specs.Picked.{picked_arena_of}
 use Rattle.ring_queue.specs.declared.lengths.RingEmptiness.{RingEmptiness}
-use Rattle.ring_queue.specs.declared.lengths.RingEmptiness.TheVariants.{Empty, ShutEmpty, Holds, Moved, Unfilled}
+use Rattle.ring_queue.specs.declared.lengths.RingEmptiness.TheVariants.{Empty, ShutEmpty, Holds, Moved}
 use Rattle.ring_queue.specs.Lengths as ring
 use Rattle.either_queue.specs.declared.either.EitherQueue.TheVariants.{First, Second}
 use Rattle.msq_c.specs.declared.bounds.MsqLen.{MsqLen}
@@ -24,13 +24,12 @@ use Rattle.msq_c.specs.Queues.{Queue}
 use Rattle.msq_c.specs.Seats.{known_at, queue_at, KeepsHandle, NeedsHandle}
 
 -- the code of whether a queue is empty: 0 where it holds a value, 32 where it is empty, 16 where it is shut too, 3 where others
--- were popping, or the place at the front of a ring that is shut wasn't filled
+-- were popping
 abbrev pub emptiness_code : Result RingEmptiness Trouble → ℕ
 emptiness_code (Ok Holds) = 0
 emptiness_code (Ok Empty) = 32
 emptiness_code (Ok ShutEmpty) = 16
 emptiness_code (Ok Moved) = 3
-emptiness_code (Ok Unfilled) = 3
 emptiness_code (Err refusal) = code_of refusal
 
 -- the code of how long a queue is: 42 where that can't be told

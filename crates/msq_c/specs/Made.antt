@@ -62,14 +62,10 @@ count_for nodes limit = min limit (greatest_count (bits_for nodes))
 abbrev pub plan_for : Kind → (nodes limit : ℕ) → List Role → Layout
 plan_for kind nodes limit roles = limited_plan kind nodes (count_for nodes limit) roles
 
--- how many places a seat of a ring may have in reserve
-abbrev pub reserve : ℕ
-reserve = 32
-
--- the last place of a ring that so many values make full, with so many seats and this limit: so many pushes are left at first, and
--- more, as its slots and all reserves are no more than three times its values and reserves; or the greatest place there is
-abbrev pub places_for : (values seats limit : ℕ) → ℕ
-places_for values seats limit = min (limit + 3 * (values + reserve * seats)) (2 ^ 62 - 1)
+-- the last place of a ring with room for so many values, with this limit: so many pushes are left at first, and more, as its slots are
+-- fewer than twice its values; or the greatest place there is
+abbrev pub places_for : (values limit : ℕ) → ℕ
+places_for values limit = min (limit + 2 * values) (2 ^ 62 - 1)
 
 -- a queue has such sizes
 pub record AreSizes (nodes limit seats : ℕ) : Type 0 where
@@ -119,7 +115,7 @@ pub record IsNewRing (values limit : ℕ) (numbers : List ℕ) (q : RingQueue (U
   pub of_roles : map ring_role_number roles ≡ numbers
   pub within : List (RingSeat (Unit {0}))
   pub those : seats ≡ map as_second within
-  pub made : ring.IsMade values reserve (places_for values (length numbers) limit) roles q within
+  pub made : ring.IsMade values (places_for values limit) roles q within
 
 -- a new queue of the kind with this number, and its seats
 abbrev pub IsNew : (kind nodes limit : ℕ) (roles : List ℕ) → Queue → List SeatOf → Type 0

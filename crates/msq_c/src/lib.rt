@@ -166,9 +166,9 @@ pub extern "C" fn msq_create(
 ) -> u32
     //= library/create: A queue made from C tells 0 only where all handles were empty, one for each role, and all
     //=   numbers in range; they are then all the seats, unused and in order, of one queue of the kind, nodes and roles asked
-    //=   for, with the limit as greatest count, or that of the split where it is less; a ring has so many values, 32 places
-    //=   in reserve a seat, and places for as many pushes as the limit says, or all there are. Refused, no handle changed,
-    //=   and the code is just the one that include/msq.h has for the case.
+    //=   for, with the limit as greatest count, or that of the split where it is less; a ring has room for so many values, and
+    //=   places for as many pushes as the limit says, or all there are. Refused, no handle changed, and the code is just the
+    //=   one that include/msq.h has for the case.
     ensures { Tells done_code result
         (AnswersCreate kind nodes limit roles.now slots.old slots.new) }
 {

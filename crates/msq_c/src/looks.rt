@@ -112,9 +112,7 @@ pub(crate) fn code_of_emptiness(found: Result<RingEmptiness, Trouble>) -> u32
         Ok(RingEmptiness::Holds) => 0,
         Ok(RingEmptiness::Empty) => EMPTY,
         Ok(RingEmptiness::ShutEmpty) => Trouble::Refused(Refusal::Closed).code(),
-        Ok(RingEmptiness::Moved) | Ok(RingEmptiness::Unfilled) => Trouble::Refused(
-            Refusal::Busy,
-        ).code(),
+        Ok(RingEmptiness::Moved) => Trouble::Refused(Refusal::Busy).code(),
         Err(refusal) => refusal.code(),
     }
 }

@@ -29,9 +29,6 @@ use std::alloc::Global;
 /// The number of the ring.
 const RING: u32 = 2;
 
-/// How many places a seat of a ring may have in reserve.
-const RESERVE: u32 = 32;
-
 /// The kind of this number.
 pub(crate) fn kind_of(number: u32) -> Kind
     requires { number ≤ 1 }
@@ -165,14 +162,12 @@ pub(crate) fn count_for(nodes: u32, limit: u64) -> u64
     limit.min(most_count(bits_for(nodes)))
 }
 
-// The last place of a ring that so many values make full, with so many seats and this limit.
-fn places_for(values: u32, seats: usize, limit: u64) -> u64
-    requires limit { limit < 2 ^ 62 }
-    requires seats { seats < 2 ^ 15 }
-    ensures { result ≡ made.places_for values seats limit }
+// The last place of a ring with room for so many values, with this limit.
+fn places_for(values: u32, limit: u64) -> u64
+    requires { limit < 2 ^ 62 }
+    ensures { result ≡ made.places_for values limit }
 {
-    let room = u64::from(values) + u64::from(RESERVE) * seats as u64;
-    (limit + 3 * room).min((1 << 62) - 1)
+    (limit + 2 * u64::from(values)).min((1 << 62) - 1)
 }
 
 // A new queue of nodes, of this kind, and its seats.
@@ -203,7 +198,7 @@ fn new_linked(
     Ok(made)
 }
 
-// A new ring that so many values make full, and its seats.
+// A new ring with room for so many values, and its seats.
 fn new_ring(
     alloc: Global,
     values: u32,
@@ -218,8 +213,8 @@ fn new_ring(
     ensures only_memory { IfErr result IsMemory }
 {
     let roles = ring_roles_of(alloc, numbers)?;
-    let places = places_for(values, numbers.len(), limit);
-    let Ok((queue, seats)) = RingQueue::new(alloc, values, RESERVE, places, &roles) else {
+    let places = places_for(values, limit);
+    let Ok((queue, seats)) = RingQueue::new(alloc, values, places, &roles) else {
         return Err(Trouble::Refused(Refusal::Memory));
     };
     let Ok(made) = EitherQueue::of_second(alloc, queue, seats) else {

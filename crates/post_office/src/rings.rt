@@ -22,9 +22,6 @@ use std::alloc::Global;
 /// How many senders and receivers there may be together: the seats of a ring are 32,767 at most.
 const MOST_HANDLES: usize = 32_764;
 
-/// The places that a seat may have in reserve.
-const RESERVE: u32 = 32;
-
 /// The greatest place that there is.
 const MOST_PLACE: u64 = (1 << 62) - 1;
 
@@ -48,7 +45,7 @@ fn ring_for<T>(
     ensures unused { IfOk result (λ r. AreNewOf (permits_of r.0) (map known_by r.1.items)) }
     ensures sized { IfOk result (λ r. (plan_of r.0).most ≡ max places 1) }
     ensures refused { IfErr result (λ refusal. (refusal ≡ Refusal.Memory)
-        ⊎ RingRefused (max places 1) 32 4611686018427387903 (ring_roles_for senders receivers)
+        ⊎ RingRefused true (max places 1) 4611686018427387903 (ring_roles_for senders receivers)
         refusal) }
 {
     if senders.saturating_add(receivers) > MOST_HANDLES {
@@ -56,7 +53,7 @@ fn ring_for<T>(
     }
     let roles = roles_for(alloc, Role::Giver, Role::Taker, senders, receivers)?;
     let most = places.max(1);
-    let (ring, seats) = RingValues::<T>::new(alloc, most, RESERVE, MOST_PLACE, &roles)?;
+    let (ring, seats) = RingValues::<T>::new(alloc, most, MOST_PLACE, &roles)?;
     Ok((ring, seats))
 }
 
@@ -66,8 +63,8 @@ impl<T: Send + Drop> PostOffice<RingValues<T>> {
     /// It ends by `shut`, or by dropping, and what is left is then received: a ring is closed by all its seats, of which those by
     /// which the last handles shut it don't come back.
     ///
-    /// Refusals: `BadSize` where the handles are more than 32,764; else `Memory`. Takes memory for a place for each letter, for 32
-    /// in reserve of each seat, and for the handles, and doesn't wait.
+    /// Refusals: `BadSize` where the handles are more than 32,764; else `Memory`. Takes memory for a place for each letter, for one
+    /// more of each seat, and for the handles, and doesn't wait.
     ///
     /// ```rust
     /// let (mut office, senders, receivers) = PostOffice::open_ring(alloc, 1000, 4, 2)?;
@@ -81,7 +78,7 @@ impl<T: Send + Drop> PostOffice<RingValues<T>> {
         //= offices/open_ring (queue, senders, receivers, takers, sized, refused): An office opened over a new ring has as many
         //=   senders and receivers as were asked for, numbered from 1 on, which have done nothing; no other seat may pop; and
         //=   as many letters make the ring full as were asked for, at least one. It is refused by `Memory`, or as a new ring
-        //=   of these sizes is, with 32 places in reserve for each seat.
+        //=   of these sizes is.
         ensures queue { IfOk result (λ r. AreOf (office_queue r.0) r.0 r.1.items r.2.items) }
         ensures senders { IfOk result
             (λ r. map (λ h. known_by (sender_seat h)) r.1.items ≡ newcomers 1 senders) }
@@ -91,7 +88,7 @@ impl<T: Send + Drop> PostOffice<RingValues<T>> {
             → (senders < n) × (n ≤ senders + receivers)) }
         ensures sized { IfOk result (λ r. (plan_of (office_queue r.0)).most ≡ max places 1) }
         ensures refused { IfErr result (λ refusal. (refusal ≡ Refusal.Memory)
-            ⊎ RingRefused (max places 1) 32 4611686018427387903 (ring_roles_for senders receivers)
+            ⊎ RingRefused true (max places 1) 4611686018427387903 (ring_roles_for senders receivers)
             refusal) }
     {
         let (queue, seats) = ring_for::<T>(alloc, places, senders, receivers)?;

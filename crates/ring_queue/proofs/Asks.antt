@@ -12,6 +12,7 @@ use Rattle.ring_queue.specs.Beside.{Beside, EffectBy, HoldsBy, IsReadyBy, Moves,
 use Rattle.ring_queue.specs.Seats.{view, Sits}
 use Rattle.ring_queue.proofs.Calls.{Does}
 use Rattle.ring_queue.proofs.Lifts.{allows_beside}
+use Rattle.ring_queue.proofs.Runs.{Ran}
 
 -- nothing has to be ready for a step that adds nothing
 pub ready_none : {T : Type 0} (b : Bool) (slots n : ℕ) (me : Me (Option T) (Beside T)) → IsReadyBy b slots n [] me
@@ -49,27 +50,28 @@ stays_shut {T} b n me me' moves =
 
 module _ {T : Type 0} (z about : Layout) (t : TableId) (s : Seat T) (F : Layout → SeatView → ℕ → SeatView → Type 0) (laid : IsTable z about t) where
   -- what a line asks of the table
-  pub asks_all : {all : List Entry} (i : ℕ) (f : ℕ → ℕ) → Sits z t s → i < words_of z → Does z i (view s) f all (F z) → IsReadyBy z.carries z.slots (view s).number all s.token.me
+  pub asks_all : {all : List Entry} (i : ℕ) (f : ℕ → ℕ) → Sits z t s → i < words_of z → Does z i (view s) f all (F z)
+      → ((n : ℕ) (v' : SeatView) → F z (view s) n v' → Ran z i n (f n) (view s) v') → IsReadyBy z.carries z.slots (view s).number all s.token.me
       → (s.token.table_id ≡ t) × (i < t.words) × Allows {S = Option T} (HoldsBy about) t.slots s.token.id s.token.me i f (λ n m. TellsBeside about.carries about all (F about) s.token.me n m)
-  asks_all {all} i f sits within line ready =
+  asks_all {all} i f sits within line ran ready =
       let v : SeatView = view s in
       let me = s.token.me in
-      let at : Me (Option T) (Beside T) = (record { plain = seated v; deeds = me.0.deeds; hand = me.0.hand; others = me.0.others }, me.1) in
-      let back : at ≡ me = (λ i. (record { plain = sym sits.seat i; deeds = me.0.deeds; hand = me.0.hand; others = me.0.others }, me.1)) in
+      let at : Me (Option T) (Beside T) = (record { plain = seated v; deeds = me.0.deeds; hand = me.0.hand; others = me.0.others; tries = me.0.tries }, me.1) in
+      let back : at ≡ me = (λ i. (record { plain = sym sits.seat i; deeds = me.0.deeds; hand = me.0.hand; others = me.0.others; tries = me.0.tries }, me.1)) in
       let P : Layout × Me (Option T) (Beside T) → Type 0 = λ y. Allows {S = Option T} (HoldsBy y.0) t.slots s.token.id y.1 i f (λ n m. TellsBeside y.0.carries y.0 all (F y.0) y.1 n m) in
       let words = laid.words in (
         sits.table,
         omega (arith, within, words),
         subst P (λ c. (sym laid.key c, back c))
-            (allows_beside z t.slots s.token.id i v me.0.deeds me.0.hand me.0.others me.1 f all (F z) line within z.carries (λ c. laid.slots ∙ ap (λ (b : Bool). if b then z.slots else 0) c)
+            (allows_beside z t.slots s.token.id i v me.0.deeds me.0.hand me.0.others me.0.tries me.1 f all (F z) line within ran z.carries (λ c. laid.slots ∙ ap (λ (b : Bool). if b then z.slots else 0) c)
             (subst (λ (y : Me (Option T) (Beside T)). IsReadyBy z.carries z.slots v.number all y) (sym back) ready)),
       )
 
   -- the same of a line that adds nothing
-  pub asks : (i : ℕ) (f : ℕ → ℕ) → Sits z t s → i < words_of z → Does z i (view s) f [] (F z)
+  pub asks : (i : ℕ) (f : ℕ → ℕ) → Sits z t s → i < words_of z → Does z i (view s) f [] (F z) → ((n : ℕ) (v' : SeatView) → F z (view s) n v' → Ran z i n (f n) (view s) v')
       → (s.token.table_id ≡ t) × (i < t.words) × Allows {S = Option T} (HoldsBy about) t.slots s.token.id s.token.me i f (λ n m. TellsQuiet about.carries about (F about) s.token.me n m)
-  asks i f sits within line =
-      let whole = asks_all i f sits within line (ready_none z.carries z.slots (view s).number s.token.me) in (
+  asks i f sits within line ran =
+      let whole = asks_all i f sits within line ran (ready_none z.carries z.slots (view s).number s.token.me) in (
         whole.0,
         whole.1,
         λ state h count mine small.
@@ -78,10 +80,10 @@ module _ {T : Type 0} (z about : Layout) (t : TableId) (s : Seat T) (F : Layout 
       )
 
   -- the same of a line that may shut the queue
-  pub asks_shut : (i : ℕ) (f : ℕ → ℕ) → Sits z t s → i < words_of z → Does z i (view s) f (Shut (view s).number ∷ []) (F z)
+  pub asks_shut : (i : ℕ) (f : ℕ → ℕ) → Sits z t s → i < words_of z → Does z i (view s) f (Shut (view s).number ∷ []) (F z) → ((n : ℕ) (v' : SeatView) → F z (view s) n v' → Ran z i n (f n) (view s) v')
       → (s.token.table_id ≡ t) × (i < t.words) × Allows {S = Option T} (HoldsBy about) t.slots s.token.id s.token.me i f (λ n m. TellsQuiet about.carries about (F about) s.token.me n m)
-  asks_shut i f sits within line =
-      let whole = asks_all i f sits within line (ready_shut z.carries z.slots (view s).number s.token.me) in (
+  asks_shut i f sits within line ran =
+      let whole = asks_all i f sits within line ran (ready_shut z.carries z.slots (view s).number s.token.me) in (
         whole.0,
         whole.1,
         λ state h count mine small.

@@ -1,12 +1,11 @@
 -- The words that a pop of many found, and the values that they say.
-use Rattle.std.proofs.Common.{◌≡◌, ℕ, zero, suc, ◌+◌, ◌%◌, ◌^◌, ◌<◌, ◌≤◌, List, [], ◌∷◌, ◌++◌, length, map, take, set, sym, refl, ap, ◌∙◌, subst, arith, append_assoc}
+use Rattle.std.proofs.Common.{◌≡◌, ℕ, zero, suc, ◌+◌, ◌<◌, ◌≤◌, List, [], ◌∷◌, ◌++◌, length, map, take, set, sym, refl, ap, ◌∙◌, arith, append_assoc}
 use Rattle.history.specs.declared.operations.Entry.TheVariants.{Pop}
 use Rattle.history.specs.declared.operations.Taken.{Taken}
 use Rattle.history.specs.Seats.{Known}
 use Rattle.history.specs.Answers.{SeesMore}
-use Rattle.ring_queue.specs.Steps.{taken_in, AddsAll, AreValues, pops}
+use Rattle.ring_queue.specs.Steps.{taken_in, AddsAll, pops}
 use Rattle.ring_queue.specs.Batches.{PoppedAll, PopsSome}
-use Rattle.ring_queue.proofs.Histories.{all_one_note}
 
 -- one word more
 pub take_set : (xs : List ℕ) (i w : ℕ) → i < length xs → take (i + 1) (set xs i w) ≡ take i xs ++ w ∷ []
@@ -16,9 +15,6 @@ take_set xs i w lt = ap (λ k. take k (set xs i w)) (let e : i + 1 ≡ suc i = o
     go [] k lt = absurd (let f : k < 0 = lt in omega (arith, f))
     go (y ∷ ys) zero lt = refl
     go (y ∷ ys) (suc k) lt = ap (λ us. y ∷ us) (go ys k (let f : suc k < suc (length ys) = lt in omega (arith, f)))
-
-pub values_more : (xs ys : List ℕ) (w : ℕ) → ys ≡ xs ++ w ∷ [] → AreValues xs → 0 < w % 2 ^ 63 → AreValues ys
-values_more xs ys w same values some = subst AreValues (sym same) (all_one_note (λ u. 0 < u % 2 ^ 63) xs w values some)
 
 -- the pops of values are those of the words that say them
 pops_are : (n : ℕ) (ws : List ℕ) → map (λ value. Pop n value) (map taken_in ws) ≡ pops n ws

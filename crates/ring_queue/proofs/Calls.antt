@@ -41,10 +41,10 @@ numbered z t s h =
 
 -- the line that fills a place, at the names of a call
 pub fills_there : (z : Layout) (v : SeatView) (p : ℕ) (x : Option Taken) (xs : List (Option Taken)) (i w : ℕ) → v.stage ≡ claimed p (x ∷ xs) → i ≡ slot_word (p % z.slots) → w ≡ face z.slots p x
-    → Does z i v (λ _. w) [] (λ v n v'. PlaceFilled v v')
+    → Does z i v (λ _. w) [] (PlaceFilled z i w)
 fills_there z v p x xs i w at there is words seats r who =
     subst (λ (y : ℕ × ℕ). (v' : SeatView) × (v'.number ≡ v.number) × (r' : Ring z (set words y.0 y.1) (put seats v.number v'))
-    × Extends [] r.history v r'.history v' × PlaceFilled v v') (λ c. (sym there c, sym is c))
+    × Extends [] r.history v r'.history v' × PlaceFilled z y.0 y.1 v (get_or words y.0 0) v') (λ c. (sym there c, sym is c))
     (fills_place z words seats r v who p x xs at)
 
 -- the line that reads the word at the seat's head, at the names of a call

@@ -1,9 +1,9 @@
 -- A line of a ring keeps the rule of the slots too: what it adds to the history of numbers, it adds to that of values.
 use Rattle.std.proofs.Common.{◌≡◌, ◌≢◌, ℕ, ◌+◌, ◌<◌, ◌≤◌, ◌⊎◌, inl, inr, ⊎_elim, Bool, true, false, if◌then◌else◌, Option, Some, None, List, [], ◌∷◌}
 use Rattle.std.proofs.Common.{◌++◌, zero, suc, length, get_or, set, map, take, sym, refl, ap, ◌∙◌, subst, arith, append-nil, append_assoc}
-use Rattle.std.proofs.lemmas.List.{length-set, get_or-set_same, get_or-set_other, get_or-take, take-set-le}
+use Rattle.std.proofs.lemmas.List.{set-get_or, length-set, get_or-set_same, get_or-set_other, get_or-take, take-set-le}
 use Rattle.std.proofs.Math.Seq.{take-set-lt}
-use mathlib.Core.Option.{some, none, some-injective, some-ne-none}
+use mathlib.Core.Option.{some, none, some-ne-none}
 use mathlib.Core.Option as maybe
 use mathlib.Core.Bool.{true≢false}
 use mathlib.Core.Logic.{dite}
@@ -31,6 +31,8 @@ use Rattle.ring_queue.specs.Rule.{Ring, put}
 use Rattle.ring_queue.specs.Beside.{Beside, plain_of, plain_state, hand_in, hand_at, Begins, Carried, HoldsValues, KnowsValues, Effect, IsReadyFor}
 use Rattle.ring_queue.proofs.Tables.{HoldsWith, Extends, its_seat, one_seat}
 use Rattle.ring_queue.proofs.Calls.{Does}
+use Rattle.ring_queue.specs.Paths.{Try}
+use Rattle.ring_queue.proofs.Runs.{Ran, run_on}
 
 abbrev is_first : {A B : Type 0} → A ⊎ B → Bool
 is_first (inl a) = true
@@ -57,11 +59,12 @@ knows_first z seen w ds rest begins matches q shut runs there =
     record { matches = matches; values = first.0; shut = first.1; runs = first.2; there = there }
 
 module _ {T : Type 0} (z : Layout) (s : State (Option T) (Beside T)) (H : HoldsValues z s) (count : length s.homes ≡ z.slots) (id : ℕ) (v : SeatView)
-    (ds : List (Deed T)) (hd : maybe.Option ℕ) (os : List (List (Deed T)))
-    (mine : get_elem? s.views id ≡ some (record { plain = seated v; deeds = ds; hand = hd; others = os })) (p : ℕ) (f : ℕ → ℕ) (all : List Entry)
-    (fact : SeatView → ℕ → SeatView → Type 0) (line : Does z p v f all fact) (within : p < words_of z) where
+    (ds : List (Deed T)) (hd : maybe.Option ℕ) (os : List (List (Deed T))) (ts : List Try)
+    (mine : get_elem? s.views id ≡ some (record { plain = seated v; deeds = ds; hand = hd; others = os; tries = ts })) (p : ℕ) (f : ℕ → ℕ) (all : List Entry)
+    (fact : SeatView → ℕ → SeatView → Type 0) (line : Does z p v f all fact) (within : p < words_of z)
+    (ran : (n : ℕ) (v' : SeatView) → fact v n v' → Ran z p n (f n) v v') where
   abbrev w : Beside T
-  w = record { plain = seated v; deeds = ds; hand = hd; others = os }
+  w = record { plain = seated v; deeds = ds; hand = hd; others = os; tries = ts }
 
   abbrev m : ℕ
   m = words_of z
@@ -105,7 +108,11 @@ module _ {T : Type 0} (z : Layout) (s : State (Option T) (Beside T)) (H : HoldsV
 
   -- the rule of the numbers after the step
   base0 : HoldsWith z (hist ++ es) record { words = set s0.words p (f (get_or s0.words p 0)); homes = []; views = set s0.views id (seated v') }
-  base0 = (one_seat z s0 H.base id v mine0 v' (set s0.words p (f (get_or s0.words p 0))) done.1 done.2, extends.grown)
+  base0 = (
+    one_seat z s0 H.base id v mine0 v' (set s0.words p (f (get_or s0.words p 0))) done.1 done.2
+        (run_on z s0.words H.base.seats hist v v' all done.2.history p (f (get_or s0.words p 0)) its H.base.run extends (ran (get_or s0.words p 0) v' done.4)),
+    extends.grown,
+  )
 
   same_words : set s0.words p (f (get_or s0.words p 0)) ≡ take m words'
   same_words = sym (take-set-lt m s.words p (f (get_or s.words p 0)) within ∙ ap (λ (k : ℕ). set (take m s.words) p (f k)) (sym (get_or-take m s.words p 0 within)))
@@ -118,7 +125,7 @@ module _ {T : Type 0} (z : Layout) (s : State (Option T) (Beside T)) (H : HoldsV
   sees = is_first extends.seen
 
   abbrev seat_after : List (Deed T) → maybe.Option ℕ → Beside T
-  seat_after d h = record { plain = seated v'; deeds = if sees then rides.deeds ++ d else ds; hand = h; others = [] }
+  seat_after d h = record { plain = seated v'; deeds = if sees then rides.deeds ++ d else ds; hand = h; others = []; tries = ts }
 
   hands : (d : List (Deed T)) (h : maybe.Option ℕ) → Changes (hand_at s.views) (hand_at (set s.views id (seat_after d h))) id h
   hands d h = (ap hand_in (set_at s.views id w (seat_after d h) mine), λ i ne. ap hand_in (set_else s.views id i (seat_after d h) ne))
@@ -261,13 +268,13 @@ module _ {T : Type 0} (z : Layout) (s : State (Option T) (Beside T)) (H : HoldsV
         (refl, told0, (Push v.number b ∷ [], which (Push v.number b ∷ []) is, own (Push v.number b ∷ []) is, (y, refl, refl, refl, (fit.rest, all_seen d (some_entry (Push v.number b) is))))),
       )
 
-  by_pop : (t : Taken) (held : List (ℕ × Option T)) → es ≡ Pop v.number t ∷ [] → Result held
-  by_pop t held is =
+  by_pop : (t : Taken) (held : List (ℕ × Option T)) → hd ≡ none → es ≡ Pop v.number t ∷ [] → Result held
+  by_pop t held empty is =
       let it = rides_pop hist n (flag_at m s.words) (home_at s.homes) (hand_at s.views) v.number rides t (subst IsQueueRun (ap (λ y. hist ++ y) is) legal) in
       let b = t.body in
       let d = popped v.number (item t.from it.0) ∷ [] in
       let homes' = set s.homes b none in
-      let r = it.3 (flag_at m words') (home_at homes') (hand_at (set s.views id (seat_after d (some b)))) id flags
+      let r = it.3 (flag_at m words') (home_at homes') (hand_at (set s.views id (seat_after d (some b)))) id (ap hand_in mine ∙ empty) flags
       (homes s.homes b none (let lt = it.1 in omega (arith, lt, count))) (hands d (some b)) in
       let after = subst (λ (y : List (Deed T)). Runs [] false y (map item_of r.0.q) r.0.shut) (r.1 ∙ ap (λ y. y ++ d) fit.begins) r.0.runs in
       let stood = runs_to_pop [] false (ds ++ fit.rest) [] v.number (item t.from it.0) (map item_of r.0.q) r.0.shut after in
@@ -287,7 +294,7 @@ module _ {T : Type 0} (z : Layout) (s : State (Option T) (Beside T)) (H : HoldsV
       by_all : (fs : List Entry) → IsReadyFor n v.number fs w held → es ≡ fs → Result held
       by_all [] ok is = by_none held is
       by_all (Push k b ∷ []) ok is = subst Result (sym ok.1.1) (by_push b ok.1.0 ok.1.2 ok.1.3 (is ∙ ap (λ y. Push y b ∷ []) ok.0))
-      by_all (Pop k t ∷ []) ok is = by_pop t held (is ∙ ap (λ y. Pop y t ∷ []) ok)
+      by_all (Pop k t ∷ []) ok is = by_pop t held ok.1 (is ∙ ap (λ y. Pop y t ∷ []) ok.0)
       by_all (Shut k ∷ []) ok is = by_shut held (is ∙ ap (λ y. Shut y ∷ []) ok)
       by_all (e ∷ g ∷ es) ok is = absurd ok
 
@@ -317,16 +324,17 @@ TellsValues z v w held all fact k o = ((o.0.plain ≡ seated (knows o.0.plain)) 
     × ((fs : List Entry) × ((fs ≡ []) ⊎ (fs ≡ all)) × ((knows o.0.plain).mine ≡ v.mine ++ fs) × Effect v.number fs w held o.0 o.1))
     × KnowsValues z (knows o.0.plain).seen o.0
 
-module _ {T : Type 0} (z : Layout) (id p : ℕ) (v : SeatView) (ds : List (Deed T)) (hd : maybe.Option ℕ) (os : List (List (Deed T))) (f : ℕ → ℕ)
-    (all : List Entry) (fact : SeatView → ℕ → SeatView → Type 0) (line : Does z p v f all fact) (within : p < words_of z) where
+module _ {T : Type 0} (z : Layout) (id p : ℕ) (v : SeatView) (ds : List (Deed T)) (hd : maybe.Option ℕ) (os : List (List (Deed T))) (ts : List Try) (f : ℕ → ℕ)
+    (all : List Entry) (fact : SeatView → ℕ → SeatView → Type 0) (line : Does z p v f all fact) (within : p < words_of z)
+    (ran : (n : ℕ) (v' : SeatView) → fact v n v' → Ran z p n (f n) v v') where
   abbrev before : Beside T
-  before = record { plain = seated v; deeds = ds; hand = hd; others = os }
+  before = record { plain = seated v; deeds = ds; hand = hd; others = os; tries = ts }
 
   -- what a line asks of a table that carries values
   pub allows_values : (held : List (ℕ × Option T)) → IsReadyFor z.slots v.number all before held
       → Allows {S = Option T} (HoldsValues z) z.slots id (before, held) p f (TellsValues z v before held all fact)
   allows_values held ready s H count mine small =
-      let q = keeps_values z s H count id v ds hd os mine p f all fact line within held ready in
+      let q = keeps_values z s H count id v ds hd os ts mine p f all fact line within ran held ready in
       (q.0, q.1, q.2, q.3, (q.4, q.5))
 
 module _ {T : Type 0} (z : Layout) (id : ℕ) where
@@ -341,70 +349,85 @@ module _ {T : Type 0} (z : Layout) (id : ℕ) where
       subst (λ (y : List ℕ × List View). HoldsWith z H.base.ring.history (record { words = y.0; homes = []; views = y.1 })) (λ i. (sym words i, views i)) (H.base, refl)
 
   -- what is known of the values, where a seat has another slot
-  known_again : (s : State (Option T) (Beside T)) (w : Beside T) (hand' : maybe.Option ℕ) (H : HoldsValues z s) → get_elem? s.views id ≡ some w
-      → (j : ℕ) (o : Beside T) → get_elem? (set s.views id (record { plain = w.plain; deeds = w.deeds; hand = hand'; others = w.others })) j ≡ some o
+  known_again : (s : State (Option T) (Beside T)) (w : Beside T) (hand' : maybe.Option ℕ) (ts' : List Try) (H : HoldsValues z s) → get_elem? s.views id ≡ some w
+      → (j : ℕ) (o : Beside T) → get_elem? (set s.views id (record { plain = w.plain; deeds = w.deeds; hand = hand'; others = w.others; tries = ts' })) j ≡ some o
       → Begins H.values.rides.deeds o
-  known_again s w hand' H mine j o at = ⊎_elim
-      (λ (e : (j ≡ id) × (record { plain = w.plain; deeds = w.deeds; hand = hand'; others = w.others } ≡ o)). subst (Begins H.values.rides.deeds) e.1
+  known_again s w hand' ts' H mine j o at = ⊎_elim
+      (λ (e : (j ≡ id) × (record { plain = w.plain; deeds = w.deeds; hand = hand'; others = w.others; tries = ts' } ≡ o)). subst (Begins H.values.rides.deeds) e.1
       (let g = H.values.known id w mine in let h : Begins H.values.rides.deeds (record {
         plain = w.plain;
         deeds = w.deeds;
         hand = hand';
         others =
             w.others;
+        tries = ts';
       }) = record { rest = g.rest; begins = g.begins; matches = g.matches; pair = g.pair; others = g.others } in h))
       (λ (e : (j ≢ id) × (get_elem? s.views j ≡ some o)). H.values.known j o e.1)
-      (at_set s.views id j (record { plain = w.plain; deeds = w.deeds; hand = hand'; others = w.others }) o at)
+      (at_set s.views id j (record { plain = w.plain; deeds = w.deeds; hand = hand'; others = w.others; tries = ts' }) o at)
 
   -- the slots moved, and the history is as it was
-  moved_slots : (s : State (Option T) (Beside T)) (w : Beside T) (hand' : maybe.Option ℕ) (p x : ℕ) (homes' : List (maybe.Option (Option T)))
+  moved_slots : (s : State (Option T) (Beside T)) (w : Beside T) (hand' : maybe.Option ℕ) (ts' : List Try) (p x : ℕ) (homes' : List (maybe.Option (Option T)))
       (H : HoldsValues z s) → get_elem? s.views id ≡ some w → words_of z ≤ p
       → Slotted z.slots (flag_at (words_of z) (set s.words p x)) (home_at homes')
-      (hand_at (set s.views id (record { plain = w.plain; deeds = w.deeds; hand = hand'; others = w.others }))) H.values.rides.pops
+      (hand_at (set s.views id (record { plain = w.plain; deeds = w.deeds; hand = hand'; others = w.others; tries = ts' }))) H.values.rides.pops
       H.values.rides.q
-      → HoldsValues z record { words = set s.words p x; homes = homes'; views = set s.views id (record { plain = w.plain; deeds = w.deeds; hand = hand'; others = w.others }) }
-  moved_slots s w hand' p x homes' H mine behind slotted =
-      let w' : Beside T = record { plain = w.plain; deeds = w.deeds; hand = hand'; others = w.others } in
+      → HoldsValues z record { words = set s.words p x; homes = homes'; views = set s.views id (record { plain = w.plain; deeds = w.deeds; hand = hand'; others = w.others; tries = ts' }) }
+  moved_slots s w hand' ts' p x homes' H mine behind slotted =
+      let w' : Beside T = record { plain = w.plain; deeds = w.deeds; hand = hand'; others = w.others; tries = ts' } in
       let r = H.values.rides in
       let base = same_base s w w' (set s.words p x) homes' H mine refl (take-set-le (words_of z) s.words p x behind) in
       record {
         base = base.0;
         values = subst (λ (hs : List Entry). Carried z hs record { words = set s.words p x; homes = homes'; views = set s.views id w' }) (sym base.1) (record {
           rides = record { deeds = r.deeds; q = r.q; pops = r.pops; shut = r.shut; leads = r.leads; runs = r.runs; matches = r.matches; slotted = slotted };
-          known = known_again s w hand' H mine;
+          known = known_again s w hand' ts' H mine;
           long = subst (λ (k : ℕ). words_of z + z.slots ≤ k) (sym (length-set s.words p x)) H.values.long;
         });
       }
 
   -- a free slot is got, by its flag
-  pub gets_slot : (w : Beside T) (i : ℕ) → i < z.slots → (s : State (Option T) (Beside T)) (H : HoldsValues z s) → length s.homes ≡ z.slots
+  pub gets_slot : (w : Beside T) (ts' : List Try) (i : ℕ) → i < z.slots → w.hand ≡ none → (s : State (Option T) (Beside T)) (H : HoldsValues z s) → length s.homes ≡ z.slots
       → get_elem? s.views id ≡ some w → get_or s.words (words_of z + i) 0 ≡ 0
-      → (get_elem? s.homes i ≡ some (some None)) × HoldsValues z (stepped s (words_of z + i) 1 id [] (record { plain = w.plain; deeds = w.deeds; hand = some i; others = w.others }) (takes i None))
-  gets_slot w i lt s H count mine down =
-      let w' : Beside T = record { plain = w.plain; deeds = w.deeds; hand = some i; others = w.others } in
+      → (get_elem? s.homes i ≡ some (some None)) × HoldsValues z (stepped s (words_of z + i) 1 id [] (record { plain = w.plain; deeds = w.deeds; hand = some i; others = w.others; tries = ts' }) (takes i None))
+  gets_slot w ts' i lt empty s H count mine down =
+      let w' : Beside T = record { plain = w.plain; deeds = w.deeds; hand = some i; others = w.others; tries = ts' } in
       let p = words_of z + i in
       let homes' = set s.homes i none in
       let r = H.values.rides in
       let long = H.values.long in
       let got = acquires z.slots (flag_at (words_of z) s.words) (flag_at (words_of z) (set s.words p 1)) (home_at s.homes) (home_at homes')
-      (hand_at s.views) (hand_at (set s.views id w')) r.pops id i r.q r.slotted lt down
+      (hand_at s.views) (hand_at (set s.views id w')) r.pops id i r.q r.slotted lt down (ap hand_in mine ∙ empty)
       (get_or-set_same s.words p 1 0 (omega (arith, lt, long)), λ j ne. get_or-set_other s.words p (words_of z + j) 1 0 (λ e. ne (omega (arith, e))))
       (set_here s.homes i none (omega (arith, lt, count)), λ j ne. set_else s.homes i j none ne)
       (ap hand_in (set_at s.views id w w' mine), λ j ne. ap hand_in (set_else s.views id j w' ne)) in
-      (got.0, moved_slots s w (some i) p 1 homes' H mine (omega arith) got.1)
+      (got.0, moved_slots s w (some i) ts' p 1 homes' H mine (omega arith) got.1)
 
   -- an empty slot is given back
   pub frees_slot : (w : Beside T) (k : ℕ) → k < z.slots → w.hand ≡ some k → (s : State (Option T) (Beside T)) (H : HoldsValues z s) → length s.homes ≡ z.slots → get_elem? s.views id ≡ some w
-      → HoldsValues z (stepped s (words_of z + k) 0 id ((k, None) ∷ []) (record { plain = w.plain; deeds = w.deeds; hand = none; others = w.others }) gives)
+      → HoldsValues z (stepped s (words_of z + k) 0 id ((k, None) ∷ []) (record { plain = w.plain; deeds = w.deeds; hand = none; others = w.others; tries = w.tries }) gives)
   frees_slot w k lt hand s H count mine =
-      let w' : Beside T = record { plain = w.plain; deeds = w.deeds; hand = none; others = w.others } in
+      let w' : Beside T = record { plain = w.plain; deeds = w.deeds; hand = none; others = w.others; tries = w.tries } in
       let p = words_of z + k in
       let homes' = set s.homes k (some None) in
       let r = H.values.rides in
       let long = H.values.long in
-      moved_slots s w none p 0 homes' H mine (omega arith)
+      moved_slots s w none w.tries p 0 homes' H mine (omega arith)
       (releases z.slots (flag_at (words_of z) s.words) (flag_at (words_of z) (set s.words p 0)) (home_at s.homes) (home_at homes') (hand_at s.views)
       (hand_at (set s.views id w')) r.pops id k r.q r.slotted (ap hand_in mine ∙ hand)
       (get_or-set_same s.words p 0 0 (omega (arith, lt, long)), λ j ne. get_or-set_other s.words p (words_of z + j) 0 0 (λ e. ne (omega (arith, e))))
       (set_here s.homes k (some None) (omega (arith, lt, count)), λ j ne. set_else s.homes k j (some None) ne)
       (ap hand_in (set_at s.views id w w' mine), λ j ne. ap hand_in (set_else s.views id j w' ne)))
+
+  -- a try that missed: nothing changes but the seat's tries
+  pub misses_slot : (w : Beside T) (ts' : List Try) (i : ℕ) (s : State (Option T) (Beside T)) (H : HoldsValues z s) → get_elem? s.views id ≡ some w
+      → HoldsValues z (stepped s (words_of z + i) (get_or s.words (words_of z + i) 0) id [] (record { plain = w.plain; deeds = w.deeds; hand = w.hand; others = w.others; tries = ts' }) keeps)
+  misses_slot w ts' i s H mine =
+      let w' : Beside T = record { plain = w.plain; deeds = w.deeds; hand = w.hand; others = w.others; tries = ts' } in
+      let p = words_of z + i in
+      let r = H.values.rides in
+      let flags : (j : ℕ) → flag_at (words_of z) s.words j ≡ flag_at (words_of z) (set s.words p (get_or s.words p 0)) j = λ j. ap (λ (ws : List ℕ). get_or ws (words_of z + j) 0) (sym (set-get_or s.words p 0)) in
+      let hands : (j : ℕ) → hand_at s.views j ≡ hand_at (set s.views id w') j = λ j. dite (ℕ_discrete j id)
+      (λ same. ap (hand_at s.views) same ∙ (ap hand_in mine ∙ (sym (ap hand_in (set_at s.views id w w' mine)) ∙ ap (hand_at (set s.views id w')) (sym same))))
+      (λ ne. sym (ap hand_in (set_else s.views id j w' ne))) in
+      let P : (ℕ → ℕ) × (ℕ → maybe.Option ℕ) → Type 0 = λ y. Slotted z.slots y.0 (home_at s.homes) y.1 r.pops r.q in
+      moved_slots s w w.hand ts' p (get_or s.words p 0) s.homes H mine (omega arith) (subst P (λ d. ((λ j. flags j d), (λ j. hands j d))) r.slotted)

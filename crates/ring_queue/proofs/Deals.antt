@@ -1,5 +1,5 @@
 -- The opening keeps the rule, and so does a seat that is dealt.
-use Rattle.std.proofs.Common.{◌≡◌, ◌≢◌, ◌⊎◌, ℕ, ◌+◌, ◌*◌, ◌/◌, ◌%◌, ◌^◌, ◌<◌, ◌≤◌, Bool, false, List, [], ◌∷◌, ◌++◌, zero, suc, length, get_or, set}
+use Rattle.std.proofs.Common.{◌≡◌, ◌≢◌, ◌⊎◌, ℕ, ◌+◌, ◌*◌, ◌/◌, ◌%◌, ◌^◌, ◌<◌, Bool, false, List, [], ◌∷◌, ◌++◌, zero, suc, length, get_or, set}
 use Rattle.std.proofs.Common.{Some, None, slice_get, sym, refl, ap, ◌∙◌, subst, ⊎_elim, inl, inr, arith}
 use Rattle.std.proofs.Math.Arith.{digits_div, digits_mod}
 use Rattle.std.proofs.lemmas.Option.{none-some}
@@ -18,8 +18,9 @@ use Rattle.ring_queue.specs.NewRings.{IsDealt, AreDealt, HasSlots, IsMade, IsMad
 use Rattle.ring_queue.specs.Words.{parity, slot_word}
 use Rattle.ring_queue.specs.Plans.{Layout, IsPlanned, permits_of}
 use Rattle.ring_queue.specs.Knowledge.{SeatView, View, keeper, seated, members, new_seat, known_by, dealt_left, dealt_right}
-use Rattle.ring_queue.specs.Rule.{put, total, Ring, Holds, first_view}
-use Rattle.ring_queue.proofs.Puts.{put_here, put_else, total_bound}
+use Rattle.ring_queue.specs.Rule.{put, Ring, Run, Holds, first_view}
+use Rattle.ring_queue.proofs.Runs.{run_none}
+use Rattle.ring_queue.proofs.Puts.{put_here, put_else}
 use Rattle.ring_queue.proofs.Keeps.{cell}
 use Rattle.ring_queue.proofs.Puts.{got_snoc}
 use Rattle.ring_queue.proofs.Tables.{HoldsWith, one_of}
@@ -48,13 +49,11 @@ first_parity m i lt = ap (λ x. x % 2) (ap (λ x. x / m) (let e : i ≡ 0 * m + 
 pub first_ring : (z : Layout) (words : List ℕ) → IsPlanned z → length words ≡ 32 + 2 * z.slots → get_or words 0 0 ≡ z.slots → get_or words 16 0 ≡ z.slots
     → ((i : ℕ) → i < z.slots → get_or words (slot_word i) 0 ≡ 0) → Ring z words (new_seat z.slots)
 first_ring z words planned wide tail head blank =
-    let none : total (length z.roles) (new_seat z.slots) ≤ 0 * length z.roles = total_bound (length z.roles) 0 (new_seat z.slots) (λ n. omega arith) in
     let from = planned.from in
     record {
       planned = planned;
       head = z.slots;
       tail = z.slots;
-      voids = 0;
       shut = false;
       values = [];
       history = [];
@@ -67,12 +66,11 @@ first_ring z words planned wide tail head blank =
       taken = omega arith;
       permitted = All-nil (IsPermitted (permits_of z));
       counted = omega arith;
-      unshut = λ _. refl;
-      spare = omega (arith, none);
-      roomy = omega (arith, none);
-      limited = omega (arith, none, from);
+      roomy = omega arith;
+      limited = omega (arith, from);
       logged = λ i v at. absurd (none-some v at);
-      marked = λ p _ _. refl;
+      first_lap = λ p _. refl;
+      in_order = λ i lt. absurd (omega (arith, lt));
       fits = λ p. tt;
       each_cell = λ i lt. record {
         slot = first_slot z.slots i lt;
@@ -84,7 +82,7 @@ first_ring z words planned wide tail head blank =
       each_seat = λ n. record {
         number = refl;
         behind = omega arith;
-        few = omega arith;
+        under = omega arith;
         rest = [];
         begins = refl;
         own = refl;
@@ -95,10 +93,11 @@ first_ring z words planned wide tail head blank =
     }
 
 -- the rule holds of a new table, in which such words lie
-pub opens : (z : Layout) (words : List ℕ) → Ring z words (new_seat z.slots) → Holds z (opening {S = ℕ} words [] (first_view z))
-opens z words ring = record {
+pub opens : (z : Layout) (words : List ℕ) (ring : Ring z words (new_seat z.slots)) → Run z words (new_seat z.slots) ring.history → Holds z (opening {S = ℕ} words [] (first_view z))
+opens z words ring run = record {
   seats = new_seat z.slots;
   ring = ring;
+  run = run;
   dealt = 1;
   home = 0;
   owner = λ p. (0, 0);
@@ -112,7 +111,8 @@ opens z words ring = record {
 pub opened : (z : Layout) (words : List ℕ) → IsPlanned z → length words ≡ 32 + 2 * z.slots → get_or words 0 0 ≡ z.slots → get_or words 16 0 ≡ z.slots
     → ((i : ℕ) → i < z.slots → get_or words (slot_word i) 0 ≡ 0) → (h : Holds z (opening {S = ℕ} words [] (first_view z))) × (h.ring.history ≡ [])
 unfolding opens first_ring
-opened z words planned wide tail head blank = (opens z words (first_ring z words planned wide tail head blank), refl)
+opened z words planned wide tail head blank =
+    (opens z words (first_ring z words planned wide tail head blank) (run_none z words (new_seat z.slots) (record { wide = wide; tail = tail; head = head; blank = blank }) (λ n. refl) (λ n. refl)), refl)
 
 -- a seat is dealt
 pub deals : (z : Layout) (es : List Entry) (id n : ℕ) → Splits {S = ℕ} (HoldsWith z es) id (keeper z.slots n) (dealt_left (keeper z.slots n)) (dealt_right (keeper z.slots n))
@@ -141,6 +141,7 @@ deals z es id n s whole mine =
       record {
         seats = h.seats;
         ring = h.ring;
+        run = h.run;
         dealt = n + 1;
         home = h.home;
         owner = own;
@@ -169,28 +170,26 @@ one_more {T} z t xs n s len all new k y got = ⊎_elim (λ (h : slice_get xs k �
     (got_snoc xs s y k got)
 
 -- what is built of a plan is a ring of its sizes
-pub made : {T : Type 0} (carries : Bool) (most credits limit slots : ℕ) (roles copied : List Role) (q : RingQueue T) (seats : List (Seat T)) → copied ≡ roles → HasSlots most credits roles slots
-    → q.plan ≡ record { slots = slots; most = most; credits = credits; limit = limit; roles = copied; carries = carries } → length seats ≡ length copied
-    → AreDealt record { slots = slots; most = most; credits = credits; limit = limit; roles = copied; carries = carries } q.table.shared.table_id
-    seats → IsMadeFor carries most credits limit roles q seats
-made carries most credits limit slots roles copied q seats same has is count dealt_all =
+pub made : {T : Type 0} (carries : Bool) (most limit slots : ℕ) (roles copied : List Role) (q : RingQueue T) (seats : List (Seat T)) → copied ≡ roles → HasSlots carries most roles slots
+    → q.plan ≡ record { slots = slots; most = most; limit = limit; roles = copied; carries = carries } → length seats ≡ length copied
+    → AreDealt record { slots = slots; most = most; limit = limit; roles = copied; carries = carries } q.table.shared.table_id
+    seats → IsMadeFor carries most limit roles q seats
+made carries most limit slots roles copied q seats same has is count dealt_all =
     record {
       full_at = ap (λ (z : Layout). z.most) is;
-      reserves = ap (λ (z : Layout). z.credits) is;
       goes_to = ap (λ (z : Layout). z.limit) is;
       deals = ap (λ (z : Layout). z.roles) is ∙ same;
       values = ap (λ (z : Layout). z.carries) is;
-      slots = subst (HasSlots most credits roles) (sym (ap (λ (z : Layout). z.slots) is)) has;
+      slots = subst (HasSlots carries most roles) (sym (ap (λ (z : Layout). z.slots) is)) has;
       count = count ∙ ap length same;
       each = subst (λ (z : Layout). AreDealt z q.table.shared.table_id seats) (sym is) dealt_all;
     }
 
 -- one that carries no values is a ring of numbers
-pub made_numbers : {T : Type 0} (most credits limit : ℕ) (roles : List Role) (q : RingQueue T) (seats : List (Seat T))
-    → IsMadeFor false most credits limit roles q seats → IsMade most credits limit roles q seats
-made_numbers most credits limit roles q seats m = record {
+pub made_numbers : {T : Type 0} (most limit : ℕ) (roles : List Role) (q : RingQueue T) (seats : List (Seat T))
+    → IsMadeFor false most limit roles q seats → IsMade most limit roles q seats
+made_numbers most limit roles q seats m = record {
   full_at = m.full_at;
-  reserves = m.reserves;
   goes_to = m.goes_to;
   deals = m.deals;
   numbers = m.values;

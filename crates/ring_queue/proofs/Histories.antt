@@ -14,6 +14,11 @@ use Rattle.std.proofs.Math.Seq.{take-length}
 use Rattle.std.proofs.lemmas.List.Elements.{All-head, All-tail, All-weaker}
 use Rattle.history.specs.Entries.{seat_of, own_entries, Plays, Leads, LeadsTo, LeadsToShut, IsQueueRun}
 use Rattle.history.specs.Seats.{IsNoted, IsEmptyAfter, IsShutAfter}
+use Rattle.history.specs.Entries.{is_pop}
+use Rattle.history.specs.Values.{pushed, pushed_by, popped}
+use Rattle.std.specs.List.{count_by}
+use Rattle.std.proofs.lemmas.List.Recursion.{is_count_by}
+use Rattle.std.proofs.Common.{cond, suc, ◌+◌}
 
 -- entries after others lead on
 plays-append : (q r s : Queue) (es fs : List Entry) → Plays q es r → Plays r fs s → Plays q (es ++ fs) s
@@ -82,3 +87,23 @@ noted_shut es h = inr (omega arith, subst LeadsToShut (sym (take-length es)) h)
 -- one more note
 pub all_one_note : (P : ℕ → Type 0) (ns : List ℕ) (n : ℕ) → All P ns → P n → All P (ns ++ n ∷ [])
 all_one_note P ns n h p = All-append P ns (n ∷ []) h (All-cons P n [] p (All-nil P))
+
+-- what was pushed, with more entries
+pub pushed_more : (es fs : List Entry) → pushed (es ++ fs) ≡ pushed es ++ pushed fs
+pushed_more [] fs = refl
+pushed_more (Push seat body ∷ es) fs = ap (λ vs. record { from = seat; body = body } ∷ vs) (pushed_more es fs)
+pushed_more (Pop seat value ∷ es) fs = pushed_more es fs
+pushed_more (Shut seat ∷ es) fs = pushed_more es fs
+
+-- what isn't a push pushes nothing
+pub pushed_quiet : (es : List Entry) (e : Entry) → pushed_by e ≡ [] → pushed (es ++ e ∷ []) ≡ pushed es
+pushed_quiet es e none_pushed = pushed_more es (e ∷ []) ∙ (ap (λ vs. pushed es ++ (vs ++ [])) none_pushed ∙ append-nil (pushed es))
+
+-- there are as many values popped as pops
+pub popped_count : (es : List Entry) → length (popped es) ≡ count_by is_pop es
+popped_count es = is_count_by (λ fs. length (popped fs)) is_pop refl one es
+  where
+    one : (e : Entry) (fs : List Entry) → length (popped (e ∷ fs)) ≡ cond (is_pop e) (1 + length (popped fs)) (length (popped fs))
+    one (Push seat body) fs = refl
+    one (Pop seat value) fs = let q : suc (length (popped fs)) ≡ 1 + length (popped fs) = omega arith in q
+    one (Shut seat) fs = refl

@@ -11,30 +11,32 @@ use Rattle.history.specs.declared.operations.Entry.TheVariants.{Pop, Shut}
 use Rattle.history.specs.declared.operations.Taken.{Taken}
 use Rattle.history.specs.Entries.{own_entries, is_pop, Leads}
 use Rattle.history.specs.Seats.{IsPermitted}
+use Rattle.history.specs.Values.{pushed}
 use Rattle.ring_queue.specs.Words.{face, slot_word, tail_word}
-use Rattle.ring_queue.specs.Plans.{Layout, reserve, permits_of}
-use Rattle.ring_queue.specs.Knowledge.{Stage, rests, saw, claimed, found, SeatView}
-use Rattle.ring_queue.specs.Rule.{Cell, Log, FitsWord, Lies, CellOk, HasClaimed, IsFilled, Stands, SeatOk, FillerStands, total, put, Ring}
+use Rattle.ring_queue.specs.Plans.{Layout, permits_of}
+use Rattle.ring_queue.specs.Knowledge.{Stage, rests, claimed, found, unfilled, head_due, SeatView}
+use Rattle.ring_queue.specs.Rule.{Cell, Log, FitsWord, Lies, CellOk, HasClaimed, IsFilled, Stands, SeatOk, FillerStands, put, Ring}
 use Rattle.ring_queue.specs.Steps.{Rests}
 use Rattle.ring_queue.proofs.Numbers.{same_place}
-use Rattle.ring_queue.proofs.Puts.{same_or_not, put_here, put_else, put_each, total_same}
-use Rattle.ring_queue.proofs.Histories.{own_other, all_one, leads_pop, leads_shut}
+use Rattle.ring_queue.proofs.Puts.{same_or_not, put_here, put_else, put_each}
+use Rattle.ring_queue.proofs.Histories.{own_other, all_one, leads_pop, leads_shut, pushed_quiet}
 
 -- a cell
 abbrev pub cell : ℕ → Option ℕ → Cell
 cell p f = record { place = p; filler = f }
 
 -- a seat that took no part in a step still fits
-pub seat_stays : (z : Layout) (head tail live head' tail' live' : ℕ) (log log' : Log) (cells cells' : ℕ → Cell) (history es : List Entry) (n : ℕ) (v : SeatView)
-    → head ≤ head' → own_entries n (history ++ es) ≡ own_entries n history
-    → (Stands z.slots head tail live log cells v v.stage → Stands z.slots head' tail' live' log' cells' v v.stage)
-    → SeatOk z head tail live log cells history n v → SeatOk z head' tail' live' log' cells' (history ++ es) n v
-seat_stays z head tail live head' tail' live' log log' cells cells' history es n v le own stands k =
+pub seat_stays : (z : Layout) (head tail head' tail' : ℕ) (log log' : Log) (cells cells' : ℕ → Cell) (history es : List Entry) (n : ℕ) (v : SeatView)
+    → head ≤ head' → tail ≤ tail' → own_entries n (history ++ es) ≡ own_entries n history
+    → (Stands z.slots head tail log cells v v.stage → Stands z.slots head' tail' log' cells' v v.stage)
+    → SeatOk z head tail log cells history n v → SeatOk z head' tail' log' cells' (history ++ es) n v
+seat_stays z head tail head' tail' log log' cells cells' history es n v le more own stands k =
     let b = k.behind in
+    let u = k.under in
     record {
       number = k.number;
       behind = omega (arith, b, le);
-      few = k.few;
+      under = omega (arith, u, more);
       rest = k.rest ++ es;
       begins = ap (λ h. h ++ es) k.begins ∙ append_assoc v.seen k.rest es;
       own = own ∙ k.own;
@@ -50,9 +52,10 @@ Became z words seats history = (r : Ring z words seats) × (r.history ≡ histor
 -- a seat in no call has claimed no place
 pub none_claimed : (st : Stage) (p : ℕ) (x : Option Taken) → Rests st → HasClaimed st p x → ⊥
 none_claimed rests p x rested h = h
-none_claimed (saw t) p x rested h = h
 none_claimed (claimed q xs) p x rested h = rested
 none_claimed (found ws) p x rested h = h
+none_claimed unfilled p x rested h = h
+none_claimed head_due p x rested h = h
 
 -- who fills a place still stands there
 pub filler_on : (count : ℕ) (log log' : Log) (seats seats' : ℕ → SeatView) (p : ℕ) (f : Option ℕ) → log' p ≡ log p
@@ -75,22 +78,19 @@ claimed_before seats n tail v stays k p x lt e = same_or_not k n
     (λ ne. subst (λ (u : SeatView). HasClaimed u.stage p x) (sym (put_else seats n k v ne)) e)
 
 -- what one seat stands for goes on, whatever it is
-module _ (m head tail live head' tail' live' : ℕ) (log log' : Log) (cells cells' : ℕ → Cell) (v : SeatView) where
-  pub stands_on : live ≤ live'
-      → ((p : ℕ) (x : Option Taken) → cells (p % m) ≡ cell p (Some v.number) → log p ≡ x → (cells' (p % m) ≡ cell p (Some v.number)) × (log' p ≡ x))
+module _ (m head tail head' tail' : ℕ) (log log' : Log) (cells cells' : ℕ → Cell) (v : SeatView) where
+  pub stands_on : ((p : ℕ) (x : Option Taken) → cells (p % m) ≡ cell p (Some v.number) → log p ≡ x → (cells' (p % m) ≡ cell p (Some v.number)) × (log' p ≡ x))
       → ((i w : ℕ) → (v.head ≡ head → IsFilled m tail log cells (head + i) w) → v.head ≡ head' → IsFilled m tail' log' cells' (head' + i) w)
-      → (st : Stage) → Stands m head tail live log cells v st → Stands m head' tail' live' log' cells' v st
-  stands_on more claims finds rests k = tt
-  stands_on more claims finds (saw t) k = omega (arith, k, more)
-  stands_on more claims finds (claimed p xs) k = λ q x h. let t = k q x h in claims q x t.0 t.1
-  stands_on more claims finds (found ws) k = λ e i w at. finds i w (λ q. k q i w at) e
+      → (st : Stage) → Stands m head tail log cells v st → Stands m head' tail' log' cells' v st
+  stands_on claims finds rests k = tt
+  stands_on claims finds unfilled k = tt
+  stands_on claims finds head_due k = tt
+  stands_on claims finds (claimed p xs) k = λ q x h. let t = k q x h in claims q x t.0 t.1
+  stands_on claims finds (found ws) k = λ e i w at. finds i w (λ q. k q i w at) e
 
 module _ (z : Layout) (words : List ℕ) (seats : ℕ → SeatView) (r : Ring z words seats) where
   abbrev m : ℕ
   m = z.slots
-
-  abbrev live : ℕ
-  live = r.head + length r.values
 
   -- there is a slot
   pub some_slot : 0 < m
@@ -101,16 +101,13 @@ module _ (z : Layout) (words : List ℕ) (seats : ℕ → SeatView) (r : Ring z 
   head_below = let c = r.counted in omega (arith, c)
 
   -- a load, or any step that writes what it found: the words stay, and what the seats know changes
-  abbrev pub renewed : (seats' : ℕ → SeatView) → ((k : ℕ) → SeatOk z r.head r.tail live r.log r.cells r.history k (seats' k))
-      → r.tail + total (length z.roles) seats' ≤ (r.head + z.most) + reserve z → r.tail + total (length z.roles) seats' ≤ z.limit
-      → r.voids + total (length z.roles) seats' ≤ reserve z
+  abbrev pub renewed : (seats' : ℕ → SeatView) → ((k : ℕ) → SeatOk z r.head r.tail r.log r.cells r.history k (seats' k))
       → ((k p : ℕ) (x : Option Taken) → HasClaimed (seats k).stage p x → HasClaimed (seats' k).stage p x)
       → Ring z words seats'
-  renewed seats' each room limit spare stays = record {
+  renewed seats' each stays = record {
     planned = r.planned;
     head = r.head;
     tail = r.tail;
-    voids = r.voids;
     shut = r.shut;
     values = r.values;
     history = r.history;
@@ -123,12 +120,11 @@ module _ (z : Layout) (words : List ℕ) (seats : ℕ → SeatView) (r : Ring z 
     taken = r.taken;
     permitted = r.permitted;
     counted = r.counted;
-    unshut = r.unshut;
-    spare = spare;
-    roomy = room;
-    limited = limit;
+    roomy = r.roomy;
+    limited = r.limited;
     logged = r.logged;
-    marked = r.marked;
+    first_lap = r.first_lap;
+    in_order = r.in_order;
     fits = r.fits;
     each_cell = r.each_cell;
     filling = λ i lt. filler_on (length z.roles) r.log r.log seats seats' (r.cells i).place (r.cells i).filler refl (λ k. stays k (r.cells i).place (r.log (r.cells i).place)) (r.filling i lt);
@@ -136,12 +132,9 @@ module _ (z : Layout) (words : List ℕ) (seats : ℕ → SeatView) (r : Ring z 
   }
 
   -- the view of a seat that has claimed no place changes
-  pub watches : (n : ℕ) (v : SeatView) → Rests (seats n).stage → SeatOk z r.head r.tail live r.log r.cells r.history n v
-      → r.tail + total (length z.roles) (put seats n v) ≤ (r.head + z.most) + reserve z → r.tail + total (length z.roles) (put seats n v) ≤ z.limit
-      → r.voids + total (length z.roles) (put seats n v) ≤ reserve z
-      → Became z words (put seats n v) r.history
-  watches n v rested ok room limit spare = (
-    renewed (put seats n v) (λ k. put_each seats n k v (SeatOk z r.head r.tail live r.log r.cells r.history) ok (λ ne. r.each_seat k)) room limit spare (claimed_beside seats n v rested),
+  pub watches : (n : ℕ) (v : SeatView) → Rests (seats n).stage → SeatOk z r.head r.tail r.log r.cells r.history n v → Became z words (put seats n v) r.history
+  watches n v rested ok = (
+    renewed (put seats n v) (λ k. put_each seats n k v (SeatOk z r.head r.tail r.log r.cells r.history) ok (λ ne. r.each_seat k)) (claimed_beside seats n v rested),
     refl,
   )
 
@@ -213,11 +206,11 @@ module _ (z : Layout) (words : List ℕ) (seats : ℕ → SeatView) (r : Ring z 
       }
 
   -- what others stand for while a place is claimed
-  others_claim : (n live' : ℕ) (x : Option Taken) (k : ℕ) (v : SeatView) → v.number ≡ k → k ≢ n → r.tail < r.head + m → live ≤ live'
-      → (st : Stage) → Stands m r.head r.tail live r.log r.cells v st
-      → Stands m r.head (r.tail + 1) live' (put r.log r.tail x) (put r.cells (r.tail % m) (cell r.tail (Some n))) v st
-  others_claim n live' x k v is ne room more st old =
-      stands_on m r.head r.tail live r.head (r.tail + 1) live' r.log (put r.log r.tail x) r.cells (put r.cells (r.tail % m) (cell r.tail (Some n))) v more
+  others_claim : (n : ℕ) (x : Option Taken) (k : ℕ) (v : SeatView) → v.number ≡ k → k ≢ n → r.tail < r.head + m
+      → (st : Stage) → Stands m r.head r.tail r.log r.cells v st
+      → Stands m r.head (r.tail + 1) (put r.log r.tail x) (put r.cells (r.tail % m) (cell r.tail (Some n))) v st
+  others_claim n x k v is ne room st old =
+      stands_on m r.head r.tail r.head (r.tail + 1) r.log (put r.log r.tail x) r.cells (put r.cells (r.tail % m) (cell r.tail (Some n))) v
       (λ p y mine filled.
       let lt : p < r.tail = place_claimed p (Some v.number) mine in (
         put_else r.cells (r.tail % m) (p % m) (cell r.tail (Some n)) (λ e. none-some v.number (ap (λ (c : Cell). c.filler) (sym (next_is_filled room) ∙ (ap r.cells (sym e) ∙ mine)))) ∙ mine,
@@ -237,30 +230,28 @@ module _ (z : Layout) (words : List ℕ) (seats : ℕ → SeatView) (r : Ring z 
       place_claimed p f is = subst (λ (c : Cell). c.place < r.tail) is (r.each_cell (p % m) (mod-lt p some_slot)).claimed
 
   -- a place is claimed
-  pub claims : (n : ℕ) (v : SeatView) (x : Option Taken) (values' : List Taken) (voids' : ℕ) (es : List Entry)
+  pub claims : (n : ℕ) (v : SeatView) (x : Option Taken) (values' : List Taken) (es : List Entry)
       → ((p : ℕ) (y : Option Taken) → p < r.tail → HasClaimed (seats n).stage p y → HasClaimed v.stage p y)
       → 1 ≤ n → n ≤ length z.roles → HasClaimed v.stage r.tail x
-      → r.tail < r.head + m → FitsWord x
+      → r.tail + 1 ≤ r.head + z.most → r.tail + 1 ≤ z.limit → FitsWord x
       → Leads (r.history ++ es) r.shut values' → All (IsPermitted (permits_of z)) (r.history ++ es)
-      → (r.head + length values') + voids' ≡ r.tail + 1 → live ≤ r.head + length values' → (r.shut ≡ false → voids' ≡ 0) → voids' ≤ r.voids + 1
+      → r.head + length values' ≡ r.tail + 1
       → ((i : ℕ) (u : Taken) → slice_get values' i ≡ Some u → put r.log r.tail x (r.head + i) ≡ Some u)
-      → ((p : ℕ) → r.head + length values' ≤ p → p < r.tail + 1 → put r.log r.tail x p ≡ None)
+      → ((i : ℕ) → z.slots + i < r.tail + 1 → put r.log r.tail x (z.slots + i) ≡ slice_get (pushed (r.history ++ es)) i)
       → ((k : ℕ) → k ≢ n → own_entries k (r.history ++ es) ≡ own_entries k r.history) → count_by is_pop (r.history ++ es) ≡ count_by is_pop r.history
-      → SeatOk z r.head (r.tail + 1) (r.head + length values') (put r.log r.tail x) (put r.cells (r.tail % m) (cell r.tail (Some n))) (r.history ++ es) n v
-      → total (length z.roles) (put seats n v) + 1 ≡ total (length z.roles) seats
+      → SeatOk z r.head (r.tail + 1) (put r.log r.tail x) (put r.cells (r.tail % m) (cell r.tail (Some n))) (r.history ++ es) n v
       → (r' : Ring z (set words 0 (tail_word (r.tail + 1) r.shut)) (put seats n v)) × (r'.tail ≡ r.tail + 1) × (r'.shut ≡ r.shut) × (r'.history ≡ r.history ++ es)
-      × (r'.cells ≡ put r.cells (r.tail % m) (cell r.tail (Some n))) × (r'.log ≡ put r.log r.tail x)
-  claims n v x values' voids' es rested from to stands room fit leads permitted counted more unshut voided logged marked others keep ok spends =
+      × (r'.cells ≡ put r.cells (r.tail % m) (cell r.tail (Some n))) × (r'.log ≡ put r.log r.tail x) × (r'.head ≡ r.head)
+  claims n v x values' es rested from to stands roomy within fit leads permitted counted logged ordered others keep ok =
       let w : ℕ = tail_word (r.tail + 1) r.shut in
       let wide = r.wide in
-      let a = r.roomy in
-      let b = r.limited in
-      let s = r.spare in (
+      let planned = r.planned in
+      let slots = planned.room in
+      let room : r.tail < r.head + m = omega (arith, roomy, slots) in (
         record {
           planned = r.planned;
           head = r.head;
           tail = r.tail + 1;
-          voids = voids';
           shut = r.shut;
           values = values';
           history = r.history ++ es;
@@ -273,12 +264,11 @@ module _ (z : Layout) (words : List ℕ) (seats : ℕ → SeatView) (r : Ring z 
           taken = r.taken ∙ ap (λ k. m + k) (sym keep);
           permitted = permitted;
           counted = counted;
-          unshut = unshut;
-          spare = omega (arith, s, spends, voided);
-          roomy = omega (arith, a, spends);
-          limited = omega (arith, b, spends);
+          roomy = roomy;
+          limited = within;
           logged = logged;
-          marked = marked;
+          first_lap = λ p lt. (let on = next_on in put_else r.log r.tail p x (λ e. omega (arith, e, lt, on)) ∙ r.first_lap p lt);
+          in_order = ordered;
           fits = λ p. put_each r.log r.tail p x (λ q y. FitsWord y) fit (λ ne. r.fits p);
           each_cell = λ i lt. put_each r.cells (r.tail % m) i (cell r.tail (Some n)) (CellOk m r.head (r.tail + 1) (put r.log r.tail x) (set words 0 w))
               (cell_claimed n w x room) (λ ne. cell_beside n w i x ne (r.cells i) (r.each_cell i lt));
@@ -291,11 +281,12 @@ module _ (z : Layout) (words : List ℕ) (seats : ℕ → SeatView) (r : Ring z 
               (λ ne. filler_on (length z.roles) r.log (put r.log r.tail x) seats (put seats n v) (r.cells i).place (r.cells i).filler
               (log_before x (r.cells i).place (r.each_cell i lt).claimed) (λ k. claimed_before seats n r.tail v rested k (r.cells i).place
               (r.log (r.cells i).place) (r.each_cell i lt).claimed) (r.filling i lt));
-          each_seat = λ k. put_each seats n k v (SeatOk z r.head (r.tail + 1) (r.head + length values') (put r.log r.tail x) (put r.cells (r.tail % m) (cell r.tail (Some n))) (r.history ++ es)) ok
-              (λ ne. seat_stays z r.head r.tail live r.head (r.tail + 1) (r.head + length values') r.log (put r.log r.tail x) r.cells
+          each_seat = λ k. put_each seats n k v (SeatOk z r.head (r.tail + 1) (put r.log r.tail x) (put r.cells (r.tail % m) (cell r.tail (Some n))) (r.history ++ es)) ok
+              (λ ne. seat_stays z r.head r.tail r.head (r.tail + 1) r.log (put r.log r.tail x) r.cells
               (put r.cells (r.tail % m) (cell r.tail (Some n))) r.history es k (seats k)
-              (omega arith) (others k ne) (others_claim n (r.head + length values') x k (seats k) (r.each_seat k).number ne room more (seats k).stage) (r.each_seat k));
+              (omega arith) (omega arith) (others k ne) (others_claim n x k (seats k) (r.each_seat k).number ne room (seats k).stage) (r.each_seat k));
         },
+        refl,
         refl,
         refl,
         refl,
@@ -310,26 +301,19 @@ module _ (z : Layout) (words : List ℕ) (seats : ℕ → SeatView) (r : Ring z 
   -- a place is filled by the seat that claimed it
   pub fills : (n p : ℕ) (x : Option Taken) (v : SeatView) → ((q : ℕ) (y : Option Taken) → q ≢ p → HasClaimed (seats n).stage q y
       → HasClaimed v.stage q y) → r.cells (p % m) ≡ cell p (Some n) → r.log p ≡ x
-      → SeatOk z r.head r.tail live r.log (put r.cells (p % m) (cell p None)) r.history n v
-      → v.credits ≡ (seats n).credits
+      → SeatOk z r.head r.tail r.log (put r.cells (p % m) (cell p None)) r.history n v
       → Became z (set words (slot_word (p % m)) (face m p x)) (put seats n v) r.history
-  fills n p x v left mine filled ok same =
+  fills n p x v left mine filled ok =
       let i : ℕ = p % m in
       let w : ℕ = face m p x in
       let cells' : ℕ → Cell = put r.cells i (cell p None) in
       let words' : List ℕ = set words (slot_word i) w in
       let near : i < m = mod-lt p some_slot in
-      let old : CellOk m r.head r.tail r.log words i (cell p (Some n)) = subst (CellOk m r.head r.tail r.log words i) mine (r.each_cell i near) in
-      let totals : total (length z.roles) (put seats n v) ≡ total (length z.roles) seats = total_same (length z.roles) seats (put seats n v)
-      (λ k. put_each seats n k v (λ q (u : SeatView). u.credits ≡ (seats q).credits) same (λ _. refl)) in
-      let a = r.roomy in
-      let b = r.limited in
-      let s = r.spare in (
+      let old : CellOk m r.head r.tail r.log words i (cell p (Some n)) = subst (CellOk m r.head r.tail r.log words i) mine (r.each_cell i near) in (
         record {
           planned = r.planned;
           head = r.head;
           tail = r.tail;
-          voids = r.voids;
           shut = r.shut;
           values = r.values;
           history = r.history;
@@ -342,12 +326,11 @@ module _ (z : Layout) (words : List ℕ) (seats : ℕ → SeatView) (r : Ring z 
           taken = r.taken;
           permitted = r.permitted;
           counted = r.counted;
-          unshut = r.unshut;
-          spare = omega (arith, s, totals);
-          roomy = omega (arith, a, totals);
-          limited = omega (arith, b, totals);
+          roomy = r.roomy;
+          limited = r.limited;
           logged = r.logged;
-          marked = r.marked;
+          first_lap = r.first_lap;
+          in_order = r.in_order;
           fits = r.fits;
           each_cell = λ j lt. put_each r.cells i j (cell p None) (CellOk m r.head r.tail r.log words')
               (record { slot = old.slot; claimed = old.claimed; last = old.last; lies = get_or-set_same words (slot_word i) w 0 (slot_within p) ∙ ap (face m p) (sym filled) })
@@ -355,11 +338,11 @@ module _ (z : Layout) (words : List ℕ) (seats : ℕ → SeatView) (r : Ring z 
           filling = λ j lt. put_each r.cells i j (cell p None) (λ q (c : Cell). FillerStands (length z.roles) r.log (put seats n v) c.place c.filler) tt
               (λ ne. filler_on (length z.roles) r.log r.log seats (put seats n v) (r.cells j).place (r.cells j).filler refl
               (claimed_apart n v j lt left ne) (r.filling j lt));
-          each_seat = λ k. put_each seats n k v (SeatOk z r.head r.tail live r.log cells' r.history) ok
+          each_seat = λ k. put_each seats n k v (SeatOk z r.head r.tail r.log cells' r.history) ok
               (λ ne. let g = r.each_seat k in record {
                 number = g.number;
                 behind = g.behind;
-                few = g.few;
+                under = g.under;
                 rest = g.rest;
                 begins = g.begins;
                 own = g.own;
@@ -388,10 +371,10 @@ module _ (z : Layout) (words : List ℕ) (seats : ℕ → SeatView) (r : Ring z 
         lies = subst (λ (y : ℕ). Lies m r.head r.log y c.place c.filler) (sym (get_or-set_other words (slot_word i) (slot_word j) w 0 (λ e. ne (omega (arith, e))))) k.lies;
       }
 
-      others_fill : (k : ℕ) (u : SeatView) → u.number ≡ k → k ≢ n → (st : Stage) → Stands m r.head r.tail live r.log r.cells u st
-          → Stands m r.head r.tail live r.log (put r.cells (p % m) (cell p None)) u st
+      others_fill : (k : ℕ) (u : SeatView) → u.number ≡ k → k ≢ n → (st : Stage) → Stands m r.head r.tail r.log r.cells u st
+          → Stands m r.head r.tail r.log (put r.cells (p % m) (cell p None)) u st
       others_fill k u is ne st before =
-          stands_on m r.head r.tail live r.head r.tail live r.log r.log r.cells (put r.cells (p % m) (cell p None)) u (omega arith)
+          stands_on m r.head r.tail r.head r.tail r.log r.log r.cells (put r.cells (p % m) (cell p None)) u
           (λ q y theirs lies.
           (put_else r.cells (p % m) (q % m) (cell p None) (λ e. ne (sym is ∙ same_Some _ _ (ap (λ (c : Cell). c.filler) (sym theirs ∙ (ap r.cells e ∙ mine))))) ∙ theirs, lies))
           (λ i w knows e.
@@ -402,25 +385,19 @@ module _ (z : Layout) (words : List ℕ) (seats : ℕ → SeatView) (r : Ring z 
   -- the first value is popped: Head is one more
   pub pops : (n : ℕ) (v : SeatView) → Rests (seats n).stage → (y : Taken) (ys : List Taken) → r.values ≡ y ∷ ys → r.cells (r.head % m) ≡ cell r.head None
       → IsPermitted (permits_of z) (Pop n y)
-      → SeatOk z (r.head + 1) r.tail ((r.head + 1) + length ys) r.log r.cells (r.history ++ Pop n y ∷ []) n v
-      → v.credits ≡ (seats n).credits
+      → SeatOk z (r.head + 1) r.tail r.log r.cells (r.history ++ Pop n y ∷ []) n v
       → (r' : Ring z (set words 16 (r.head + 1)) (put seats n v)) × (r'.head ≡ r.head + 1) × (r'.tail ≡ r.tail) × (r'.history ≡ r.history ++ Pop n y ∷ []) × (r'.cells ≡ r.cells) × (r'.log ≡ r.log)
-  pops n v rested y ys is front permit ok same =
+  pops n v rested y ys is front permit ok =
       let w : ℕ = r.head + 1 in
       let words' : List ℕ = set words 16 w in
       let wide = r.wide in
       let lengths : length r.values ≡ length ys + 1 = ap length is ∙ (let e : suc (length ys) ≡ length ys + 1 = omega arith in e) in
-      let totals : total (length z.roles) (put seats n v) ≡ total (length z.roles) seats = total_same (length z.roles) seats (put seats n v)
-      (λ k. put_each seats n k v (λ q (u : SeatView). u.credits ≡ (seats q).credits) same (λ _. refl)) in
       let a = r.roomy in
-      let b = r.limited in
-      let s = r.spare in
       let c = r.counted in (
         record {
           planned = r.planned;
           head = r.head + 1;
           tail = r.tail;
-          voids = r.voids;
           shut = r.shut;
           values = ys;
           history = r.history ++ Pop n y ∷ [];
@@ -434,19 +411,18 @@ module _ (z : Layout) (words : List ℕ) (seats : ℕ → SeatView) (r : Ring z 
           leads = leads_pop r.history r.shut y ys n (subst (Leads r.history r.shut) is r.leads);
           permitted = all_one (IsPermitted (permits_of z)) r.history (Pop n y) r.permitted permit;
           counted = omega (arith, c, lengths);
-          unshut = r.unshut;
-          spare = omega (arith, s, totals);
-          roomy = omega (arith, a, totals);
-          limited = omega (arith, b, totals);
+          roomy = omega (arith, a);
+          limited = r.limited;
           logged = λ i u at. let e : r.head + 1 + i ≡ r.head + suc i = omega arith in ap r.log e ∙ r.logged (suc i) u (ap (λ vs. slice_get vs (suc i)) is ∙ at);
-          marked = λ p from to. r.marked p (omega (arith, from, lengths)) to;
+          first_lap = r.first_lap;
+          in_order = λ i lt. r.in_order i lt ∙ ap (λ vs. slice_get vs i) (sym (pushed_quiet r.history (Pop n y) refl));
           fits = r.fits;
           each_cell = λ j lt. cell_on w j (r.cells j) refl (r.each_cell j lt);
           filling = λ j lt. filler_on (length z.roles) r.log r.log seats (put seats n v) (r.cells j).place (r.cells j).filler refl
               (λ k. claimed_beside seats n v rested k (r.cells j).place (r.log (r.cells j).place)) (r.filling j lt);
-          each_seat = λ k. put_each seats n k v (SeatOk z (r.head + 1) r.tail ((r.head + 1) + length ys) r.log r.cells (r.history ++ Pop n y ∷ [])) ok
-              (λ ne. seat_stays z r.head r.tail live (r.head + 1) r.tail ((r.head + 1) + length ys) r.log r.log r.cells r.cells r.history (Pop n y ∷ []) k (seats k)
-              (omega arith) (own_other k r.history (Pop n y) (λ e. ne (sym e))) (others_pop (omega (arith, lengths)) (seats k) (r.each_seat k).behind (seats k).stage) (r.each_seat k));
+          each_seat = λ k. put_each seats n k v (SeatOk z (r.head + 1) r.tail r.log r.cells (r.history ++ Pop n y ∷ [])) ok
+              (λ ne. seat_stays z r.head r.tail (r.head + 1) r.tail r.log r.log r.cells r.cells r.history (Pop n y ∷ []) k (seats k)
+              (omega arith) (omega arith) (own_other k r.history (Pop n y) (λ e. ne (sym e))) (others_pop (seats k) (r.each_seat k).behind (seats k).stage) (r.each_seat k));
         },
         refl,
         refl,
@@ -471,32 +447,25 @@ module _ (z : Layout) (words : List ℕ) (seats : ℕ → SeatView) (r : Ring z 
               let apart : p ≢ r.head = λ e. none-some i (ap (λ (c : Cell). c.filler) (sym front ∙ (ap (λ q. r.cells (q % m)) (sym e) ∙ (ap r.cells slot ∙ is)))) in
               (lies.0, lies.1, omega (arith, le, apart))
 
-      others_pop : live ≤ r.head + 1 + length ys → (u : SeatView) → u.head ≤ r.head → (st : Stage) → Stands m r.head r.tail live r.log r.cells u st
-          → Stands m (r.head + 1) r.tail ((r.head + 1) + length ys) r.log r.cells u st
-      others_pop more u behind st before =
-          stands_on m r.head r.tail live (r.head + 1) r.tail ((r.head + 1) + length ys) r.log r.log r.cells r.cells u more
+      others_pop : (u : SeatView) → u.head ≤ r.head → (st : Stage) → Stands m r.head r.tail r.log r.cells u st
+          → Stands m (r.head + 1) r.tail r.log r.cells u st
+      others_pop u behind st before =
+          stands_on m r.head r.tail (r.head + 1) r.tail r.log r.log r.cells r.cells u
           (λ q x theirs lies. (theirs, lies))
           (λ i w knows e. absurd (omega (arith, behind, e)))
           st before
 
   -- the queue is shut
   pub shuts : (n : ℕ) (v : SeatView) → Rests (seats n).stage → r.shut ≡ false → IsPermitted (permits_of z) (Shut n)
-      → SeatOk z r.head r.tail live r.log r.cells (r.history ++ Shut n ∷ []) n v
-      → v.credits ≡ (seats n).credits
+      → SeatOk z r.head r.tail r.log r.cells (r.history ++ Shut n ∷ []) n v
       → Became z (set words 0 (tail_word r.tail true)) (put seats n v) (r.history ++ Shut n ∷ [])
-  shuts n v rested unshut permit ok same =
+  shuts n v rested unshut permit ok =
       let w : ℕ = tail_word r.tail true in
-      let wide = r.wide in
-      let totals : total (length z.roles) (put seats n v) ≡ total (length z.roles) seats = total_same (length z.roles) seats (put seats n v)
-      (λ k. put_each seats n k v (λ q (u : SeatView). u.credits ≡ (seats q).credits) same (λ _. refl)) in
-      let a = r.roomy in
-      let b = r.limited in
-      let s = r.spare in (
+      let wide = r.wide in (
         record {
           planned = r.planned;
           head = r.head;
           tail = r.tail;
-          voids = r.voids;
           shut = true;
           values = r.values;
           history = r.history ++ Shut n ∷ [];
@@ -509,12 +478,11 @@ module _ (z : Layout) (words : List ℕ) (seats : ℕ → SeatView) (r : Ring z 
           leads = leads_shut r.history r.values n (subst (λ b. Leads r.history b r.values) unshut r.leads);
           permitted = all_one (IsPermitted (permits_of z)) r.history (Shut n) r.permitted permit;
           counted = r.counted;
-          unshut = λ e. r.unshut unshut;
-          spare = omega (arith, s, totals);
-          roomy = omega (arith, a, totals);
-          limited = omega (arith, b, totals);
+          roomy = r.roomy;
+          limited = r.limited;
           logged = r.logged;
-          marked = r.marked;
+          first_lap = r.first_lap;
+          in_order = λ i lt. r.in_order i lt ∙ ap (λ vs. slice_get vs i) (sym (pushed_quiet r.history (Shut n) refl));
           fits = r.fits;
           each_cell = λ j lt. let k = r.each_cell j lt in record {
             slot = k.slot;
@@ -524,9 +492,9 @@ module _ (z : Layout) (words : List ℕ) (seats : ℕ → SeatView) (r : Ring z 
           };
           filling = λ j lt. filler_on (length z.roles) r.log r.log seats (put seats n v) (r.cells j).place (r.cells j).filler refl
               (λ k. claimed_beside seats n v rested k (r.cells j).place (r.log (r.cells j).place)) (r.filling j lt);
-          each_seat = λ k. put_each seats n k v (SeatOk z r.head r.tail live r.log r.cells (r.history ++ Shut n ∷ [])) ok
-              (λ ne. seat_stays z r.head r.tail live r.head r.tail live r.log r.log r.cells r.cells r.history (Shut n ∷ []) k (seats k)
-              (omega arith) (own_other k r.history (Shut n) (λ e. ne (sym e))) (λ s. s) (r.each_seat k));
+          each_seat = λ k. put_each seats n k v (SeatOk z r.head r.tail r.log r.cells (r.history ++ Shut n ∷ [])) ok
+              (λ ne. seat_stays z r.head r.tail r.head r.tail r.log r.log r.cells r.cells r.history (Shut n ∷ []) k (seats k)
+              (omega arith) (omega arith) (own_other k r.history (Shut n) (λ e. ne (sym e))) (λ s. s) (r.each_seat k));
         },
         refl,
       )

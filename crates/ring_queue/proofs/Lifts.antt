@@ -20,8 +20,10 @@ use Rattle.ring_queue.specs.Rule.{Holds}
 use Rattle.ring_queue.specs.Beside.{Beside, plain_of, plain_state, hand_in, hand_at, Begins, Carried, CarriedBy, HoldsFor, HoldsValues, IsReadyBy}
 use Rattle.ring_queue.specs.Beside.{TellsBeside, MeetsBeside, alone, first_beside_of, second_beside_of}
 use Rattle.ring_queue.specs.Meets.{learned}
+use Rattle.ring_queue.specs.Paths.{Try}
 use Rattle.ring_queue.proofs.Tables.{HoldsWith, its_seat, one_seat}
 use Rattle.ring_queue.proofs.Calls.{Does}
+use Rattle.ring_queue.proofs.Runs.{Ran, run_on}
 use Rattle.ring_queue.proofs.Deals.{at_end}
 use Rattle.ring_queue.proofs.Meets.{meets_now}
 use Rattle.ring_queue.proofs.Carrying.{allows_values, knows_first}
@@ -153,9 +155,9 @@ module _ {T : Type 0} (b : Bool) (z : Layout) where
   lift_final id w words slots f = (plain_state (words_of z) f.0, (f.1.0.base, at_map plain_of f.0.views id w f.1.1), ap (take (words_of z)) f.2, refl, λ k y e. absurd (some-ne-none (some y) (sym e)))
 
 -- a load of the first word by two seats that are one: both have seen the whole history, and that of the values
-module _ {T : Type 0} (key : Layout) (slots id : ℕ) (v u : SeatView) (ds : List (Deed T)) (hd : maybe.Option ℕ) (os : List (List (Deed T))) (held : List (ℕ × Option T)) where
+module _ {T : Type 0} (key : Layout) (slots id : ℕ) (v u : SeatView) (ds : List (Deed T)) (hd : maybe.Option ℕ) (os : List (List (Deed T))) (ts : List Try) (held : List (ℕ × Option T)) where
   abbrev pair : Beside T
-  pair = record { plain = paired v u; deeds = ds; hand = hd; others = os }
+  pair = record { plain = paired v u; deeds = ds; hand = hd; others = os; tries = ts }
 
   pub lift_meets : (b : Bool) → Allows {S = Option T} (HoldsFor b key) slots id (pair, held) 0 (λ n. n) (λ n o. MeetsBeside b key (pair, held) o)
   lift_meets b s h count mine small = go b h.base h.values
@@ -176,7 +178,7 @@ module _ {T : Type 0} (key : Layout) (slots id : ℕ) (v u : SeatView) (ds : Lis
       go false base c =
           let q = meets_now key (plain_state m s) base id v u (at_map plain_of s.views id pair mine) in
           let es : List Entry = base.ring.history in
-          let w' : Beside T = record { plain = paired (learned es v) (learned es u); deeds = ds; hand = hd; others = [] } in
+          let w' : Beside T = record { plain = paired (learned es v) (learned es u); deeds = ds; hand = hd; others = []; tries = ts } in
           let n = moved key es (take m s.words) (take m words) (set (map plain_of s.views) id w'.plain) (map plain_of (set s.views id w'))
           (ap (take m) same_words) (map_set plain_of s.views id w') q.0 in
           (w', keeps, tt, record { base = n.0; values = tt }, (q.1, refl, refl, ∣ tt ∣₁, ∣ tt ∣₁, refl))
@@ -184,7 +186,7 @@ module _ {T : Type 0} (key : Layout) (slots id : ℕ) (v u : SeatView) (ds : Lis
           let q = meets_now key (plain_state m s) base id v u (at_map plain_of s.views id pair mine) in
           let es : List Entry = base.ring.history in
           let all : List (Deed T) = c.rides.deeds in
-          let w' : Beside T = record { plain = paired (learned es v) (learned es u); deeds = all; hand = hd; others = [] } in
+          let w' : Beside T = record { plain = paired (learned es v) (learned es u); deeds = all; hand = hd; others = []; tries = ts } in
           let n = moved key es (take m s.words) (take m words) (set (map plain_of s.views) id w'.plain) (map plain_of (set s.views id w'))
           (ap (take m) same_words) (map_set plain_of s.views id w') q.0 in
           let new : Begins all w' = record {
@@ -217,11 +219,11 @@ module _ {T : Type 0} (key : Layout) (slots id : ℕ) (v u : SeatView) (ds : Lis
           )
 
 -- what a line asks of a table, whether it carries values or not
-module _ {T : Type 0} (z : Layout) (slots id p : ℕ) (v : SeatView) (ds : List (Deed T)) (hd : maybe.Option ℕ) (os : List (List (Deed T)))
+module _ {T : Type 0} (z : Layout) (slots id p : ℕ) (v : SeatView) (ds : List (Deed T)) (hd : maybe.Option ℕ) (os : List (List (Deed T))) (ts : List Try)
     (held : List (ℕ × Option T)) (f : ℕ → ℕ) (all : List Entry) (fact : SeatView → ℕ → SeatView → Type 0) (line : Does z p v f all fact)
-    (within : p < words_of z) where
+    (within : p < words_of z) (ran : (n : ℕ) (v' : SeatView) → fact v n v' → Ran z p n (f n) v v') where
   abbrev before : Me (Option T) (Beside T)
-  before = (record { plain = seated v; deeds = ds; hand = hd; others = os }, held)
+  before = (record { plain = seated v; deeds = ds; hand = hd; others = os; tries = ts }, held)
 
   pub allows_beside : (b : Bool) → (b ≡ true → slots ≡ z.slots) → IsReadyBy b z.slots v.number all before
       → Allows {S = Option T} (HoldsFor b z) slots id before p f (λ n o. TellsBeside b z all fact before n o)
@@ -237,17 +239,20 @@ module _ {T : Type 0} (z : Layout) (slots id p : ℕ) (v : SeatView) (ds : List 
       go : (b : Bool) → (b ≡ true → slots ≡ z.slots) → IsReadyBy b z.slots v.number all before → (base : Holds z (plain_state m s)) → CarriedBy b z base.ring.history s → Out b
       go true sized ready base c =
           let H : HoldsValues z s = record { base = base; values = c } in
-          let q = allows_values z id p v ds hd os f all fact line within held ready s H (count ∙ sized refl) mine small in
+          let q = allows_values z id p v ds hd os ts f all fact line within ran held ready s H (count ∙ sized refl) mine small in
           (q.0, q.1, q.2, record { base = q.3.base; values = q.3.values }, (q.4.0.0, q.4.0.1, q.4.0.2, ∣ q.4.1 ∣₁))
       go false sized ready base c =
           let mine0 = at_map plain_of s.views id before.0 mine in
           let same : get_or (take m s.words) p 0 ≡ get_or s.words p 0 = get_or-take m s.words p 0 within in
           let q = line (take m s.words) base.seats base.ring (its_seat z (plain_state m s) base id v mine0) in
-          let w' : Beside T = record { plain = seated q.0; deeds = ds; hand = hd; others = os } in
+          let w' : Beside T = record { plain = seated q.0; deeds = ds; hand = hd; others = os; tries = ts } in
           let words = set s.words p (f (get_or s.words p 0)) in
           let n = moved z q.2.history (set (take m s.words) p (f (get_or (take m s.words) p 0))) (take m words) (set (map plain_of s.views) id (seated q.0)) (map plain_of (set s.views id w'))
-          (take-set-lt m s.words p (f (get_or s.words p 0)) within ∙ ap (λ (k : ℕ). set (take m s.words) p (f k)) (sym same)) (map_set plain_of s.views id w')
-          (one_seat z (plain_state m s) base id v mine0 q.0 (set (take m s.words) p (f (get_or (take m s.words) p 0))) q.1 q.2, refl) in (
+          (take-set-lt m s.words p (f (get_or s.words p 0)) within ∙ ap (λ (k : ℕ). set (take m s.words) p (f k)) (sym same)) (map_set plain_of s.views id w') (
+            one_seat z (plain_state m s) base id v mine0 q.0 (set (take m s.words) p (f (get_or (take m s.words) p 0))) q.1 q.2
+                (run_on z (take m s.words) base.seats base.ring.history v q.0 all q.2.history p (f (get_or (take m s.words) p 0)) (its_seat z (plain_state m s) base id v mine0) base.run q.3 (ran (get_or (take m s.words) p 0) q.0 q.4)),
+            refl,
+          ) in (
             w',
             keeps,
             tt,

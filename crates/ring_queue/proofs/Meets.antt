@@ -1,5 +1,5 @@
 -- Seats that meet.
-use Rattle.std.proofs.Common.{◌≡◌, ◌≢◌, ◌⊎◌, ℕ, ◌+◌, ◌^◌, ◌<◌, List, [], ◌∷◌, ◌++◌, zero, suc, length, set, sym, refl, ap, ◌∙◌, subst, ⊎_elim, inl, inr, arith}
+use Rattle.std.proofs.Common.{◌≡◌, ◌≢◌, ◌⊎◌, ℕ, ◌^◌, ◌<◌, List, [], ◌∷◌, ◌++◌, zero, suc, length, set, sym, refl, ap, ◌∙◌, subst, ⊎_elim, inl, inr, arith}
 use mathlib.Core.Option.{some, some-injective, some-ne-none}
 use lib.ListN.{get_elem?}
 use Rattle.atomic_table.specs.Table.{State, Splits, Joins}
@@ -7,13 +7,15 @@ use Rattle.atomic_table.proofs.Lists.{at_set, set_else, set_again}
 use Rattle.history.specs.declared.operations.Entry.{Entry}
 use Rattle.history.specs.Answers.{SeesMore}
 use Rattle.ring_queue.specs.Plans.{Layout}
-use Rattle.ring_queue.specs.Knowledge.{Stage, rests, saw, claimed, found, SeatView, View, keeper, seated, paired, spent, members, known_by}
-use Rattle.ring_queue.specs.Rule.{HasClaimed, Stands, SeatOk, total, put, Ring, Holds}
+use Rattle.ring_queue.specs.Knowledge.{Stage, rests, claimed, found, unfilled, head_due, SeatView, View, keeper, seated, paired, spent, members, known_by}
+use Rattle.ring_queue.specs.Rule.{HasClaimed, Stands, SeatOk, put, Ring, Holds}
 use Rattle.ring_queue.specs.Meets.{learned, Met}
 use Rattle.ring_queue.proofs.Keeps.{renewed}
-use Rattle.ring_queue.proofs.Puts.{put_here, put_else, put_each, total_same}
-use Rattle.ring_queue.proofs.Tables.{HoldsWith, one_of, it_fits, it_is_sound, notes_stay, saw_all, head_below}
+use Rattle.ring_queue.proofs.Puts.{put_here, put_else, put_each}
+use Rattle.ring_queue.proofs.Tables.{HoldsWith, one_of, it_fits, it_is_sound, notes_stay, saw_all, places_below}
 use Rattle.ring_queue.proofs.Deals.{at_end}
+use Rattle.ring_queue.specs.Rows.{regs}
+use Rattle.ring_queue.proofs.Runs.{run_same}
 
 -- the views change, and each seat that they speak of keeps its place in `own`
 pub views_now : (z : Layout) (s : State ℕ View) (h : Holds z s) (views : List View) (own : ℕ → ℕ × ℕ)
@@ -24,6 +26,7 @@ views_now z s h views own all some_keeper = (
   record {
     seats = h.seats;
     ring = h.ring;
+    run = h.run;
     dealt = h.dealt;
     home = h.home;
     owner = own;
@@ -125,31 +128,24 @@ module _ (z : Layout) (words : List ℕ) (seats : ℕ → SeatView) (r : Ring z 
   abbrev both : ℕ → SeatView
   both = put (put seats v.number (learned r.history v)) w.number (learned r.history w)
 
-  pub fits_still : (u : SeatView) → seats u.number ≡ u → SeatOk z r.head r.tail (r.head + length r.values) r.log r.cells r.history u.number (learned r.history u)
+  pub fits_still : (u : SeatView) → seats u.number ≡ u → SeatOk z r.head r.tail r.log r.cells r.history u.number (learned r.history u)
   fits_still u is =
       let f = it_fits z words seats r u is in
-      saw_all z words seats r u is (learned r.history u) refl refl refl (notes_stay z words seats r u is) f.behind f.few (go u.stage f.stage)
+      saw_all z words seats r u is (learned r.history u) refl refl refl (notes_stay z words seats r u is) f.behind f.under (go u.stage f.stage)
     where
-      go : (st : Stage) → Stands z.slots r.head r.tail (r.head + length r.values) r.log r.cells u st → Stands z.slots r.head r.tail (r.head + length r.values) r.log r.cells (learned r.history u) st
+      go : (st : Stage) → Stands z.slots r.head r.tail r.log r.cells u st → Stands z.slots r.head r.tail r.log r.cells (learned r.history u) st
       go rests k = k
-      go (saw t) k = k
       go (claimed p xs) k = k
       go (found ws) k = k
+      go unfilled k = k
+      go head_due k = k
 
   -- the ring when both have seen the whole history
   abbrev both_look : Ring z words both
   both_look =
-      let totals : total (length z.roles) both ≡ total (length z.roles) seats = total_same (length z.roles) seats both
-      (λ k. put_each (put seats v.number (learned r.history v)) w.number k (learned r.history w) (λ q (u : SeatView). u.credits ≡ (seats q).credits)
-      (ap (λ (u : SeatView). u.credits) (sym is_w))
-      (λ _. put_each seats v.number k (learned r.history v) (λ q (u : SeatView). u.credits ≡ (seats q).credits) (ap (λ (u : SeatView). u.credits) (sym is_v)) (λ _. refl))) in
-      let a = r.roomy in
-      let b = r.limited in
-      let s = r.spare in
       renewed z words seats r both
-      (λ k. put_each (put seats v.number (learned r.history v)) w.number k (learned r.history w) (SeatOk z r.head r.tail (r.head + length r.values) r.log r.cells r.history) (fits_still w is_w)
-      (λ _. put_each seats v.number k (learned r.history v) (SeatOk z r.head r.tail (r.head + length r.values) r.log r.cells r.history) (fits_still v is_v) (λ _. r.each_seat k)))
-      (omega (arith, a, totals)) (omega (arith, b, totals)) (omega (arith, s, totals))
+      (λ k. put_each (put seats v.number (learned r.history v)) w.number k (learned r.history w) (SeatOk z r.head r.tail r.log r.cells r.history) (fits_still w is_w)
+      (λ _. put_each seats v.number k (learned r.history v) (SeatOk z r.head r.tail r.log r.cells r.history) (fits_still v is_v) (λ _. r.each_seat k)))
       (λ k p x e. put_each (put seats v.number (learned r.history v)) w.number k (learned r.history w) (λ q (u : SeatView). HasClaimed (seats q).stage p x → HasClaimed u.stage p x)
       (subst (λ (u : SeatView). HasClaimed u.stage p x) is_w)
       (λ _. put_each seats v.number k (learned r.history v) (λ q (u : SeatView). HasClaimed (seats q).stage p x → HasClaimed u.stage p x)
@@ -164,6 +160,9 @@ module _ (z : Layout) (words : List ℕ) (seats : ℕ → SeatView) (r : Ring z 
   sees_all : (u : SeatView) → seats u.number ≡ u → SeesMore (known_by u) (known_by (learned r.history u))
   sees_all u is = let f = it_fits z words seats r u is in record { number = refl; between = f.rest; seen = f.begins; mine = refl; notes = refl }
 
+  below : (u : SeatView) (k : ℕ) → both k ≡ u → (u.head < 2 ^ 62) × (u.tail < 2 ^ 62)
+  below u k is = subst (λ (u : SeatView). (u.head < 2 ^ 62) × (u.tail < 2 ^ 62)) is (places_below z words both both_look k)
+
   pub met : Met z v w (paired (learned r.history v) (learned r.history w), [])
   met = record {
     all = r.history;
@@ -172,12 +171,14 @@ module _ (z : Layout) (words : List ℕ) (seats : ℕ → SeatView) (r : Ring z 
     second = sees_all w is_w;
     first_learns = record {
       number = refl;
-      below = subst (λ (u : SeatView). u.head < 2 ^ 62) first_is (head_below z words both both_look v.number);
+      below = (below (learned r.history v) v.number first_is).0;
+      tail_below = (below (learned r.history v) v.number first_is).1;
       sound = it_is_sound z words both both_look (learned r.history v) first_is;
     };
     second_learns = record {
       number = refl;
-      below = subst (λ (u : SeatView). u.head < 2 ^ 62) second_is (head_below z words both both_look w.number);
+      below = (below (learned r.history w) w.number second_is).0;
+      tail_below = (below (learned r.history w) w.number second_is).1;
       sound = it_is_sound z words both both_look (learned r.history w) second_is;
     };
   }
@@ -219,6 +220,11 @@ meets_now z s h id v w at_id =
         record {
           seats = seats';
           ring = both_look z s.words h.seats r v w differ is_v is_w;
+          run = run_same z s.words h.seats seats' r.history
+              (λ n. put_each (put h.seats v.number v') w.number n w' (λ k (u : SeatView). regs u ≡ regs (h.seats k)) (ap regs (sym is_w))
+              (λ _. put_each h.seats v.number n v' (λ k (u : SeatView). regs u ≡ regs (h.seats k)) (ap regs (sym is_v)) (λ _. refl)))
+              (λ n. put_each (put h.seats v.number v') w.number n w' (λ k (u : SeatView). u.path ≡ (h.seats k).path) (ap (λ (u : SeatView). u.path) (sym is_w))
+              (λ _. put_each h.seats v.number n v' (λ k (u : SeatView). u.path ≡ (h.seats k).path) (ap (λ (u : SeatView). u.path) (sym is_v)) (λ _. refl))) h.run;
           dealt = h.dealt;
           home = h.home;
           owner = h.owner;

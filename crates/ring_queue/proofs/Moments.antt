@@ -1,18 +1,21 @@
 -- What a ring is at any moment.
-use Rattle.std.proofs.Common.{◌≡◌, ◌≢◌, ◌⊎◌, inl, inr, ℕ, ◌+◌, ◌/◌, ◌%◌, ◌^◌, ◌<◌, ◌≤◌, Bool, true, false, if◌then◌else◌, nat_eq, List, [], ◌∷◌}
+use Rattle.std.proofs.Common.{◌≡◌, ◌≢◌, ◌⊎◌, inl, inr, ⊎_elim, ℕ, ◌+◌, ◌-◌, ◌/◌, ◌%◌, ◌^◌, ◌<◌, ◌≤◌, Bool, true, false, if◌then◌else◌, List, [], ◌∷◌}
 use Rattle.std.proofs.Common.{length, get_or, Option, Some, None, slice_get, mod-lt, sym, refl, ap, ◌∙◌, subst, arith}
-use Rattle.std.proofs.lemmas.Bool.{ne_eqb, true≢false}
-use Rattle.std.proofs.lemmas.Option.{same_Some, slice_get_cases}
+use Rattle.std.proofs.lemmas.Bool.{lt-ltb, le-ltb}
+use mathlib.Core.Logic.{dite}
+use native.Mathlib.Decide.{dec_le}
+use Rattle.std.proofs.lemmas.Option.{same_Some, none-some}
+use Rattle.history.specs.Values.{pushed}
+use Rattle.history.specs.declared.operations.Entry.{Entry}
 use Rattle.history.specs.declared.operations.Taken.{Taken}
 use Rattle.history.proofs.Values.{pushed-Leads}
 use Rattle.ring_queue.specs.Words.{face, parity, slot_word, tail_word}
 use Rattle.ring_queue.specs.Plans.{Layout}
-use Rattle.ring_queue.specs.Knowledge.{Stage, rests, saw, claimed, found, SeatView}
+use Rattle.ring_queue.specs.Knowledge.{Stage, rests, claimed, found, unfilled, head_due, SeatView}
 use Rattle.ring_queue.specs.Rule.{Cell, Lies, HasClaimed, Stands, FillerStands, Ring}
 use Rattle.ring_queue.proofs.Numbers.{same_place, face_parity}
 use Rattle.ring_queue.proofs.Keeps.{cell, some_slot}
-use Rattle.ring_queue.specs.Machine.{Words, Actor, C1, C3}
-use Rattle.ring_queue.specs.Moments.{EachMomentIsLinearizable, tail_in, HasContent, ShowsQueue, AreHeldUp, IsFront, HoldsUp, NamesWhoHoldsUp, EndsInTwo, PushesInTwoSteps}
+use Rattle.ring_queue.specs.Moments.{EachMomentIsLinearizable, tail_in, ShowsQueue, ShowsSlot, IsThere, IsHeld, SlotsAreDetermined, content_of, word_of_place, AreHeldUp, HoldsUp, NamesWhoHoldsUp}
 
 -- the places in the word of Tail
 pub tail_is_in : (t : ℕ) (shut : Bool) → t < 2 ^ 62 → tail_word t shut % 2 ^ 62 ≡ t
@@ -20,18 +23,6 @@ tail_is_in t true small = omega (arith, small)
 tail_is_in t false small = omega (arith, small)
 
 module _ (z : Layout) (words : List ℕ) (seats : ℕ → SeatView) (r : Ring z words seats) where
-  -- what is at the front of a ring of which a place was claimed
-  front_is : r.head < r.tail → IsFront r.shut r.values (r.log r.head)
-  front_is lt = go r.values r.shut refl refl
-    where
-      here : (vs : List Taken) → r.values ≡ vs → (v : Taken) → slice_get vs 0 ≡ Some v → r.log r.head ≡ Some v
-      here vs e v at = ap r.log (let q : r.head ≡ r.head + 0 = omega arith in q) ∙ r.logged 0 v (ap (λ us. slice_get us 0) e ∙ at)
-
-      go : (vs : List Taken) (b : Bool) → r.values ≡ vs → r.shut ≡ b → IsFront r.shut r.values (r.log r.head)
-      go (v ∷ vs) b e f = subst (IsFront r.shut r.values) (sym (here (v ∷ vs) e v refl)) (vs, e)
-      go [] true e f = subst (IsFront r.shut r.values) (sym (r.marked r.head (let l : length r.values ≡ 0 = ap length e in omega (arith, l)) lt)) (f, e)
-      go [] false e f = absurd (let c = r.counted in let u = r.unshut f in let l : length r.values ≡ 0 = ap length e in omega (arith, c, u, l, lt))
-
   pub small : r.tail < 2 ^ 62
   small = let a = r.limited in let b = r.planned in let c = b.limited in omega (arith, a, c)
 
@@ -42,13 +33,22 @@ module _ (z : Layout) (words : List ℕ) (seats : ℕ → SeatView) (r : Ring z 
   its_cell : (k p : ℕ) (x : Option Taken) → HasClaimed (seats k).stage p x → r.cells (p % z.slots) ≡ cell p (Some k)
   its_cell k p x h = let seat = r.each_seat k in go (seats k).stage seat.stage h ∙ ap (λ j. cell p (Some j)) seat.number
     where
-      go : (st : Stage) → Stands z.slots r.head r.tail (r.head + length r.values) r.log r.cells (seats k) st → HasClaimed st p x → r.cells (p % z.slots) ≡ cell p (Some (seats k).number)
+      go : (st : Stage) → Stands z.slots r.head r.tail r.log r.cells (seats k) st → HasClaimed st p x → r.cells (p % z.slots) ≡ cell p (Some (seats k).number)
       go rests stands has = absurd has
-      go (saw t) stands has = absurd has
       go (claimed q xs) stands has = (stands p x has).0
       go (found ws) stands has = absurd has
+      go unfilled stands has = absurd has
+      go head_due stands has = absurd has
 
-  pub who_holds_up : AreHeldUp z words → (n : ℕ) × HoldsUp z words seats r.shut r.values n
+  -- there is a value in front
+  some_front : r.head < r.tail → (v : Taken) × (vs : List Taken) × (r.values ≡ v ∷ vs)
+  some_front lt = split r.values refl
+    where
+      split : (us : List Taken) → r.values ≡ us → (v : Taken) × (vs : List Taken) × (r.values ≡ v ∷ vs)
+      split (v ∷ vs) e = (v, vs, e)
+      split [] e = absurd (let c = r.counted in let l : length r.values ≡ 0 = ap length e in omega (arith, c, l, lt))
+
+  pub who_holds_up : AreHeldUp z words → (n : ℕ) × HoldsUp z words seats r.values n
   who_holds_up up =
       let i : ℕ = r.head % z.slots in
       let pos = some_slot z words seats r in
@@ -65,53 +65,72 @@ module _ (z : Layout) (words : List ℕ) (seats : ℕ → SeatView) (r : Ring z 
       go (r.cells i).place (r.cells i).filler refl here lt late ok.lies (r.filling i near)
     where
       go : (p : ℕ) (f : Option ℕ) → r.cells (r.head % z.slots) ≡ cell p f → p ≡ r.head → r.head < r.tail → get_or words (slot_word (r.head % z.slots)) 0 / 2 ^ 63 ≢ parity z.slots r.head
-          → Lies z.slots r.head r.log (get_or words (slot_word (r.head % z.slots)) 0) p f → FillerStands (length z.roles) r.log seats p f → (n : ℕ) × HoldsUp z words seats r.shut r.values n
+          → Lies z.slots r.head r.log (get_or words (slot_word (r.head % z.slots)) 0) p f → FillerStands (length z.roles) r.log seats p f → (n : ℕ) × HoldsUp z words seats r.values n
       go p None is here lt late lies fills = absurd (late (ap (λ w. w / 2 ^ 63) lies ∙ (face_parity z.slots p (r.log p) (r.fits p) ∙ ap (parity z.slots) here)))
-      go p (Some n) is here lt late lies fills = (
-        n,
-        record {
-          from = fills.0;
-          to = fills.1;
-          content = r.log r.head;
-          stands = subst (λ (y : ℕ × ℕ). HasClaimed (seats n).stage y.0 (r.log y.1)) (λ c. ((here ∙ sym r.head_is) c, here c)) fills.2;
-          front = front_is lt;
-          alone = λ k x e. same_Some k n (ap (λ (c : Cell). c.filler) (sym (its_cell k r.head x (subst (λ q. HasClaimed (seats k).stage q x) r.head_is e)) ∙ is));
-        },
-      )
+      go p (Some n) is here lt late lies fills =
+          let front = some_front lt in (
+            n,
+            record {
+              from = fills.0;
+              to = fills.1;
+              front = front.0;
+              others = front.1;
+              values_are = front.2;
+              stands = subst (λ (y : ℕ × Option Taken). HasClaimed (seats n).stage y.0 y.1)
+                  (λ c. ((here ∙ sym r.head_is) c, (ap r.log (here ∙ (let q : r.head ≡ r.head + 0 = omega arith in q)) ∙ r.logged 0 front.0 (ap (λ vs. slice_get vs 0) front.2)) c)) fills.2;
+              alone = λ k x e. same_Some k n (ap (λ (c : Cell). c.filler) (sym (its_cell k r.head x (subst (λ q. HasClaimed (seats k).stage q x) r.head_is e)) ∙ is));
+            },
+          )
 
-  -- what a place from Head on is filled with, or will be: the value of the queue there, or the mark behind the last one
-  content_is : (i : ℕ) → i < length r.values + r.voids → r.log (r.head + i) ≡ slice_get r.values i
-  content_is i lt = go ((slice_get_cases r.values i).1)
-    where
-      go : ((x : Taken) × (i < length r.values) × (slice_get r.values i ≡ Some x) × (get_or r.values i x ≡ x))
-          ⊎ ((length r.values ≤ i) × (slice_get r.values i ≡ None)) → r.log (r.head + i) ≡ slice_get r.values i
-      go (inl one) = r.logged i one.0 one.2 ∙ sym one.2
-      go (inr none) = r.marked (r.head + i) (let le = none.0 in omega (arith, le)) (let c = r.counted in omega (arith, c, lt)) ∙ sym none.1
+  -- what each place is filled with, or will be, is what the history says
+  content_log : (p : ℕ) → p < r.tail → r.log p ≡ content_of z r.history p
+  content_log p lt = dite (dec_le z.slots p)
+      (λ le. let e : p ≡ z.slots + (p - z.slots) = omega (arith, le) in
+      ap r.log e ∙ (r.in_order (p - z.slots) (omega (arith, le, lt)) ∙ ap (λ b. if b then None else slice_get (pushed r.history) (p - z.slots)) (sym (le-ltb p z.slots le))))
+      (λ no. r.first_lap p (omega (arith, no)) ∙ ap (λ b. if b then None else slice_get (pushed r.history) (p - z.slots)) (sym (lt-ltb p z.slots (omega (arith, no)))))
 
-  -- it is in the word of its slot, or with the seat that has claimed it
-  content_is_there : (i : ℕ) → i < length r.values + r.voids → HasContent z words seats (r.head + i) (slice_get r.values i)
-  content_is_there i lt =
-      let p : ℕ = r.head + i in
-      let pos = some_slot z words seats r in
-      let near : p % z.slots < z.slots = mod-lt p pos in
-      let ok = r.each_cell (p % z.slots) near in
-      let counted = r.counted in
+  tail_there : tail_in words ≡ r.tail
+  tail_there = ap (λ t. t % 2 ^ 62) r.tail_is ∙ tail_is_in r.tail r.shut small
+
+  pub shows_slot : (i : ℕ) → i < z.slots → ShowsSlot z words seats r.history i
+  shows_slot i lt =
+      let ok = r.each_cell i lt in
       let claimed_at = ok.claimed in
       let last = ok.last in
-      let here : (r.cells (p % z.slots)).place ≡ p = same_place z.slots (r.cells (p % z.slots)).place p pos ok.slot (omega (arith, claimed_at, room)) (omega (arith, last, counted, lt)) in
-      subst (HasContent z words seats p) (content_is i lt) (go (r.cells (p % z.slots)).place (r.cells (p % z.slots)).filler p here ok.lies (r.filling (p % z.slots) near))
+      let same = tail_there in
+      record {
+        place = (r.cells i).place;
+        its = ok.slot;
+        claimed = omega (arith, claimed_at, same);
+        last = omega (arith, last, same);
+        shows = go (r.cells i).place (r.cells i).filler refl ok.slot claimed_at (subst (λ j. Lies z.slots r.head r.log (get_or words (slot_word j) 0) (r.cells i).place (r.cells i).filler) (sym ok.slot) ok.lies) (r.filling i lt);
+      }
     where
-      go : (q : ℕ) (f : Option ℕ) (p : ℕ) → q ≡ p → Lies z.slots r.head r.log (get_or words (slot_word (p % z.slots)) 0) q f
-          → FillerStands (length z.roles) r.log seats q f → HasContent z words seats p (r.log p)
-      go q None p e lies fills = inl (subst (λ y. get_or words (slot_word (p % z.slots)) 0 ≡ face z.slots y (r.log y)) e lies)
-      go q (Some n) p e lies fills = inr (n, subst (λ y. HasClaimed (seats n).stage y (r.log y)) e fills.2)
+      go : (p : ℕ) (f : Option ℕ) → r.cells i ≡ cell p f → p % z.slots ≡ i → p < r.tail
+          → Lies z.slots r.head r.log (get_or words (slot_word (p % z.slots)) 0) p f → FillerStands (length z.roles) r.log seats p f
+          → IsThere z words seats r.history p ⊎ IsHeld z words seats r.history p
+      go p None is its lt lies fills = inl (record {
+        word = lies ∙ ap (face z.slots p) (content_log p lt);
+        nobody = λ k x e. none-some k (ap (λ (c : Cell). c.filler) (sym is ∙ (ap r.cells (sym its) ∙ its_cell k p x e)));
+      })
+      go p (Some n) is its lt lies fills =
+          let on = lies.1 in
+          let waits = lies.2 in
+          let head_is = r.head_is in
+          inr (record {
+            seat = n;
+            from = fills.0;
+            to = fills.1;
+            stands = subst (HasClaimed (seats n).stage p) (content_log p lt) fills.2;
+            alone = λ k x e. same_Some k n (ap (λ (c : Cell). c.filler) (sym (its_cell k p x e) ∙ (ap r.cells its ∙ is)));
+            waits = omega (arith, waits, head_is);
+            word = lies.0 ∙ ap (face z.slots (p - z.slots)) (content_log (p - z.slots) (omega (arith, lt)));
+          })
 
-  pub shows_queue : ShowsQueue z words seats r.shut r.values
+  pub shows_queue : ShowsQueue z words r.shut r.values
   shows_queue = record {
-    marks = r.voids;
-    tail = r.tail_is ∙ ap (λ t. tail_word t r.shut) (sym r.counted ∙ sym (ap (λ h. (h + length r.values) + r.voids) r.head_is));
-    unshut = r.unshut;
-    each = λ i lt. subst (λ h. HasContent z words seats (h + i) (slice_get r.values i)) (sym r.head_is) (content_is_there i lt);
+    tail = r.tail_is ∙ ap (λ t. tail_word t r.shut) (sym r.counted ∙ sym (ap (λ h. h + length r.values) r.head_is));
+    room = let a = r.roomy in let c = r.counted in omega (arith, a, c);
   }
 
 pub moments : EachMomentIsLinearizable
@@ -123,39 +142,41 @@ moments z s h = record {
   values = h.ring.values;
   leads = h.ring.leads;
   shows = shows_queue z s.words h.seats h.ring;
+  slots = shows_slot z s.words h.seats h.ring;
   once = pushed-Leads h.ring.history h.ring.shut h.ring.values h.ring.leads;
   taken = h.ring.head_is ∙ h.ring.taken;
   permitted = h.ring.permitted;
+  run = h.run;
   each = λ n. let seat = h.ring.each_seat n in record { rest = seat.rest; prefix = seat.begins; own = seat.own };
 }
 
+-- one slot of two moments of one history, of the same seats
+slot_same : (z : Layout) (words words' : List ℕ) (seats seats' : ℕ → SeatView) (es es' : List Entry) (p p' : ℕ) → p' ≡ p → es' ≡ es → ((n : ℕ) → seats' n ≡ seats n)
+    → (IsThere z words seats es p ⊎ IsHeld z words seats es p) → (IsThere z words' seats' es' p' ⊎ IsHeld z words' seats' es' p') → word_of_place z words' p' ≡ word_of_place z words p
+slot_same z words words' seats seats' es es' p p' at history same one other = ⊎_elim
+    (λ (a : IsThere z words seats es p). ⊎_elim
+    (λ (b : IsThere z words' seats' es' p'). b.word ∙ ((λ i. face z.slots (at i) (content_of z (history i) (at i))) ∙ sym a.word))
+    (λ (b : IsHeld z words' seats' es' p'). absurd (a.nobody b.seat (content_of z es p)
+    (subst (λ (y : SeatView × (List Entry × ℕ)). HasClaimed y.0.stage y.1.1 (content_of z y.1.0 y.1.1)) (λ i. (same b.seat i, (history i, at i))) b.stands)))
+    other)
+    (λ (a : IsHeld z words seats es p). ⊎_elim
+    (λ (b : IsThere z words' seats' es' p'). absurd (b.nobody a.seat (content_of z es' p')
+    (subst (λ (y : SeatView × (List Entry × ℕ)). HasClaimed y.0.stage y.1.1 (content_of z y.1.0 y.1.1)) (λ i. (sym (same a.seat) i, (sym history i, sym at i))) a.stands)))
+    (λ (b : IsHeld z words' seats' es' p'). b.word ∙ ((λ i. face z.slots (at i - z.slots) (content_of z (history i) (at i - z.slots))) ∙ sym a.word))
+    other)
+    one
+
+pub determined : SlotsAreDetermined
+determined z s t h k pos history seats tail slot lt =
+    let a = h.slots slot lt in
+    let b = k.slots slot lt in
+    let a_claimed = a.claimed in
+    let a_last = a.last in
+    let b_claimed = b.claimed in
+    let b_last = b.last in
+    let at : b.place ≡ a.place = same_place z.slots b.place a.place pos (b.its ∙ sym a.its) (omega (arith, b_claimed, a_last, tail)) (omega (arith, a_claimed, b_last, tail)) in
+    ap (λ j. get_or t.words (slot_word j) 0) (sym b.its) ∙ (slot_same z s.words t.words h.seats k.seats h.history k.history a.place b.place at history seats a.shows b.shows
+    ∙ ap (λ j. get_or s.words (slot_word j) 0) a.its)
+
 pub held_up : NamesWhoHoldsUp
 held_up z s h up = who_holds_up z s.words h.seats h.ring up
-
--- a push with a place in reserve begins at C3
-begins_at_claim : (credits : ℕ) → 1 ≤ credits → (if nat_eq credits 0 then C1 else C3) ≡ C3
-begins_at_claim credits has = ap (λ b. if b then C1 else C3) (ne_eqb credits 0 (λ e. omega (arith, has, e)))
-
--- from there it ends with its second step
-two_from_claim : (z : Layout) (tail head : ℕ) (slots : List ℕ) (shut : Bool) (second : Words) (a : Actor) (body : ℕ)
-    → EndsInTwo z (record { tail = tail; shut = shut; head = head; slots = slots }) second (record a { body = body; line = Some C3 })
-two_from_claim z tail head slots true second a body = record {
-  goes_on = refl;
-  ends = refl;
-  pushes = λ e. absurd (true≢false e);
-  done = λ e. absurd (true≢false e);
-  pushes_none = λ _. refl;
-  refused = λ _. refl;
-}
-two_from_claim z tail head slots false second a body = record {
-  goes_on = refl;
-  ends = refl;
-  pushes = λ _. refl;
-  done = λ _. refl;
-  pushes_none = λ e. absurd (true≢false (sym e));
-  refused = λ e. absurd (true≢false (sym e));
-}
-
-pub two_steps : PushesInTwoSteps
-two_steps z first second a body has =
-    subst (λ l. EndsInTwo z first second (record a { body = body; line = Some l })) (sym (begins_at_claim a.credits has)) (two_from_claim z first.tail first.head first.slots first.shut second a body)

@@ -6,7 +6,7 @@ use Rattle.std.proofs.Math.Logic.{∥∥₁_elim}
 use Rattle.std.proofs.Math.Nat.{ℕ_set}
 use Rattle.std.proofs.lemmas.List.{append_cancel_left}
 use Rattle.std.specs.Coded.{le_prop}
-use mathlib.Core.Option.{some}
+use mathlib.Core.Option.{some, none}
 use Rattle.atomic_table.specs.Table.{Me}
 use Rattle.atomic_table.specs.Seated.{TableId}
 use Rattle.history.specs.declared.operations.Entry.{Entry}
@@ -33,11 +33,11 @@ ready_push true slots n body me l = let q = l refl in (refl, (q.0, q.1, q.2, q.3
 ready_push false slots n body me l = tt
 
 -- for a pop nothing has to be ready, but that it is one
-pub ready_pop : {T : Type 0} (b : Bool) (slots n : ℕ) (words : List ℕ) (me : Me (Option T) (Beside T)) → (b ≡ true → length words ≡ 1) → IsReadyBy b slots n (pops n words) me
-ready_pop true slots n [] me one = tt
-ready_pop true slots n (w ∷ []) me one = refl
-ready_pop true slots n (w ∷ x ∷ ws) me one = absurd (let e : suc (suc (length ws)) ≡ 1 = one refl in omega (arith, e))
-ready_pop false slots n words me one = tt
+pub ready_pop : {T : Type 0} (b : Bool) (slots n : ℕ) (words : List ℕ) (me : Me (Option T) (Beside T)) → (b ≡ true → length words ≡ 1) → (b ≡ true → me.0.hand ≡ none) → IsReadyBy b slots n (pops n words) me
+ready_pop true slots n [] me one empty = tt
+ready_pop true slots n (w ∷ []) me one empty = (refl, empty refl)
+ready_pop true slots n (w ∷ x ∷ ws) me one empty = absurd (let e : suc (suc (length ws)) ≡ 1 = one refl in omega (arith, e))
+ready_pop false slots n words me one empty = tt
 
 -- what is as long as before is the same
 nothing_between : {T : Type 0} (ds es : List (Deed T)) → length (ds ++ es) ≡ length ds → ds ++ es ≡ ds
@@ -62,6 +62,10 @@ module _ {T : Type 0} where
   -- so no slot is out that wasn't
   pub none_stays : (s t : Seat T) → KeepsSlots s t → HasNoSlot s → HasNoSlot t
   none_stays s t k none_out = (ap length k.held ∙ none_out.0, ap slots_in k.hand ∙ none_out.1)
+
+  -- where values are carried
+  pub none_still : {b : Bool} (s t : Seat T) → KeepsSlots s t → (b ≡ true → HasNoSlot s) → b ≡ true → HasNoSlot t
+  none_still s t k none_out carried = none_stays s t k (none_out carried)
 
   -- a deed behind steps that add none, and before such that see nothing
   abbrev then_adds : (s t u : Seat T) (d d' : Deed T) → d ≡ d' → KeepsSlots s t → AddsOwn t u d → AddsOwn s u d'

@@ -1,5 +1,5 @@
 -- Places, laps and slots, and what a word tells of what it was made of.
-use Rattle.std.proofs.Common.{◌≡◌, ℕ, suc, ◌+◌, ◌-◌, ◌*◌, ◌/◌, ◌%◌, ◌^◌, ◌<◌, ◌≤◌, sym, refl, ap, ap₂, ◌∙◌, Option, Some, None, arith, mod-lt, div-add-mod', suc-mul}
+use Rattle.std.proofs.Common.{◌≡◌, ℕ, suc, ◌+◌, ◌-◌, ◌*◌, ◌/◌, ◌%◌, ◌^◌, ◌<◌, ◌≤◌, sym, ap, ap₂, ◌∙◌, Option, Some, None, arith, div-add-mod', suc-mul}
 use Rattle.std.proofs.Math.Nat.{mul-le-mul_right, add-div_right}
 use Rattle.std.proofs.Math.Arith.{digits_div, digits_mod}
 use mathlib.Core.Logic.{dite}
@@ -35,10 +35,6 @@ parity_turns m p pos le e =
     let same : x % 2 ≡ (x + 1) % 2 = e ∙ ap (λ y. y % 2) laps in
     omega (arith, same)
 
--- the parity is one bit
-pub parity_is_bit : (m p : ℕ) → parity m p < 2
-parity_is_bit m p = mod-lt (p / m) (omega arith)
-
 -- what fits lies below the bit of the parity
 pub payload_below : (x : Option Taken) → FitsWord x → payload x < 2 ^ 63
 payload_below None h = omega arith
@@ -55,7 +51,3 @@ face_payload m p x h = digits_mod (parity m p) (payload_below x h)
 pub payload_some : (x : Option Taken) → FitsWord x → 0 < payload x → x ≡ Some (record { from = payload x / 2 ^ 48; body = payload x % 2 ^ 48 })
 payload_some None h lt = absurd (omega arith)
 payload_some (Some v) h lt = λ i. Some (record { from = sym (digits_div v.from {m = 2 ^ 48} {r = v.body} h.2) i; body = sym (digits_mod v.from {m = 2 ^ 48} {r = v.body} h.2) i })
-
-pub payload_none : (x : Option Taken) → FitsWord x → payload x ≡ 0 → x ≡ None
-payload_none None h e = refl
-payload_none (Some v) h e = absurd (let a = h.0 in omega arith)

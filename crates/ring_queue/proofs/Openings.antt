@@ -25,7 +25,7 @@ pub ok_on : {X E : Type 0} (P Q : X → Type 0) → ((x : X) → P x → Q x) �
 ok_on P Q f (Ok x) h = f x h
 ok_on P Q f (Err e) h = tt
 
-module _ {T : Type 0} (most credits limit : ℕ) (roles : List Role) (q : RingQueue T) (seats : List (Seat T)) (m : IsMade most credits limit roles q seats) where
+module _ {T : Type 0} (most limit : ℕ) (roles : List Role) (q : RingQueue T) (seats : List (Seat T)) (m : IsMade most limit roles q seats) where
   -- each seat of a new ring may begin a call
   pub made_ready : All (IsNumberSeat q) seats
   made_ready = all_places (IsNumberSeat q) seats (λ k s e. (m.each k s e).ready)

@@ -1,11 +1,11 @@
 -- The end of a ring: with all its seats handed in each place that was claimed is filled.
 use Rattle.std.proofs.Common.{◌≡◌, ℕ, zero, suc, ◌+◌, ◌-◌, ◌/◌, ◌%◌, ◌^◌, ◌<◌, ◌≤◌, ◌↔◌, Bool, true, false, if◌then◌else◌, nat_le, IsTrue, IsSomeAnd}
-use Rattle.std.proofs.Common.{List, [], ◌∷◌, ◌++◌, length, map, Option, Some, None, slice_get, mod-lt, sym, refl, ap, ◌∙◌, subst, arith, ne_eqb}
+use Rattle.std.proofs.Common.{List, [], ◌∷◌, ◌++◌, length, map, Option, Some, None, slice_get, mod-lt, sym, refl, ap, ◌∙◌, subst, arith}
 use Rattle.std.specs.List.{All, count_by}
 use mathlib.Core.Option.{some}
 use mathlib.Core.List.{IsPrefix}
 use lib.ListN.{get_elem?}
-use Rattle.std.proofs.lemmas.Bool.{eq-eqb, le-leb, lt-leb}
+use Rattle.std.proofs.lemmas.Bool.{le-leb, lt-leb}
 use Rattle.std.proofs.lemmas.List.{length-map}
 use Rattle.std.proofs.lemmas.List.Elements.{All-nil, All-cons}
 use Rattle.std.proofs.lemmas.Option.{none-some, same_Some}
@@ -134,17 +134,12 @@ module _ {T : Type 0} (z : Layout) (words : List ℕ) (seats : List (Seat T)) (e
       go q (Some n) here lies fills = absurd (none_claimed (e.all n).stage q (r.log q) (none_claims n fills.0 fills.1) fills.2)
 
   -- the words from a place on tell the values from there on
-  told_from : (k place : ℕ) (vs : List Taken) → place + k ≡ r.tail → r.head ≤ place → length vs ≤ k
-      → ((i : ℕ) (v : Taken) → slice_get vs i ≡ Some v → r.log (place + i) ≡ Some v) → ((p : ℕ) → place + length vs ≤ p → p < r.tail → r.log p ≡ None) → values_from z.slots words place k ≡ vs
-  told_from zero place [] to from few logged marked = refl
-  told_from zero place (v ∷ vs) to from few logged marked = absurd (let f : suc (length vs) ≤ 0 = few in omega (arith, f))
-  told_from (suc k) place [] to from few logged marked =
-      let lt : place < r.tail = omega (arith, to) in
-      let none : r.log place ≡ None = marked place (let l : length {A = Taken} [] ≡ 0 = refl in omega (arith, l)) lt in
-      let zero_is : word_of z.slots words place % 2 ^ 63 ≡ 0 = ap (λ w. w % 2 ^ 63) (filled place from lt) ∙ (face_payload z.slots place (r.log place) (r.fits place) ∙ ap payload none) in
-      ap (λ b. if b then [] else taken_in (word_of z.slots words place) ∷ values_from z.slots words (place + 1) k) (eq-eqb (word_of z.slots words place % 2 ^ 63) 0 zero_is)
-  told_from (suc k) place (v ∷ vs) to from few logged marked =
-      let lt : place < r.tail = omega (arith, to) in
+  told_from : (vs : List Taken) (place : ℕ) → place + length vs ≡ r.tail → r.head ≤ place → ((i : ℕ) (v : Taken) → slice_get vs i ≡ Some v → r.log (place + i) ≡ Some v)
+      → values_from z.slots words place (length vs) ≡ vs
+  told_from [] place to from logged = refl
+  told_from (v ∷ vs) place to from logged =
+      let more : length (v ∷ vs) ≡ length vs + 1 = (let q : suc (length vs) ≡ length vs + 1 = omega arith in q) in
+      let lt : place < r.tail = omega (arith, to, more) in
       let some_is : r.log place ≡ Some v = ap r.log (let q : place ≡ place + 0 = omega arith in q) ∙ logged 0 v refl in
       let w : ℕ = word_of z.slots words place in
       let says : w % 2 ^ 63 ≡ payload (r.log place) = ap (λ x. x % 2 ^ 63) (filled place from lt) ∙ face_payload z.slots place (r.log place) (r.fits place) in
@@ -152,11 +147,7 @@ module _ {T : Type 0} (z : Layout) (words : List ℕ) (seats : List (Seat T)) (e
       let one : 0 < payload (r.log place) = subst (λ x. 0 < payload x) (sym some_is) (let low = fit.0 in omega (arith, low)) in
       let value : taken_in w ≡ v = same_Some (taken_in w) v (sym (payload_some (r.log place) (r.fits place) one ∙ ap
       (λ x. Some (record { from = x / 2 ^ 48; body = x % 2 ^ 48 })) (sym says)) ∙ some_is) in
-      let more : values_from z.slots words (place + 1) k ≡ vs = told_from k (place + 1) vs (omega (arith, to)) (omega (arith, from)) (let f : suc (length vs) ≤ suc k = few in omega (arith, f))
-      (λ i u at. ap r.log (let q : place + 1 + i ≡ place + suc i = omega arith in q) ∙ logged (suc i) u at)
-      (λ p after before. marked p (let l : length (v ∷ vs) ≡ suc (length vs) = refl in omega (arith, l, after)) before) in
-      ap (λ b. if b then [] else taken_in w ∷ values_from z.slots words (place + 1) k) (ne_eqb (w % 2 ^ 63) 0 (λ none. let s = says in omega (arith, none, s, one)))
-      ∙ (λ i. value i ∷ more i)
+      λ i. value i ∷ told_from vs (place + 1) (omega (arith, to, more)) (omega (arith, from)) (λ k u at. ap r.log (let q : place + 1 + k ≡ place + suc k = omega arith in q) ∙ logged (suc k) u at) i
 
   head_is : head_in words ≡ r.head
   head_is = r.head_is
@@ -168,7 +159,7 @@ module _ {T : Type 0} (z : Layout) (words : List ℕ) (seats : List (Seat T)) (e
   values_are =
       let c = r.counted in
       ap (λ (y : ℕ × ℕ). values_from z.slots words y.0 (y.1 - y.0)) (λ i. (head_is i, tail_is i))
-      ∙ told_from (r.tail - r.head) r.head r.values (omega (arith, c)) (omega arith) (omega (arith, c)) r.logged r.marked
+      ∙ (ap (values_from z.slots words r.head) (let q : r.tail - r.head ≡ length r.values = omega (arith, c) in q) ∙ told_from r.values r.head c (omega arith) r.logged)
 
   pub shut_is : was_shut_in words ≡ r.shut
   shut_is = ap (nat_le (2 ^ 62)) r.tail_is ∙ go r.shut

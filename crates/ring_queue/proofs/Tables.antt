@@ -1,5 +1,5 @@
 -- One seat's step, as the table has it.
-use Rattle.std.proofs.Common.{◌≡◌, ◌≢◌, ℕ, ◌+◌, ◌^◌, ◌<◌, ◌≤◌, List, [], ◌∷◌, ◌++◌, zero, suc, length, set, sym, refl, ap, ◌∙◌, subst, ◌⊎◌, inl, ⊎_elim, arith, append-nil}
+use Rattle.std.proofs.Common.{◌≡◌, ◌≢◌, ℕ, ◌^◌, ◌<◌, ◌≤◌, List, [], ◌∷◌, ◌++◌, zero, suc, set, sym, refl, ap, ◌∙◌, subst, ◌⊎◌, inl, ⊎_elim, arith, append-nil}
 use Rattle.std.specs.List.{All}
 use mathlib.Core.Option.{some, some-injective, some-ne-none}
 use lib.ListN.{get_elem?}
@@ -10,9 +10,9 @@ use Rattle.history.specs.Entries.{own_entries, Leads}
 use Rattle.history.specs.Seats.{IsSound, IsNoted, IsPermitted}
 use Rattle.ring_queue.specs.Plans.{Layout, permits_of}
 use Rattle.ring_queue.specs.Knowledge.{SeatView, View, keeper, seated, members, known_by}
-use Rattle.ring_queue.specs.Rule.{Stands, SeatOk, total, put, Ring, Holds}
+use Rattle.ring_queue.specs.Rule.{Stands, SeatOk, put, Ring, Run, Holds}
 use Rattle.ring_queue.specs.Steps.{Rests, Learns}
-use Rattle.ring_queue.proofs.Puts.{put_here, put_else, put_each, total_same}
+use Rattle.ring_queue.proofs.Puts.{put_here, put_else}
 use Rattle.ring_queue.proofs.Histories.{all_first, legal_first, all_noted_more}
 use Rattle.ring_queue.proofs.Keeps.{Became, watches}
 
@@ -30,9 +30,9 @@ module _ (z : Layout) (s : State ℕ View) (h : Holds z s) (id : ℕ) (v : SeatV
   its_seat = h.fits id 0 (seated v) v mine refl
 
   -- one seat's view changes, and with it the ring
-  abbrev pub one_seat : (v' : SeatView) (words : List ℕ) → v'.number ≡ v.number → Ring z words (put h.seats v.number v')
+  abbrev pub one_seat : (v' : SeatView) (words : List ℕ) → v'.number ≡ v.number → (ring : Ring z words (put h.seats v.number v')) → Run z words (put h.seats v.number v') ring.history
       → Holds z record { words = words; homes = s.homes; views = set s.views id (seated v') }
-  one_seat v' words same ring =
+  one_seat v' words same ring run =
       let P : ℕ → ℕ → SeatView → Type 0 = λ j i u. (put h.seats v.number v' u.number ≡ u) × (h.owner u.number ≡ (j, i)) × (u.number < h.dealt) in
       let own = h.owned id 0 (seated v) v mine refl in
       let here : P id 0 v' = (put_here h.seats v.number v'.number v' same, ap h.owner same ∙ own.0, subst (λ (k : ℕ). k < h.dealt) (sym same) own.1) in
@@ -48,6 +48,7 @@ module _ (z : Layout) (s : State ℕ View) (h : Holds z s) (id : ℕ) (v : SeatV
       record {
         seats = put h.seats v.number v';
         ring = ring;
+        run = run;
         dealt = h.dealt;
         home = h.home;
         owner = h.owner;
@@ -60,8 +61,8 @@ module _ (z : Layout) (s : State ℕ View) (h : Holds z s) (id : ℕ) (v : SeatV
 
 module _ (z : Layout) (words : List ℕ) (seats : ℕ → SeatView) (r : Ring z words seats) (v : SeatView) (is : seats v.number ≡ v) where
   -- what the ring knows of a seat
-  pub it_fits : SeatOk z r.head r.tail (r.head + length r.values) r.log r.cells r.history v.number v
-  it_fits = subst (SeatOk z r.head r.tail (r.head + length r.values) r.log r.cells r.history v.number) is (r.each_seat v.number)
+  pub it_fits : SeatOk z r.head r.tail r.log r.cells r.history v.number v
+  it_fits = subst (SeatOk z r.head r.tail r.log r.cells r.history v.number) is (r.each_seat v.number)
 
   -- what it knows is sound
   pub it_is_sound : IsSound (permits_of z) (known_by v)
@@ -79,15 +80,15 @@ module _ (z : Layout) (words : List ℕ) (seats : ℕ → SeatView) (r : Ring z 
   notes_stay = let f = it_fits in subst (λ es. All (IsNoted es) v.notes) (sym f.begins) (all_noted_more v.seen f.rest v.notes f.noted)
 
   -- a seat that has seen the whole history
-  pub saw_all : (v' : SeatView) → v'.number ≡ v.number → v'.seen ≡ r.history → v'.mine ≡ v.mine → All (IsNoted r.history) v'.notes → v'.head ≤ r.head → v'.credits ≤ z.credits
-      → Stands z.slots r.head r.tail (r.head + length r.values) r.log r.cells v' v'.stage
-      → SeatOk z r.head r.tail (r.head + length r.values) r.log r.cells r.history v.number v'
-  saw_all v' number seen mine noted behind few stands =
+  pub saw_all : (v' : SeatView) → v'.number ≡ v.number → v'.seen ≡ r.history → v'.mine ≡ v.mine → All (IsNoted r.history) v'.notes → v'.head ≤ r.head → v'.tail ≤ r.tail
+      → Stands z.slots r.head r.tail r.log r.cells v' v'.stage
+      → SeatOk z r.head r.tail r.log r.cells r.history v.number v'
+  saw_all v' number seen mine noted behind under stands =
       let f = it_fits in
       record {
         number = number;
         behind = behind;
-        few = few;
+        under = under;
         rest = [];
         begins = sym (append-nil v'.seen ∙ seen);
         own = f.own ∙ sym mine;
@@ -96,16 +97,9 @@ module _ (z : Layout) (words : List ℕ) (seats : ℕ → SeatView) (r : Ring z 
         stage = stands;
       }
 
-  -- a step that changes no word and no count of places in reserve, of a seat that has claimed no place, keeps the ring
-  pub looks : (v' : SeatView) → Rests v.stage → v'.credits ≡ v.credits → SeatOk z r.head r.tail (r.head + length r.values) r.log r.cells r.history
-      v.number v' → Became z words (put seats v.number v') r.history
-  looks v' rested same ok =
-      let totals : total (length z.roles) (put seats v.number v') ≡ total (length z.roles) seats = total_same (length z.roles) seats (put seats v.number v')
-      (λ k. put_each seats v.number k v' (λ q (u : SeatView). u.credits ≡ (seats q).credits) (same ∙ ap (λ (u : SeatView). u.credits) (sym is)) (λ _. refl)) in
-      let a = r.roomy in
-      let b = r.limited in
-      let s = r.spare in
-      watches z words seats r v.number v' (subst (λ (u : SeatView). Rests u.stage) (sym is) rested) ok (omega (arith, a, totals)) (omega (arith, b, totals)) (omega (arith, s, totals))
+  -- a step that changes no word, of a seat that has claimed no place, keeps the ring
+  pub looks : (v' : SeatView) → Rests v.stage → SeatOk z r.head r.tail r.log r.cells r.history v.number v' → Became z words (put seats v.number v') r.history
+  looks v' rested ok = watches z words seats r v.number v' (subst (λ (u : SeatView). Rests u.stage) (sym is) rested) ok
 
 -- a step added nothing, or all of these, to the history and to its seat's own entries; the seat has seen all, or added nothing and
 -- has seen what it had
@@ -120,21 +114,25 @@ pub record Extends (all history : List Entry) (v : SeatView) (history' : List En
 pub adds_none : (all history : List Entry) (v : SeatView) (history' : List Entry) (v' : SeatView) → history' ≡ history → v'.mine ≡ v.mine → v'.seen ≡ history → Extends all history v history' v'
 adds_none all history v history' v' same own seen = record { added = []; which = inl refl; grown = same ∙ sym (append-nil history); own = own ∙ sym (append-nil v.mine); seen = inl (seen ∙ sym same) }
 
--- no head of a seat is beyond the limit
-pub head_below : (z : Layout) (words : List ℕ) (seats : ℕ → SeatView) → Ring z words seats → (n : ℕ) → (seats n).head < 2 ^ 62
-head_below z words seats r n =
+-- neither a seat's head nor its tail is beyond the limit
+pub places_below : (z : Layout) (words : List ℕ) (seats : ℕ → SeatView) → Ring z words seats → (n : ℕ) → ((seats n).head < 2 ^ 62) × ((seats n).tail < 2 ^ 62)
+places_below z words seats r n =
     let seat = r.each_seat n in
     let behind = seat.behind in
+    let under = seat.under in
     let counted = r.counted in
     let limited = r.limited in
     let planned = r.planned in
     let limit = planned.limited in
-    omega (arith, behind, counted, limited, limit)
+    (omega (arith, behind, counted, limited, limit), omega (arith, under, limited, limit))
 
 -- a seat has learned at its step
 pub learns : (z : Layout) (words : List ℕ) (seats : ℕ → SeatView) (v v' : SeatView) → v'.number ≡ v.number → Ring z words (put seats v.number v') → Learns z v v'
-learns z words seats v v' number r = record {
-  number = number;
-  below = subst (λ (u : SeatView). u.head < 2 ^ 62) (put_here seats v.number v'.number v' number) (head_below z words (put seats v.number v') r v'.number);
-  sound = it_is_sound z words (put seats v.number v') r v' (put_here seats v.number v'.number v' number);
-}
+learns z words seats v v' number r =
+    let below = subst (λ (u : SeatView). (u.head < 2 ^ 62) × (u.tail < 2 ^ 62)) (put_here seats v.number v'.number v' number) (places_below z words (put seats v.number v') r v'.number) in
+    record {
+      number = number;
+      below = below.0;
+      tail_below = below.1;
+      sound = it_is_sound z words (put seats v.number v') r v' (put_here seats v.number v'.number v' number);
+    }

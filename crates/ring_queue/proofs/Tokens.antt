@@ -1,5 +1,5 @@
 -- What calls ask of a ring's table beside steps, at their names.
-use Rattle.std.proofs.Common.{◌≡◌, ℕ, ◌-◌, ◌≤◌, Bool, true, false, if◌then◌else◌, List, [], ◌∷◌, ◌++◌, length, map, take, Option, Some, slice_get, sym, refl, ap, ◌∙◌, subst, arith}
+use Rattle.std.proofs.Common.{◌≡◌, ℕ, ◌-◌, ◌*◌, ◌≤◌, Bool, true, false, if◌then◌else◌, List, [], ◌∷◌, ◌++◌, length, map, take, Option, Some, slice_get, sym, refl, ap, ◌∙◌, subst, arith}
 use Rattle.std.specs.List.{All}
 use Rattle.std.proofs.lemmas.List.Elements.{All-append, All-cons, All-nil}
 use mathlib.Core.List.{IsPrefix}
@@ -76,9 +76,9 @@ deals_at {T} z about id n me same is =
 -- a seat with the token of a number that was dealt
 pub dealt : {T : Type 0} (z : Layout) (t : TableId) (n : ℕ) (role : Role) (k : Token (Option T) (Beside T)) (place near : ℕ) → IsPlanned z
     → place ≡ z.slots → 1 ≤ n → slice_get z.roles (n - 1) ≡ Some role → k.table_id ≡ t → k.me.0.plain ≡ seated (new_seat z.slots n)
-    → k.me.0.deeds ≡ [] → HasNone k.me
-    → IsDealt z t n record { token = k; number = n; role = role; head = place; credits = 0; near = near }
-dealt z t n role k place near planned first least permits table me none_done none_out =
+    → k.me.0.deeds ≡ [] → HasNone k.me → near ≡ 64 * n
+    → IsDealt z t n record { token = k; number = n; role = role; head = place; tail = place; near = near }
+dealt z t n role k place near planned first least permits table me none_done none_out apart =
     let is : knows k.me.0.plain ≡ new_seat z.slots n = ap knows me in
     record {
       ready = record {
@@ -91,7 +91,8 @@ dealt z t n role k place near planned first least permits table me none_done non
           role = permits;
           head = first ∙ sym (ap (λ v. v.head) is);
           below = let from = planned.from in let limit = planned.limited in omega (arith, first, from, limit);
-          credits = sym (ap (λ v. v.credits) is);
+          tail = first ∙ sym (ap (λ v. v.tail) is);
+          tail_below = let from = planned.from in let limit = planned.limited in omega (arith, first, from, limit);
           sound = subst (λ v. IsSound (permits_of z) (known_by v)) (sym is) (new_is_sound z n);
           valued = ∣ knows_none z.carries z k.me.0 (ap (λ v. v.seen) is) none_done none_out.1 ∣₁;
         };
@@ -100,6 +101,7 @@ dealt z t n role k place near planned first least permits table me none_done non
       view = is;
       none_done = none_done;
       none_out = none_out;
+      near = apart;
     }
 
 -- a spare token
@@ -135,10 +137,10 @@ pairs_at key id other me him v w is his none_out =
 pub meets_at : {T : Type 0} (key : Layout) (slots id : ℕ) (me : Me (Option T) (Beside T)) (v w : SeatView) → me.0.plain ≡ paired v w
     → Allows {S = Option T} (HoldsBy key) slots id me 0 (λ n. n) (λ n m. MeetsBeside key.carries key me m)
 meets_at {T} key slots id me v w is =
-    let at : Me (Option T) (Beside T) = (record { plain = paired v w; deeds = me.0.deeds; hand = me.0.hand; others = me.0.others }, me.1) in
-    let back : at ≡ me = (λ i. (record { plain = sym is i; deeds = me.0.deeds; hand = me.0.hand; others = me.0.others }, me.1)) in
+    let at : Me (Option T) (Beside T) = (record { plain = paired v w; deeds = me.0.deeds; hand = me.0.hand; others = me.0.others; tries = me.0.tries }, me.1) in
+    let back : at ≡ me = (λ i. (record { plain = sym is i; deeds = me.0.deeds; hand = me.0.hand; others = me.0.others; tries = me.0.tries }, me.1)) in
     subst (λ (y : Me (Option T) (Beside T)). Allows {S = Option T} (HoldsBy key) slots id y 0 (λ n. n) (λ n m. MeetsBeside key.carries key y m)) back
-    (lift_meets key slots id v w me.0.deeds me.0.hand me.0.others me.1 key.carries)
+    (lift_meets key slots id v w me.0.deeds me.0.hand me.0.others me.0.tries me.1 key.carries)
 
 -- one seat becomes two
 pub parts_at : {T : Type 0} (key : Layout) (id : ℕ) (me : Me (Option T) (Beside T)) (v w : SeatView) → me.0.plain ≡ paired v w → v.seen ≡ w.seen

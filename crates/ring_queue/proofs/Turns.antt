@@ -1,50 +1,59 @@
 -- What a turn tells after others that only saw more.
-use Rattle.std.proofs.Common.{◌≡◌, ◌∷◌, ◌++◌, List, [], ℕ, ◌+◌, ◌<◌, ◌≤◌, take, Some, None, Result, OnOk, IfErr, IfOk, sym, ap, ◌∙◌, subst, append_assoc, append-nil, ⊎_elim, inl, inr, arith}
-use Rattle.std.specs.List.{count_by}
-use Rattle.std.proofs.lemmas.Result.{on_ok_weaker, IfErr-weaker, IfOk-weaker}
+use Rattle.std.specs.Option.{IsNone}
+use Rattle.std.proofs.Common.{Option, refl, ◌≡◌, ◌∷◌, ◌++◌, List, [], ℕ, ◌+◌, ◌≤◌, Some, None, sym, ap, ◌∙◌, subst, append_assoc, append-nil, ⊎_elim, inl, inr, arith}
 use Rattle.history.specs.declared.operations.Entry.{Entry}
 use Rattle.history.specs.declared.operations.Entry.TheVariants.{Push}
-use Rattle.history.specs.declared.refusals.Refusal.{Refusal}
 use Rattle.history.specs.declared.refusals.Refusal.TheVariants.{Closed as IsClosed}
-use Rattle.history.specs.Entries.{is_push, LeadsToShut}
 use Rattle.history.specs.Seats.{Known}
-use Rattle.history.specs.Answers.{Pushed, FoundShut, SeesMore, PushRefused}
-use Rattle.history.proofs.Learning.{sees_then, answers_then, push_refused_then, pop_refused_then}
+use Rattle.history.specs.Answers.{Pushed, SeesMore}
+use Rattle.history.proofs.Learning.{sees_then, answers_then, pop_refused_then}
 use Rattle.ring_queue.specs.declared.pops.Turn.{Turn}
 use Rattle.ring_queue.specs.declared.pops.Turn.TheVariants.{Took, Empty, Closed, Failed}
 use Rattle.ring_queue.specs.declared.seats.Seat.{Seat}
 use Rattle.ring_queue.specs.declared.looks.EndLook.TheVariants.{Ahead}
 use Rattle.ring_queue.specs.Plans.{Layout}
-use Rattle.ring_queue.specs.Steps.{IsAhead, WasAhead, PushedAll, pushes}
+use Rattle.ring_queue.specs.Steps.{IsAhead, WasSince, WasLate, WasHeldUp, PushedAll, pushes}
 use Rattle.ring_queue.specs.Seats.{known_of, view}
 use Rattle.ring_queue.specs.Looks.{EndSays}
 use Rattle.ring_queue.specs.Turns.{HaveFailed, TurnSays}
 
--- what was ahead stays so, of any place before
-pub was_ahead : (z : Layout) (old seen more seen' : List Entry) (place place' : ℕ) → seen' ≡ seen ++ more → place' ≤ place → WasAhead z old seen place → WasAhead z old seen' place'
-was_ahead z old seen more seen' place place' goes_on le w = record {
-  between = w.between;
-  rest = w.rest ++ more;
-  parts = goes_on ∙ (ap (λ es. es ++ more) w.parts ∙ append_assoc (old ++ w.between) w.rest more);
-  ahead = ⊎_elim (λ (lt : place < z.slots + count_by is_push (old ++ w.between)). inl (omega (arith, lt, le))) (λ (h : LeadsToShut (old ++ w.between)). inr h) w.ahead;
+-- what was so since some entries was so since those before them, by what was seen later
+was_on : (P : List Entry → Type 0) (old seen more seen' : List Entry) → seen' ≡ seen ++ more → WasSince P old seen → WasSince P old seen'
+was_on P old seen more seen' goes_on w = record { between = w.between; rest = w.rest ++ more; parts = goes_on ∙ (ap (λ es. es ++ more) w.parts ∙ append_assoc (old ++ w.between) w.rest more); was = w.was }
+
+was_since : (P : List Entry → Type 0) (first more old seen : List Entry) → old ≡ first ++ more → WasSince P old seen → WasSince P first seen
+was_since P first more old seen e w =
+    let same : old ++ w.between ≡ first ++ (more ++ w.between) = ap (λ es. es ++ w.between) e ∙ append_assoc first more w.between in
+    record { between = more ++ w.between; rest = w.rest; parts = w.parts ∙ ap (λ es. es ++ w.rest) same; was = subst P same w.was }
+
+-- what was held up was so, of any place before, and since any step before
+held_on : (z : Layout) (old seen more seen' : List Entry) (from from' : ℕ) → seen' ≡ seen ++ more → from' ≤ from → WasHeldUp z old seen from → WasHeldUp z old seen' from'
+held_on z old seen more seen' from from' goes_on le w = record {
+  place = w.place;
+  later = let later = w.later in omega (arith, later, le);
+  ahead = was_on (λ es. IsAhead z es w.place) old seen more seen' goes_on w.ahead;
+  late = was_on (λ es. WasLate z es w.place) old seen more seen' goes_on w.late;
 }
 
--- and since any step before
-pub was_since : (z : Layout) (first more old seen : List Entry) (place : ℕ) → old ≡ first ++ more → WasAhead z old seen place → WasAhead z first seen place
-was_since z first more old seen place e w =
-    let same : old ++ w.between ≡ first ++ (more ++ w.between) = ap (λ es. es ++ w.between) e ∙ append_assoc first more w.between in
-    record { between = more ++ w.between; rest = w.rest; parts = w.parts ∙ ap (λ es. es ++ w.rest) same; ahead = subst (λ es. IsAhead z es place) same w.ahead }
+held_since : (z : Layout) (first more old seen : List Entry) (from : ℕ) → old ≡ first ++ more → WasHeldUp z old seen from → WasHeldUp z first seen from
+held_since z first more old seen from e w = record {
+  place = w.place;
+  later = w.later;
+  ahead = was_since (λ es. IsAhead z es w.place) first more old seen e w.ahead;
+  late = was_since (λ es. WasLate z es w.place) first more old seen e w.late;
+}
 
--- what is ahead was so
-pub is_ahead : (z : Layout) (old between seen : List Entry) (place : ℕ) → seen ≡ old ++ between → IsAhead z seen place → WasAhead z old seen place
-is_ahead z old between seen place e h = record { between = between; rest = []; parts = e ∙ sym (append-nil (old ++ between)); ahead = subst (λ es. IsAhead z es place) e h }
+-- what is no value is none
+pub none_if : (o : Option ℕ) → ((x : ℕ) → o ≡ Some x → ⊥) → IsNone o
+none_if None h = refl
+none_if (Some x) h = absurd (h x refl)
 
 -- turns that failed since a step failed since any step before
 pub failed_since : {T : Type 0} (z : Layout) (first more old : List Entry) (from turns : ℕ) (t : Seat T) → old ≡ first ++ more → HaveFailed z old from turns t → HaveFailed z first from turns t
 failed_since z first more old from turns t e f = (
   f.0,
   ⊎_elim (λ (le : from + turns ≤ t.head). inl le)
-      (λ (w : WasAhead z old (view t).seen from). inr (was_since z first more old (view t).seen from e w)) f.1,
+      (λ (w : WasHeldUp z old (view t).seen from). inr (held_since z first more old (view t).seen from e w)) f.1,
 )
 
 -- one turn more failed
@@ -59,9 +68,9 @@ failed_more z old before from turns s t since more f late =
       ⊎_elim
           (λ (le : from + turns ≤ s.head). ⊎_elim
           (λ (lt : s.head + 1 ≤ t.head). inl (omega (arith, le, lt)))
-          (λ (w : WasAhead z old (view t).seen s.head). inr (was_ahead z old (view t).seen [] (view t).seen s.head from (sym (append-nil (view t).seen)) below w))
+          (λ (w : WasHeldUp z old (view t).seen s.head). inr (held_on z old (view t).seen [] (view t).seen s.head from (sym (append-nil (view t).seen)) below w))
           g.1)
-          (λ (w : WasAhead z old (view s).seen from). inr (was_ahead z old (view s).seen more.between (view t).seen from from more.seen (omega arith) w))
+          (λ (w : WasHeldUp z old (view s).seen from). inr (held_on z old (view s).seen more.between (view t).seen from from more.seen (omega arith) w))
           f.1,
     )
 
@@ -73,24 +82,36 @@ turn_after z s t u Closed f same g = pop_refused_then (known_of s) (known_of t) 
 turn_after z s t u Failed f same g =
     (sees_then (known_of s) (known_of t) (known_of u) f g.0, failed_since z (view s).seen f.between (view t).seen s.head 1 u f.seen (subst (λ h. HaveFailed z (view t).seen h 1 u) same g.1))
 
--- a pop that found a place claimed, and then read Head
-pub end_failed : {T : Type 0} (z : Layout) (s t u : Seat T) → EndSays z s t Ahead → SeesMore (known_of t) (known_of u) → t.head ≤ u.head → TurnSays z s u Failed
-end_failed z s t u f more le =
+-- a pop that found a place not filled and claimed, and then read Head
+pub end_failed : {T : Type 0} (z : Layout) (s t u : Seat T) → WasLate z (view s).seen s.head → EndSays z s t Ahead → SeesMore (known_of t) (known_of u) → t.head ≤ u.head → TurnSays z s u Failed
+end_failed z s t u late f more le =
     let same = f.2 in
-    let then = is_ahead z (view s).seen f.0.between (view t).seen s.head f.0.seen f.1 in (
-      sees_then (known_of s) (known_of t) (known_of u) f.0 more,
+    let all = sees_then (known_of s) (known_of t) (known_of u) f.0 more in
+    let ahead : WasSince (λ es. IsAhead z es s.head) (view s).seen (view t).seen = record {
+      between = f.0.between;
+      rest = [];
+      parts = f.0.seen ∙ sym (append-nil ((view s).seen ++ f.0.between));
+      was = subst (λ es. IsAhead z es s.head) f.0.seen f.1;
+    } in (
+      all,
       (
         omega (arith, le, same),
-        inr (was_ahead z (view s).seen (view t).seen more.between (view u).seen s.head s.head more.seen (omega arith) then),
+        inr (record {
+          place = s.head;
+          later = omega arith;
+          ahead = was_on (λ es. IsAhead z es s.head) (view s).seen (view t).seen more.between (view u).seen more.seen ahead;
+          late = record {
+            between = [];
+            rest = all.between;
+            parts = all.seen ∙ ap (λ es. es ++ all.between) (sym (append-nil (view s).seen));
+            was = subst (λ es. WasLate z es s.head) (sym (append-nil (view s).seen)) late;
+          };
+        }),
       ),
     )
 
--- a pop whose head was another's
-pub head_raised : {T : Type 0} (z : Layout) (s u : Seat T) → SeesMore (known_of s) (known_of u) → s.head < u.head → TurnSays z s u Failed
-head_raised z s u more lt = (more, (omega (arith, lt), inl (omega (arith, lt))))
-
 -- a push that is done after its seat saw more
-pushed_after : (a b c : Known) (body : ℕ) → SeesMore a b → Pushed b body c → Pushed a body c
+pub pushed_after : (a b c : Known) (body : ℕ) → SeesMore a b → Pushed b body c → Pushed a body c
 pushed_after a b c body f g = record {
   number = g.number ∙ f.number;
   between = f.between ++ g.between;
@@ -99,17 +120,8 @@ pushed_after a b c body f g = record {
   notes = g.notes ∙ f.notes;
 }
 
--- the same of a call that may be refused
-pub done_after : {T : Type 0} (a b c d : Known) (body : ℕ) (r : Result T Refusal) → SeesMore a b → SeesMore b c → OnOk r (Pushed c body d) → OnOk r (Pushed a body d)
-done_after a b c d body r f g = on_ok_weaker r (pushed_after a c d body (sees_then a b c f g))
-
--- and of its refusal
-pub refused_after : {T : Type 0} (a b c d : Known) (r : Result T Refusal) → SeesMore a b → SeesMore b c
-    → IfErr r (λ refusal. (refusal ≡ IsClosed) × FoundShut c d) → IfErr r (λ refusal. PushRefused a refusal d)
-refused_after a b c d r f g = IfErr-weaker r _ _ (λ refusal h. subst (λ x. PushRefused a x d) (sym h.0) (push_refused_then a c d IsClosed (sees_then a b c f g) h.1))
-
 -- pushes that are done after their seat saw more
-pushed_all_after : (a b c : Known) (bodies : List ℕ) → SeesMore a b → PushedAll b bodies c → PushedAll a bodies c
+pub pushed_all_after : (a b c : Known) (bodies : List ℕ) → SeesMore a b → PushedAll b bodies c → PushedAll a bodies c
 pushed_all_after a b c bodies f g = record {
   number = g.number ∙ f.number;
   between = f.between ++ g.between;
@@ -117,7 +129,3 @@ pushed_all_after a b c bodies f g = record {
   mine = g.mine ∙ (λ i. f.mine i ++ pushes (f.number i) bodies);
   notes = g.notes ∙ f.notes;
 }
-
--- the same of a call that may be refused, of the first of some bodies
-pub all_done_after : (a b c : Known) (bodies : List ℕ) (r : Result ℕ Refusal) → SeesMore a b → IfOk r (λ count. PushedAll b (take count bodies) c) → IfOk r (λ count. PushedAll a (take count bodies) c)
-all_done_after a b c bodies r f = IfOk-weaker r _ _ (λ count. pushed_all_after a b c (take count bodies) f)

@@ -79,6 +79,7 @@ opens_first T z slots flags words given planned same flagged is first = record {
           stands = λ i lt. (down i, empties T z flags i (omega (arith, lt, e)));
           lies = λ k l at. absurd (some-ne-none l (sym at));
           out = λ j i at. absurd (no_hand T z j i at);
+          why = λ i lt up. absurd (up (down i));
         };
       };
       known = one_view T z;

@@ -1,5 +1,5 @@
 -- The end of a ring that carries values: those left are what the history of values leads to.
-use Rattle.std.proofs.Common.{◌≡◌, ℕ, zero, suc, ◌+◌, ◌-◌, ◌*◌, ◌%◌, ◌^◌, ◌<◌, ◌≤◌, true, false, Bool, if◌then◌else◌, nat_eq, nat_le, IsTrue, List}
+use Rattle.std.proofs.Common.{◌≡◌, ℕ, zero, suc, ◌+◌, ◌-◌, ◌*◌, ◌%◌, ◌^◌, ◌<◌, ◌≤◌, true, false, Bool, nat_le, IsTrue, List}
 use Rattle.std.proofs.Common.{[], ◌∷◌, map, length, take, mod-lt, Option, Some, sym, refl, ap, subst, ◌∙◌, append-nil, arith}
 use Rattle.std.specs.List.{All}
 use Rattle.std.proofs.lemmas.List.{get_or-take}
@@ -105,16 +105,12 @@ first_values slots words some_slot place zero = refl
 first_values slots words some_slot place (suc k) =
     let lt = mod-lt place some_slot in
     let one : word_of slots (take (32 + 2 * slots) words) place ≡ word_of slots words place = get_or-take (32 + 2 * slots) words (slot_word (place % slots)) 0 (omega (arith, lt)) in
-    (λ i. if nat_eq (one i % 2 ^ 63) 0 then [] else taken_in (one i) ∷ first_values slots words some_slot (place + 1) k i)
+    (λ i. taken_in (one i) ∷ first_values slots words some_slot (place + 1) k i)
 
 -- there are no more of them than places
 few_values : (slots : ℕ) (words : List ℕ) (place k : ℕ) → length (values_from slots words place k) ≤ k
 few_values slots words place zero = omega arith
-few_values slots words place (suc k) = go (nat_eq (word_of slots words place % 2 ^ 63) 0) (few_values slots words (place + 1) k)
-  where
-    go : (b : Bool) → length (values_from slots words (place + 1) k) ≤ k → length (if b then [] else taken_in (word_of slots words place) ∷ values_from slots words (place + 1) k) ≤ suc k
-    go true few = omega arith
-    go false few = omega (arith, few)
+few_values slots words place (suc k) = let few = few_values slots words (place + 1) k in omega (arith, few)
 
 module _ {T : Type 0} (q : RingQueue T) (seats : List (Seat T)) (words : List ℕ) (slots : List (Option T)) (w : Beside T)
     (e : ValuesEnd q.plan seats words slots w) (at_rest : All (λ s. Rests (view s).stage) seats)

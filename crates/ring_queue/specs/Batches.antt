@@ -10,9 +10,9 @@ use Rattle.ring_queue.specs.declared.batches.Batch.TheVariants.{Took, Empty, Clo
 use Rattle.ring_queue.specs.declared.seats.Seat.{Seat}
 use Rattle.ring_queue.specs.Plans.{Layout}
 use Rattle.ring_queue.specs.Knowledge.{found}
-use Rattle.ring_queue.specs.Steps.{AddsAll, AreValues}
+use Rattle.ring_queue.specs.Steps.{AddsAll}
 use Rattle.ring_queue.specs.Seats.{known_of, view}
-use Rattle.ring_queue.specs.Turns.{HaveFailed}
+use Rattle.ring_queue.specs.Turns.{HaveFailed, Tried}
 
 -- so many values were popped, no more than a number, one behind another at one step, and went behind what was in a list
 pub record PoppedAll (k : Known) (most : ℕ) (before after : List Taken) (k' : Known) (count : ℕ) : Type 0 where
@@ -35,11 +35,17 @@ BatchSays z s t most before after Empty = (after ≡ before) × FoundEmpty (know
 BatchSays z s t most before after Closed = (after ≡ before) × FoundShutEmpty (known_of s) (known_of t)
 BatchSays z s t most before after Failed = (after ≡ before) × SeesMore (known_of s) (known_of t) × HaveFailed z (view s).seen s.head 1 t
 
--- a pop went on reading words of values, up to so many
+-- one turn failed, by the path, of a turn of a pop of many that did
+abbrev pub BatchTried : {T : Type 0} → (s t : Seat T) → Batch → Type 0
+BatchTried s t (Took count) = Unit {0}
+BatchTried s t Empty = Unit {0}
+BatchTried s t Closed = Unit {0}
+BatchTried s t Failed = Tried s t 1
+
+-- a pop went on reading words, up to so many
 pub record GoesOn {T : Type 0} (s t : Seat T) (words : List ℕ) (limit count : ℕ) : Type 0 where
   pub sees : SeesMore (known_of s) (known_of t)
   pub head : t.head ≡ s.head
   pub found : (view t).stage ≡ found (take count words)
-  pub values : AreValues (take count words)
   pub some : 1 ≤ count
   pub few : count ≤ limit

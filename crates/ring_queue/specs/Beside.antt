@@ -14,14 +14,16 @@ use Rattle.ring_queue.specs.Knowledge.{SeatView, View, seated, paired, spent, de
 use Rattle.ring_queue.specs.Plans.{Layout, words_of}
 use Rattle.ring_queue.specs.Rule.{Holds, Opens, first_view}
 use Rattle.ring_queue.specs.Meets.{Met}
+use Rattle.ring_queue.specs.Paths.{Try}
 
--- what a seat knows of its queue, a beginning of the history of values, the slot that is out with it, and what seats that it
--- took in had seen of that history
+-- what a seat knows of its queue, a beginning of the history of values, the slot that is out with it, what seats that it took in
+-- had seen of that history, and its tries at slots
 pub record Beside (T : Type 0) : Type 0 where
   pub plain : View
   pub deeds : List (Deed T)
   pub hand : maybe.Option ℕ
   pub others : List (List (Deed T))
+  pub tries : List Try
 
 module _ {T : Type 0} where
   -- what is known of the queue alone
@@ -91,11 +93,11 @@ module _ {T : Type 0} where
   Effect me (Shut n ∷ es) w held w' held' = (held' ≡ held) × (w'.hand ≡ w.hand) × ((between : List (Deed T)) × (w'.deeds ≡ (w.deeds ++ between) ++ closed me ∷ []))
 
   -- the slots and the values are ready for what a step may add: the slot of what it pushes is out with the seat, with a value in it;
-  -- one step moves one value
+  -- none is, where it pops; one step moves one value
   abbrev pub IsReadyFor : (slots me : ℕ) (all : List Entry) (w : Beside T) (held : List (ℕ × Option T)) → Type 0
   IsReadyFor slots me [] w held = Unit {0}
   IsReadyFor slots me (Push n b ∷ []) w held = (n ≡ me) × ((x : T) × (held ≡ (b, Some x) ∷ []) × (w.hand ≡ some b) × (b < slots))
-  IsReadyFor slots me (Pop n t ∷ []) w held = n ≡ me
+  IsReadyFor slots me (Pop n t ∷ []) w held = (n ≡ me) × (w.hand ≡ none)
   IsReadyFor slots me (Shut n ∷ []) w held = n ≡ me
   IsReadyFor slots me (e ∷ f ∷ es) w held = ⊥
 
@@ -117,7 +119,7 @@ KnowsBy false z seen w = Unit {0}
 module _ {T : Type 0} where
   -- what is known of the queue, where nothing is known of values
   abbrev pub alone : View → Beside T
-  alone v = record { plain = v; deeds = []; hand = none; others = [] }
+  alone v = record { plain = v; deeds = []; hand = none; others = []; tries = [] }
 
   -- the first view deals number 1 first
   abbrev pub first_beside : Layout → Beside T
@@ -125,7 +127,7 @@ module _ {T : Type 0} where
 
   -- a view that goes on with the same values
   abbrev pub onward : (View → View) → Beside T → Beside T
-  onward f w = record { plain = f w.plain; deeds = w.deeds; hand = w.hand; others = w.others }
+  onward f w = record { plain = f w.plain; deeds = w.deeds; hand = w.hand; others = w.others; tries = w.tries }
 
   -- the ring's own token once it dealt a seat
   abbrev pub left_dealt : Beside T → Beside T
@@ -145,7 +147,7 @@ module _ {T : Type 0} where
 
   -- two seats become one; one that gathers takes in a seat that is closed
   abbrev pub both_beside : Beside T → Beside T → Beside T
-  both_beside a b = record { plain = both_of a.plain b.plain; deeds = a.deeds; hand = a.hand; others = b.deeds ∷ a.others }
+  both_beside a b = record { plain = both_of a.plain b.plain; deeds = a.deeds; hand = a.hand; others = b.deeds ∷ a.others; tries = a.tries }
 
   -- the first of two seats that were one
   abbrev pub first_beside_of : Beside T → Beside T
@@ -153,7 +155,7 @@ module _ {T : Type 0} where
 
   -- the second of them
   abbrev pub second_beside_of : Beside T → Beside T
-  second_beside_of w = record { plain = second_of w.plain; deeds = w.deeds; hand = none; others = [] }
+  second_beside_of w = record { plain = second_of w.plain; deeds = w.deeds; hand = none; others = []; tries = [] }
 
   -- what became of the slots and of the values by a step, by whether values are carried: where none are, no slot moves, and nothing
   -- is seen of values
@@ -201,7 +203,11 @@ module _ {T : Type 0} where
 
   -- a view that goes on, but with this slot out with its seat
   abbrev pub with_hand : Beside T → maybe.Option ℕ → Beside T
-  with_hand w h = record { plain = w.plain; deeds = w.deeds; hand = h; others = w.others }
+  with_hand w h = record { plain = w.plain; deeds = w.deeds; hand = h; others = w.others; tries = w.tries }
+
+  -- the same, after a try at a slot
+  abbrev pub with_try : Beside T → maybe.Option ℕ → (slot found : ℕ) → Beside T
+  with_try w h slot found = record { plain = w.plain; deeds = w.deeds; hand = h; others = w.others; tries = w.tries ++ record { slot = slot; found = found } ∷ [] }
 
   -- a new token gathers, and has taken in none
   abbrev pub OpensBeside : Me (Option T) (Beside T) → Type 0

@@ -1,6 +1,6 @@
 -- The slot that is out with a seat of a ring that carries values, what a push needs there and what a push and a pop do with it, and
 -- what a seat knows of the history of values.
-use Rattle.std.specs.Prelude.{◌≡◌, ◌≢◌, ℕ, zero, suc, ◌+◌, ◌%◌, ◌<◌, true, List, [], ◌∷◌, ◌++◌, Option, Some, None}
+use Rattle.std.specs.Prelude.{◌≡◌, ◌≢◌, ℕ, zero, suc, ◌+◌, ◌%◌, ◌<◌, true, List, [], ◌∷◌, ◌++◌, length, Option, Some, None}
 use mathlib.Core.Option.{some}
 use lib.ListN.{get_elem?}
 use Rattle.atomic_table.specs.Table.{State}
@@ -12,6 +12,7 @@ use Rattle.ring_queue.specs.declared.pops.Turn.TheVariants.{Took, Empty, Closed,
 use Rattle.ring_queue.specs.declared.seats.Seat.{Seat}
 use Rattle.ring_queue.specs.Plans.{Layout, words_of}
 use Rattle.ring_queue.specs.Beside.{Beside, HoldsBy, StoodFirst}
+use Rattle.ring_queue.specs.Paths.{Try}
 use Rattle.ring_queue.specs.Seats.{HasNoSlot, KeepsSlots, deeds_of, view}
 
 -- one slot of a ring is out with a seat, with this in it
@@ -30,22 +31,55 @@ pub record KeepsKnown {T : Type 0} (s t : Seat T) : Type 0 where
   pub number : t.number ≡ s.number
   pub role : t.role ≡ s.role
   pub head : t.head ≡ s.head
-  pub reserve : t.credits ≡ s.credits
+  pub tail : t.tail ≡ s.tail
   pub view : view t ≡ view s
   pub deeds : deeds_of t ≡ deeds_of s
+
+-- a seat's tries at slots
+abbrev pub tries_of : {T : Type 0} → Seat T → List Try
+tries_of s = s.token.me.0.tries
+
+-- these were tried, from a slot on, one slot after another, and each had its flag up
+abbrev pub WereUp : Layout → (slot : ℕ) → List Try → Type 0
+WereUp z slot [] = Unit {0}
+WereUp z slot (x ∷ xs) = (x.slot ≡ slot) × (x.found ≢ 0) × WereUp z ((slot + 1) % z.slots) xs
+
+-- a seat went on by so many tries that missed, from a slot on, and then by these
+pub record HasTried {T : Type 0} (z : Layout) (s t : Seat T) (first tries : ℕ) (last : List Try) : Type 0 where
+  pub missed : List Try
+  pub count : length missed ≡ tries
+  pub tried : tries_of t ≡ tries_of s ++ (missed ++ last)
+  pub up : WereUp z first missed
+
+-- the same, from the slot on at which it begins to look
+abbrev pub TriedSome : {T : Type 0} → Layout → (s t : Seat T) → (tries : ℕ) → (last : List Try) → Type 0
+TriedSome z s t tries last = HasTried z s t (s.near % z.slots) tries last
+
+-- a try that found a flag down
+abbrev pub hitting : (slot : ℕ) → List Try
+hitting slot = record { slot = slot; found = 0 } ∷ []
+
+-- a seat made such a try
+abbrev pub GotAt : {T : Type 0} → (s t : Seat T) → (slot : ℕ) → Type 0
+GotAt s t slot = tries_of t ≡ tries_of s ++ hitting slot
 
 -- in some state of the table by its rule, in which a seat knew this, the flag of a slot was up
 pub record WasTaken {T : Type 0} (z : Layout) (w : Beside T) (slot : ℕ) : Type 0 where
   pub state : State (Option T) (Beside T)
   pub holds : HoldsBy z state
   pub id : ℕ
-  pub seat : get_elem? state.views id ≡ some w
+  pub its : Beside T
+  pub seat : get_elem? state.views id ≡ some its
+  pub same : its.plain ≡ w.plain
   pub up : flag_at (words_of z) state.words slot ≢ 0
 
--- a seat missed a slot: its flag was up, and the seat has none and knows the same
+-- a seat missed a slot: its flag was up at its try, and the seat has none and knows the same
 pub record IsMissed {T : Type 0} (z : Layout) (s t : Seat T) (slot : ℕ) : Type 0 where
   pub none : HasNoSlot t
-  pub same : t.token.me.0 ≡ s.token.me.0
+  pub same : t.token.me.0.plain ≡ s.token.me.0.plain
+  pub found : ℕ
+  pub up : found ≢ 0
+  pub tried : tries_of t ≡ tries_of s ++ record { slot = slot; found = found } ∷ []
   pub taken : ∥ WasTaken z s.token.me.0 slot ∥₁
 
 -- so many slots, from one on, each had its flag up when it was tried
@@ -53,9 +87,9 @@ abbrev pub AllTaken : {T : Type 0} → Layout → Beside T → (slot tries : ℕ
 AllTaken z w slot zero = Unit {0}
 AllTaken z w slot (suc tries) = ∥ WasTaken z w slot ∥₁ × AllTaken z w ((slot + 1) % z.slots) tries
 
--- so many tries of a seat failed, from some slot on, each at a slot that was taken
+-- so many tries of a seat failed, from the slot on at which it begins to look, each at a slot that was taken
 abbrev pub FailedTries : {T : Type 0} → Layout → Seat T → (tries : ℕ) → Type 0
-FailedTries z s tries = (first : ℕ) × AllTaken z s.token.me.0 first tries
+FailedTries z s tries = AllTaken z s.token.me.0 (s.near % z.slots) tries
 
 -- where a ring carries values, the slot of a body is out with a seat, with a value in it
 abbrev pub IsLoaded : {T : Type 0} → Layout → (body : ℕ) → Seat T → Type 0

@@ -3,31 +3,34 @@ use Rattle.std.specs.Prelude.{ℕ, ◌+◌, List, [], ◌∷◌, ◌++◌, Optio
 use Rattle.history.specs.declared.operations.Entry.{Entry}
 use Rattle.history.specs.declared.operations.Taken.{Taken}
 use Rattle.history.specs.Seats.{Known}
+use Rattle.ring_queue.specs.Paths.{Event}
 
--- where a seat stands: at rest; with Tail read, so many places, where the queue wasn't shut; with a place claimed, which it
--- will fill with the first of these, and those behind it with the others; or with the words found at the places from its head
--- on, each of its lap's parity
+-- where a seat stands: at rest; with a place claimed, which it will fill with the first of these, and those behind it with the
+-- others; with the words found at the places from its head on, each of its lap's parity; with its place found not filled; or with
+-- Head to be read, since that place was claimed
 pub data Stage : Type 0 where
   rests : Stage
-  saw : ℕ → Stage
   claimed : ℕ → List (Option Taken) → Stage
   found : List ℕ → Stage
+  unfilled : Stage
+  head_due : Stage
 
 -- where a seat stands that has places from one on to fill with these, or none
 abbrev pub standing : ℕ → List (Option Taken) → Stage
 standing p [] = rests
 standing p (x ∷ xs) = claimed p (x ∷ xs)
 
--- what a seat knows: its number, where it stands, a number that Head isn't below, how many places it has in reserve, a prefix
--- of the history, its own entries, and its notes
+-- what a seat knows: its number, where it stands, numbers that Head and Tail aren't below, a prefix of the history, its own
+-- entries, its notes, and its path
 pub record SeatView : Type 0 where
   pub number : ℕ
   pub stage : Stage
   pub head : ℕ
-  pub credits : ℕ
+  pub tail : ℕ
   pub seen : List Entry
   pub mine : List Entry
   pub notes : List ℕ
+  pub path : List Event
 
 -- what a seat knows of its queue
 abbrev pub known_by : SeatView → Known
@@ -50,9 +53,9 @@ members (seated v) = v ∷ []
 members (paired v w) = v ∷ w ∷ []
 members spent = []
 
--- what a seat knows that was just dealt: its head is the first place
+-- what a seat knows that was just dealt: its head and its tail are the first place
 abbrev pub new_seat : (slots n : ℕ) → SeatView
-new_seat slots n = record { number = n; stage = rests; head = slots; credits = 0; seen = []; mine = []; notes = [] }
+new_seat slots n = record { number = n; stage = rests; head = slots; tail = slots; seen = []; mine = []; notes = []; path = [] }
 
 -- what the first seat of a view knows
 abbrev pub knows : View → SeatView

@@ -1,6 +1,8 @@
 pub mod Words
 pub mod Plans
+pub mod Paths
 pub mod Knowledge
+pub mod Rows
 pub mod Rule
 pub mod Steps
 pub mod Seats
@@ -10,9 +12,10 @@ pub mod Lengths
 pub mod Causes
 pub mod Meets
 pub mod NewRings
-pub mod Machine
 pub mod Moments
+pub mod Shares
 pub mod Many
+pub mod Pushes
 pub mod Batches
 pub mod Remains
 pub mod Ends

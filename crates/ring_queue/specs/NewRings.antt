@@ -1,5 +1,5 @@
 -- What a new ring is, and why it is refused.
-use Rattle.std.specs.Prelude.{◌≡◌, ◌⊎◌, ℕ, ◌+◌, ◌*◌, ◌^◌, ◌<◌, ◌≤◌, Bool, false, List, [], length, Option, Some, slice_get, slice_index_or}
+use Rattle.std.specs.Prelude.{◌≡◌, ◌⊎◌, ℕ, ◌+◌, ◌*◌, ◌^◌, ◌<◌, ◌≤◌, Bool, false, if◌then◌else◌, List, [], length, Option, Some, slice_get, slice_index_or}
 use Rattle.atomic_table.specs.Seated.{TableId}
 use Rattle.atomic_table.specs.declared.shared.Seat.{Seat as Token}
 use Rattle.history.specs.declared.refusals.Refusal.{Refusal}
@@ -28,12 +28,14 @@ pub record IsKeeper {T : Type 0} (z : Layout) (t : TableId) (k : Token (Option T
   pub seat : k.me.0.plain ≡ keeper z.slots n
   pub held : k.me.1 ≡ []
 
--- a seat that was just dealt: it is in no call, and knows nothing, of values neither; no slot is out with it
+-- a seat that was just dealt: it is in no call, and knows nothing, of values neither; no slot is out with it, and it begins to look for one
+-- apart from the others
 pub record IsDealt {T : Type 0} (z : Layout) (t : TableId) (n : ℕ) (s : Seat T) : Type 0 where
   pub ready : IsReady z t s
   pub view : view s ≡ new_seat z.slots n
   pub none_done : deeds_of s ≡ []
   pub none_out : HasNoSlot s
+  pub near : s.near ≡ 64 * n
 
 -- seats that were just dealt, numbered from 1
 abbrev pub AreDealt : {T : Type 0} → Layout → TableId → List (Seat T) → Type 0
@@ -51,56 +53,55 @@ pub record IsNewSeat {T : Type 0} (q : RingQueue T) (n : ℕ) (s : Seat T) : Typ
   pub ready : IsNumberSeat q s
   pub view : view s ≡ new_seat q.plan.slots n
 
--- how many slots a ring has for such sizes: the fewest in which the values and all reserves fit, by powers of two
-abbrev pub HasSlots : (most credits : ℕ) → List Role → (slots : ℕ) → Type 0
-HasSlots most credits roles slots = IsLeastPower (most + credits * length roles) slots
+-- for how many slots a ring asks: one for each value that it has room for, and where it carries values one more for each seat, which
+-- has it in hand while it calls
+abbrev pub slots_for : (carries : Bool) → (most : ℕ) → List Role → ℕ
+slots_for carries most roles = if carries then most + length roles else most
+
+-- how many slots a ring has for such sizes: by powers of two the fewest that it asks for
+abbrev pub HasSlots : (carries : Bool) → (most : ℕ) → List Role → (slots : ℕ) → Type 0
+HasSlots carries most roles slots = IsLeastPower (slots_for carries most roles) slots
 
 -- a new ring of these sizes, with a new seat for each role, numbered from 1
-pub record IsMade {T : Type 0} (most credits limit : ℕ) (roles : List Role) (q : RingQueue T) (seats : List (Seat T)) : Type 0 where
+pub record IsMade {T : Type 0} (most limit : ℕ) (roles : List Role) (q : RingQueue T) (seats : List (Seat T)) : Type 0 where
   pub full_at : q.plan.most ≡ most
-  pub reserves : q.plan.credits ≡ credits
   pub goes_to : q.plan.limit ≡ limit
   pub deals : q.plan.roles ≡ roles
   pub numbers : q.plan.carries ≡ false
-  pub slots : HasSlots most credits roles q.plan.slots
+  pub slots : HasSlots false most roles q.plan.slots
   pub count : length seats ≡ length roles
   pub each : (k : ℕ) (s : Seat T) → slice_get seats k ≡ Some s → IsNewSeat q (k + 1) s
 
 -- a new ring of these sizes, which carries values or doesn't, with a new seat for each role, numbered from 1
-pub record IsMadeFor {T : Type 0} (carries : Bool) (most credits limit : ℕ) (roles : List Role) (q : RingQueue T) (seats : List (Seat T)) : Type 0 where
+pub record IsMadeFor {T : Type 0} (carries : Bool) (most limit : ℕ) (roles : List Role) (q : RingQueue T) (seats : List (Seat T)) : Type 0 where
   pub full_at : q.plan.most ≡ most
-  pub reserves : q.plan.credits ≡ credits
   pub goes_to : q.plan.limit ≡ limit
   pub deals : q.plan.roles ≡ roles
   pub values : q.plan.carries ≡ carries
-  pub slots : HasSlots most credits roles q.plan.slots
+  pub slots : HasSlots carries most roles q.plan.slots
   pub count : length seats ≡ length roles
   pub each : AreDealt q.plan q.table.shared.table_id seats
 
 -- the sizes of a ring are in their ranges
-pub record IsSized (most credits limit : ℕ) (roles : List Role) : Type 0 where
+pub record IsSized (carries : Bool) (most limit : ℕ) (roles : List Role) : Type 0 where
   pub some_values : 1 ≤ most
-  pub some_credits : 1 ≤ credits
   pub some_roles : 1 ≤ length roles
   pub few_roles : length roles < 2 ^ 15
   pub slots : ℕ
-  pub has_slots : HasSlots most credits roles slots
+  pub has_slots : HasSlots carries most roles slots
   pub above : slots ≤ limit
   pub limited : limit < 2 ^ 62
 
 -- a count is out of its range
-abbrev pub IsMiscounted : (most credits : ℕ) → List Role → Type 0
-IsMiscounted most credits roles =
-    (most ≡ 0) ⊎ (credits ≡ 0) ⊎ (length roles ≡ 0) ⊎ (2 ^ 15 ≤ length roles)
+abbrev pub IsMiscounted : (most : ℕ) → List Role → Type 0
+IsMiscounted most roles = (most ≡ 0) ⊎ (length roles ≡ 0) ⊎ (2 ^ 15 ≤ length roles)
 
 -- the limit is out of its range
-abbrev pub IsMislimited : (most credits limit : ℕ) → List Role → Type 0
-IsMislimited most credits limit roles =
-    ((slots : ℕ) × HasSlots most credits roles slots × (limit < slots)) ⊎ (2 ^ 62 ≤ limit)
+abbrev pub IsMislimited : (carries : Bool) → (most limit : ℕ) → List Role → Type 0
+IsMislimited carries most limit roles = ((slots : ℕ) × HasSlots carries most roles slots × (limit < slots)) ⊎ (2 ^ 62 ≤ limit)
 
 -- a new ring is refused for this cause: a size is out of its range, or memory was refused where all are in theirs
-abbrev pub RingRefused : (most credits limit : ℕ) → List Role → Refusal → Type 0
-RingRefused most credits limit roles BadSize =
-    IsMiscounted most credits roles ⊎ IsMislimited most credits limit roles
-RingRefused most credits limit roles Memory = IsSized most credits limit roles
-RingRefused most credits limit roles _ = ⊥
+abbrev pub RingRefused : (carries : Bool) → (most limit : ℕ) → List Role → Refusal → Type 0
+RingRefused carries most limit roles BadSize = IsMiscounted most roles ⊎ IsMislimited carries most limit roles
+RingRefused carries most limit roles Memory = IsSized carries most limit roles
+RingRefused carries most limit roles _ = ⊥

@@ -12,7 +12,8 @@ use Rattle.ring_queue.specs.declared.roles.Role.{Role}
 use Rattle.ring_queue.specs.declared.queue.RingQueue.{RingQueue}
 use Rattle.ring_queue.specs.declared.seats.Seat.{Seat}
 use Rattle.ring_queue.specs.Plans.{Layout}
-use Rattle.ring_queue.specs.Knowledge.{Stage, rests, saw, claimed, found, SeatView, View}
+use Rattle.ring_queue.specs.Knowledge.{Stage, rests, claimed, found, unfilled, head_due, SeatView, View}
+use Rattle.ring_queue.specs.Paths.{Line, Event}
 use Rattle.ring_queue.specs.Steps.{Rests}
 use Rattle.ring_queue.specs.Seats.{Sits, IsReady}
 use Rattle.ring_queue.specs.Queues.{IsNumberSeat}
@@ -26,17 +27,24 @@ TableId-set = Coded-set table_id_coded
 Stage-set : IsSet Stage
 Stage-set = hlevel (props, Coded-set {A = Taken} taken.the_row.coded)
 
+Line-set : IsSet Line
+Line-set = hlevel props
+
+Event-set : IsSet Event
+Event-set = hlevel (props, Line-set, Coded-set {A = Entry} entry.the_row.coded)
+
 SeatView-set : IsSet SeatView
-SeatView-set = hlevel (props, Stage-set, Coded-set {A = Entry} entry.the_row.coded)
+SeatView-set = hlevel (props, Stage-set, Event-set, Coded-set {A = Entry} entry.the_row.coded)
 
 View-set : IsSet View
 View-set = hlevel (props, SeatView-set)
 
 Rests-prop : (st : Stage) → IsProp (Rests st)
 Rests-prop rests = hlevel props
-Rests-prop (saw t) = hlevel props
 Rests-prop (claimed p xs) = hlevel props
 Rests-prop (found ws) = hlevel props
+Rests-prop unfilled = hlevel props
+Rests-prop head_due = hlevel props
 
 Sits-prop : {T : Type 0} (z : Layout) (t : TableId) (s : Seat T) → IsProp (Sits z t s)
 Sits-prop z t s = hlevel (props, TableId-set, View-set, Role-set, IsSound-prop)

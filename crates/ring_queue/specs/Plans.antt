@@ -25,13 +25,11 @@ permit_of r = record { pushes = may_push r; pops = may_pop r }
 abbrev pub permits_by : List Role → List Permit
 permits_by roles = map permit_of roles
 
--- the plan of a ring: how many slots it has, how many values make it full, how many places a seat may have in reserve, up to
--- which place it goes, the role of each seat, from number 1 on, and whether it carries values: each number pushed is then that of
--- the slot in which its value lies
+-- the plan of a ring: how many slots it has, how many values it has room for, up to which place it goes, the role of each seat,
+-- from number 1 on, and whether it carries values: each number pushed is then that of the slot in which its value lies
 pub record Layout : Type 0 where
   pub slots : ℕ
   pub most : ℕ
-  pub credits : ℕ
   pub limit : ℕ
   pub roles : List Role
   pub carries : Bool
@@ -40,16 +38,11 @@ pub record Layout : Type 0 where
 abbrev pub permits_of : Layout → List Permit
 permits_of z = permits_by z.roles
 
--- how many places all seats may have in reserve
-abbrev pub reserve : Layout → ℕ
-reserve z = z.credits * length z.roles
-
 -- a plan's sizes are in their ranges
 pub record IsPlanned (z : Layout) : Type 0 where
   pub power : ∥ ((bits : ℕ) × (z.slots ≡ 2 ^ bits)) ∥₁
   pub some : 1 ≤ z.most
-  pub given : 1 ≤ z.credits
-  pub room : z.most + reserve z ≤ z.slots
+  pub room : z.most ≤ z.slots
   pub from : z.slots ≤ z.limit
   pub limited : z.limit < 2 ^ 62
   pub seated : 1 ≤ length z.roles

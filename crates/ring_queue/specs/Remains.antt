@@ -1,5 +1,5 @@
 -- What is left in a ring, by the words of its table.
-use Rattle.std.specs.Prelude.{ℕ, zero, suc, ◌+◌, ◌*◌, ◌%◌, ◌^◌, ◌≤◌, Bool, if◌then◌else◌, nat_eq, nat_le, List, [], ◌∷◌, length, slice_index_or}
+use Rattle.std.specs.Prelude.{ℕ, zero, suc, ◌+◌, ◌*◌, ◌%◌, ◌^◌, ◌≤◌, Bool, nat_le, List, [], ◌∷◌, length, slice_index_or}
 use Rattle.history.specs.declared.operations.Taken.{Taken}
 use Rattle.ring_queue.specs.Words.{slot_word}
 use Rattle.ring_queue.specs.Steps.{taken_in}
@@ -8,11 +8,10 @@ use Rattle.ring_queue.specs.Steps.{taken_in}
 abbrev pub word_of : (slots : ℕ) → List ℕ → (place : ℕ) → ℕ
 word_of slots words place = slice_index_or words (slot_word (place % slots)) 0
 
--- the values of so many places from one on, up to the mark
+-- the values of so many places from one on
 abbrev pub values_from : (slots : ℕ) → List ℕ → (place count : ℕ) → List Taken
 values_from slots words place zero = []
-values_from slots words place (suc k) =
-    if nat_eq (word_of slots words place % 2 ^ 63) 0 then [] else taken_in (word_of slots words place) ∷ values_from slots words (place + 1) k
+values_from slots words place (suc k) = taken_in (word_of slots words place) ∷ values_from slots words (place + 1) k
 
 -- whether the queue was shut
 abbrev pub was_shut_in : List ℕ → Bool

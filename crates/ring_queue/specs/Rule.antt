@@ -1,5 +1,5 @@
 -- The rule of a ring: its words and its seats are those of a queue, which a history leads to.
-use Rattle.std.specs.Prelude.{◌≡◌, ℕ, zero, suc, ◌+◌, ◌-◌, ◌*◌, ◌%◌, ◌^◌, ◌<◌, ◌≤◌, Bool, false, if◌then◌else◌, nat_eq, List, [], ◌++◌, length, Option, Some, None, slice_get, slice_index_or}
+use Rattle.std.specs.Prelude.{◌≡◌, ℕ, ◌+◌, ◌-◌, ◌*◌, ◌%◌, ◌^◌, ◌<◌, ◌≤◌, Bool, if◌then◌else◌, nat_eq, List, [], ◌++◌, length, Option, Some, None, slice_get, slice_index_or}
 use Rattle.std.specs.List.{All, count_by}
 use mathlib.Core.Option.{some}
 use lib.ListN.{get_elem?}
@@ -8,9 +8,12 @@ use Rattle.history.specs.declared.operations.Entry.{Entry}
 use Rattle.history.specs.declared.operations.Taken.{Taken}
 use Rattle.history.specs.Entries.{own_entries, is_pop, Leads}
 use Rattle.history.specs.Seats.{IsPermitted, IsNoted}
+use Rattle.history.specs.Values.{pushed}
 use Rattle.ring_queue.specs.Words.{face, slot_word, tail_word}
-use Rattle.ring_queue.specs.Plans.{Layout, IsPlanned, reserve, permits_of}
-use Rattle.ring_queue.specs.Knowledge.{Stage, rests, saw, claimed, found, SeatView, View, keeper, gathered, members, new_seat}
+use Rattle.ring_queue.specs.Plans.{Layout, IsPlanned, permits_of}
+use Rattle.ring_queue.specs.Paths.{Step, left_by, AreFound, own_path, added_by}
+use Rattle.ring_queue.specs.Rows.{regs, first_regs, Walks}
+use Rattle.ring_queue.specs.Knowledge.{Stage, rests, claimed, found, unfilled, head_due, SeatView, View, keeper, gathered, members, new_seat}
 
 -- the last place of a slot that was claimed, and who will fill it, if it isn't filled
 pub record Cell : Type 0 where
@@ -48,50 +51,43 @@ HasClaimed st place x = ⊥
 abbrev pub IsFilled : (slots tail : ℕ) → Log → (ℕ → Cell) → (place word : ℕ) → Type 0
 IsFilled slots tail log cells place word = (place < tail) × (word ≡ face slots place (log place)) × (cells (place % slots) ≡ record { place = place; filler = None })
 
--- what a seat knows by where it stands, where so many places were claimed while the queue wasn't shut: the places that it
--- read in Tail are among those; each place that it claimed is its own to fill; and if its head is still Head, each word that it
--- found is that of its place, which is filled
-abbrev pub Stands : (slots head tail live : ℕ) → Log → (ℕ → Cell) → SeatView → Stage → Type 0
-Stands slots head tail live log cells v rests = Unit {0}
-Stands slots head tail live log cells v (saw t) = t ≤ live
-Stands slots head tail live log cells v (claimed p xs) = (place : ℕ) (x : Option Taken) → HasClaimed (claimed p xs) place x
+-- what a seat knows by where it stands: each place that it claimed is its own to fill; and if its head is still Head, each word that
+-- it found is that of its place, which is filled
+abbrev pub Stands : (slots head tail : ℕ) → Log → (ℕ → Cell) → SeatView → Stage → Type 0
+Stands slots head tail log cells v rests = Unit {0}
+Stands slots head tail log cells v unfilled = Unit {0}
+Stands slots head tail log cells v head_due = Unit {0}
+Stands slots head tail log cells v (claimed p xs) = (place : ℕ) (x : Option Taken) → HasClaimed (claimed p xs) place x
     → (cells (place % slots) ≡ record { place = place; filler = Some v.number }) × (log place ≡ x)
-Stands slots head tail live log cells v (found ws) = v.head ≡ head → (i w : ℕ) → slice_get ws i ≡ Some w → IsFilled slots tail log cells (head + i) w
+Stands slots head tail log cells v (found ws) = v.head ≡ head → (i w : ℕ) → slice_get ws i ≡ Some w → IsFilled slots tail log cells (head + i) w
 
--- a seat fits: its head isn't above Head, what it has seen is a prefix of the history, and its own entries are just those of
--- it, and just those that it has seen
-pub record SeatOk (z : Layout) (head tail live : ℕ) (log : Log) (cells : ℕ → Cell) (history : List Entry) (n : ℕ) (v : SeatView) : Type 0 where
+-- a seat fits: its head isn't above Head, nor its tail above Tail, what it has seen is a prefix of the history, and its own entries
+-- are just those of it, and just those that it has seen
+pub record SeatOk (z : Layout) (head tail : ℕ) (log : Log) (cells : ℕ → Cell) (history : List Entry) (n : ℕ) (v : SeatView) : Type 0 where
   pub number : v.number ≡ n
   pub behind : v.head ≤ head
-  pub few : v.credits ≤ z.credits
+  pub under : v.tail ≤ tail
   pub rest : List Entry
   pub begins : history ≡ v.seen ++ rest
   pub own : own_entries n history ≡ v.mine
   pub known : own_entries n v.seen ≡ v.mine
   pub noted : All (IsNoted v.seen) v.notes
-  pub stage : Stands z.slots head tail live log cells v v.stage
+  pub stage : Stands z.slots head tail log cells v v.stage
 
 -- who will fill a place is one of so many seats, and stands there with the place claimed
 abbrev pub FillerStands : (count : ℕ) → Log → (ℕ → SeatView) → (place : ℕ) → (filler : Option ℕ) → Type 0
 FillerStands count log seats place None = Unit {0}
 FillerStands count log seats place (Some n) = (1 ≤ n) × (n ≤ count) × HasClaimed (seats n).stage place (log place)
 
--- how many places the first seats have in reserve
-abbrev pub total : (count : ℕ) → (ℕ → SeatView) → ℕ
-total zero seats = 0
-total (suc k) seats = total k seats + (seats (suc k)).credits
-
 -- one of many changed
 abbrev pub put : {X : Type 0} → (ℕ → X) → ℕ → X → ℕ → X
 put f n x k = if nat_eq k n then x else f k
 
--- what the ring is: Head and Tail, how many places were claimed after the shut, the queue, the history that leads to it, what
--- each place is filled with, and the cells
+-- what the ring is: Head and Tail, the queue, the history that leads to it, what each place is filled with, and the cells
 pub record Ring (z : Layout) (words : List ℕ) (seats : ℕ → SeatView) : Type 0 where
   pub planned : IsPlanned z
   pub head : ℕ
   pub tail : ℕ
-  pub voids : ℕ
   pub shut : Bool
   pub values : List Taken
   pub history : List Entry
@@ -103,22 +99,41 @@ pub record Ring (z : Layout) (words : List ℕ) (seats : ℕ → SeatView) : Typ
   pub leads : Leads history shut values
   pub taken : head ≡ z.slots + count_by is_pop history
   pub permitted : All (IsPermitted (permits_of z)) history
-  pub counted : (head + length values) + voids ≡ tail
-  pub unshut : shut ≡ false → voids ≡ 0
-  pub spare : voids + total (length z.roles) seats ≤ reserve z
-  pub roomy : tail + total (length z.roles) seats ≤ (head + z.most) + reserve z
-  pub limited : tail + total (length z.roles) seats ≤ z.limit
+  pub counted : head + length values ≡ tail
+  pub roomy : tail ≤ head + z.most
+  pub limited : tail ≤ z.limit
   pub logged : (i : ℕ) (v : Taken) → slice_get values i ≡ Some v → log (head + i) ≡ Some v
-  pub marked : (p : ℕ) → head + length values ≤ p → p < tail → log p ≡ None
+  pub first_lap : (p : ℕ) → p < z.slots → log p ≡ None
+  pub in_order : (i : ℕ) → z.slots + i < tail → log (z.slots + i) ≡ slice_get (pushed history) i
   pub fits : (p : ℕ) → FitsWord (log p)
   pub each_cell : (i : ℕ) → i < z.slots → CellOk z.slots head tail log words i (cells i)
   pub filling : (i : ℕ) → i < z.slots → FillerStands (length z.roles) log seats (cells i).place (cells i).filler
-  pub each_seat : (n : ℕ) → SeatOk z head tail (head + length values) log cells history n (seats n)
+  pub each_seat : (n : ℕ) → SeatOk z head tail log cells history n (seats n)
+
+-- the words at the start: Tail and Head are at the end of the first lap, and each slot holds nothing
+pub record IsStart (z : Layout) (words : List ℕ) : Type 0 where
+  pub wide : length words ≡ 32 + 2 * z.slots
+  pub tail : slice_index_or words 0 0 ≡ z.slots
+  pub head : slice_index_or words 16 0 ≡ z.slots
+  pub blank : (i : ℕ) → i < z.slots → slice_index_or words (slot_word i) 0 ≡ 0
+
+-- accesses of seats, one after another, lead from the words at the start to these: each found what its word held then, each seat's
+-- path are just its own, each by its row, and the history is what took its effect with them
+pub record Run (z : Layout) (words : List ℕ) (seats : ℕ → SeatView) (history : List Entry) : Type 0 where
+  pub start : List ℕ
+  pub starts : IsStart z start
+  pub trace : List Step
+  pub leaves : words ≡ left_by start trace
+  pub found : AreFound start trace
+  pub paths : (n : ℕ) → (seats n).path ≡ own_path n trace
+  pub walks : (n : ℕ) → Walks z n (first_regs z.slots) (seats n).path (regs (seats n))
+  pub adds : history ≡ added_by trace
 
 -- the rule of the table: its words are a ring's, whose seats its views speak of, no two of one number
 pub record Holds (z : Layout) (s : State ℕ View) : Type 0 where
   pub seats : ℕ → SeatView
   pub ring : Ring z s.words seats
+  pub run : Run z s.words seats ring.history
   pub dealt : ℕ
   pub home : ℕ
   pub owner : ℕ → ℕ × ℕ

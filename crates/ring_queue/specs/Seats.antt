@@ -1,5 +1,5 @@
 -- What clauses say of a ring's seats.
-use Rattle.std.specs.Prelude.{◌≡◌, ℕ, ◌-◌, ◌^◌, ◌<◌, ◌≤◌, false, Some, slice_get, List}
+use Rattle.std.specs.Prelude.{◌≡◌, ◌-◌, ◌^◌, ◌<◌, ◌≤◌, false, Some, slice_get, List}
 use Rattle.atomic_table.specs.Seated.{TableId}
 use Rattle.history.specs.Seats.{Known, IsSound}
 use Rattle.ring_queue.specs.declared.roles.Role.{Role}
@@ -18,10 +18,6 @@ view s = knows s.token.me.0.plain
 abbrev pub known_of : {T : Type 0} → Seat T → Known
 known_of s = known_by (view s)
 
--- how many places a seat has in reserve
-abbrev pub reserve_of : {T : Type 0} → Seat T → ℕ
-reserve_of s = s.credits
-
 -- what a seat may do
 abbrev pub role_of : {T : Type 0} → Seat T → Role
 role_of s = s.role
@@ -34,8 +30,7 @@ deeds_of s = s.token.me.0.deeds
 abbrev pub HasNoSlot : {T : Type 0} → Seat T → Type 0
 HasNoSlot s = HasNone s.token.me
 
--- a seat of a table: it has its number and its role, stores its head and how many places it has in reserve, and what it knows
--- is sound, of values too; which values isn't said, so that this has at most one proof. Where no values are carried no slot is
+-- a seat of a table: it has its number and its role, stores its head and its tail, and what it knows is sound, of values too; which values isn't said, so that this has at most one proof. Where no values are carried no slot is
 -- out with it
 pub record Sits {T : Type 0} (z : Layout) (t : TableId) (s : Seat T) : Type 0 where
   pub table : s.token.table_id ≡ t
@@ -46,7 +41,8 @@ pub record Sits {T : Type 0} (z : Layout) (t : TableId) (s : Seat T) : Type 0 wh
   pub role : slice_get z.roles (s.number - 1) ≡ Some s.role
   pub head : s.head ≡ (view s).head
   pub below : s.head < 2 ^ 62
-  pub credits : s.credits ≡ (view s).credits
+  pub tail : s.tail ≡ (view s).tail
+  pub tail_below : s.tail < 2 ^ 62
   pub sound : IsSound (permits_of z) (known_of s)
   pub valued : ∥ KnowsNow z.carries z s.token.me.0 ∥₁
 
@@ -54,12 +50,6 @@ pub record Sits {T : Type 0} (z : Layout) (t : TableId) (s : Seat T) : Type 0 wh
 pub record IsReady {T : Type 0} (z : Layout) (t : TableId) (s : Seat T) : Type 0 where
   pub sits : Sits z t s
   pub rests : Rests (view s).stage
-
--- a seat stays the same one, with as many places in reserve
-pub record KeepsStored {T : Type 0} (s t : Seat T) : Type 0 where
-  pub number : t.number ≡ s.number
-  pub role : t.role ≡ s.role
-  pub reserve : reserve_of t ≡ reserve_of s
 
 -- a seat is the same one by its number and its role
 pub record KeepsName {T : Type 0} (s t : Seat T) : Type 0 where

@@ -5,13 +5,13 @@ ghost use Rattle.history.specs.Answers.{PopRefused, StopsPop};
 ghost use Rattle.ring_queue.specs.Plans.{permits_of};
 ghost use Rattle.ring_queue.specs.Seats.{IsReady, KeepsName, known_of, view};
 ghost use Rattle.ring_queue.specs.Knowledge.{found};
-ghost use Rattle.ring_queue.specs.Steps.{AreValues};
 ghost use Rattle.ring_queue.specs.Causes.{PopCaused};
 ghost use Rattle.ring_queue.specs.Queues.{IsNumberSeat, permits_in};
 ghost use Rattle.ring_queue.specs.Many.{TakenAll};
-ghost use Rattle.ring_queue.specs.Batches.{PopsSome, BatchSays, GoesOn};
+ghost use Rattle.ring_queue.specs.Batches.{PopsSome, BatchSays, BatchTried, GoesOn};
+ghost use Rattle.ring_queue.specs.Turns.{Tried};
 
-use crate::acts::{PARITY, taken_of};
+use crate::acts::taken_of;
 use crate::looks::EndLook;
 use crate::queue::RingQueue;
 use crate::seats::Seat;
@@ -39,7 +39,6 @@ impl<T> RingQueue<T> {
         requires ready { IsReady self.now.plan self.now.table.shared.table_id seat.old }
         requires role { MayPop (permits_of self.now.plan) (known_of seat.old).number }
         requires found { (view seat.old).stage ≡ found words.now }
-        requires values { AreValues words.now }
         requires some { 1 ≤ length words.now }
         requires few { length words.now ≤ 32 }
         requires room { vec_len into.old + length words.now ≤ vec_capacity into.old }
@@ -47,6 +46,7 @@ impl<T> RingQueue<T> {
         ensures seat { IsReady self.now.plan self.now.table.shared.table_id seat.new }
         ensures name { KeepsName seat.old seat.new }
         ensures taken { TakenAll seat.old seat.new into.old into.new words.now result }
+        ensures tried { result ≡ false → Tried seat.old seat.new 1 }
     {
         let head = seat.head;
         if self.raise_head(seat, words, words.len() as u64) != head {
@@ -62,11 +62,11 @@ impl<T> RingQueue<T> {
     fn look_on(&self, seat: &mut Seat<T>, words: &mut [u64; MOST_AT_ONCE], limit: usize) -> usize
         requires ready { IsReady self.now.plan self.now.table.shared.table_id seat.old }
         requires found { (view seat.old).stage ≡ found (take 1 words.old) }
-        requires value { AreValues (take 1 words.old) }
         requires limit { (1 ≤ limit) × (limit ≤ 32) × (limit ≤ self.now.plan.slots) }
         ensures seat { IsReady self.now.plan self.now.table.shared.table_id seat.new }
         ensures name { KeepsName seat.old seat.new }
         ensures on { GoesOn seat.old seat.new words.new limit result }
+        ensures tried { Tried seat.old seat.new 0 }
     {
         let mut count = 1;
         while count < limit {
@@ -89,6 +89,7 @@ impl<T> RingQueue<T> {
         ensures seat { IsReady self.now.plan self.now.table.shared.table_id seat.new }
         ensures name { KeepsName seat.old seat.new }
         ensures says { BatchSays self.now.plan seat.old seat.new most into.old into.new result }
+        ensures tried { BatchTried seat.old seat.new result }
     {
         let Some(word) = self.look_twice_at_front(seat) else {
             return match self.look_at_end(seat) {
@@ -100,13 +101,6 @@ impl<T> RingQueue<T> {
                 }
             };
         };
-        if word % PARITY == 0 {
-            return if self.finds_closed(seat, word) {
-                Batch::Closed
-            } else {
-                Batch::Failed
-            };
-        }
         let mut words = [0; MOST_AT_ONCE];
         words[0] = word;
         let limit = most.min(MOST_AT_ONCE).min(self.sizes().slots as usize);

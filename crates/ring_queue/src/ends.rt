@@ -26,7 +26,7 @@ fn gather<T>(table: &WordTable<T>, gatherer: &mut SeatToken<T>, seats: Vec<Seat<
             number: _,
             role: _,
             head: _,
-            credits: _,
+            tail: _,
             near: _,
         } = seat;
         let shared = &table.shared;

@@ -25,11 +25,11 @@ impl Fifo for RingQueue {
     ghost known = { known_of };
 
     //= ring/causes (push_cause, pop_cause, shut_cause): A push or a shut is refused `Closed` only where what its seat has seen
-    //=   by the end of the call leaves the ring shut, a pop only where that leaves it empty too. A shut, and a push with a
-    //=   place in reserve, are refused so alone. Another push has cause for `NoNode` where that leaves the ring full, for
-    //=   `WornOut` where it leaves fewer places up to the limit than all seats may have in reserve, for `Busy` where Head, as
-    //=   its seat read it, rose by `turns` or more in the call. A pop is `Busy` where Head rose so, or where, after no less
-    //=   than its seat had seen before, a place from its head on had been claimed or the ring was shut.
+    //=   by the end of the call leaves the ring shut, a pop only where that leaves it empty too. A shut is refused so alone. A
+    //=   push has cause for `NoNode` where that leaves the ring full, for `WornOut` where it leaves no place up to the limit,
+    //=   and for `Busy` where Tail, as its seat read it, rose by more than `turns` since the seat's last look. A pop is `Busy`
+    //=   where Head rose by `turns` so, or where, after no less than its seat had seen before, a place from its head on had
+    //=   been claimed, and at some step wasn't filled.
     ghost push_cause = { push_causes };
 
     ghost pop_cause = { pop_causes };
@@ -42,10 +42,9 @@ impl Fifo for RingQueue {
 
     ghost seat_prop = { IsNumberSeat-prop };
 
-    /// Refusals: `NoNode` where at one step the queue held as many values as make it full, `WornOut` where at one step fewer
-    /// places were left than all seats may have in reserve, `Busy` where in each of so many turns another had popped, and
-    /// `Closed` where at one step the queue was shut. With a place in reserve the push ends in two steps, whatever others do.
-    /// Takes no memory and doesn't wait.
+    /// Refusals: `NoNode` where at one step the queue held as many values as make it full, `WornOut` where at one step no place
+    /// up to the limit was left, `Busy` where in each of so many turns others pushed meanwhile, and `Closed` where at one
+    /// step the queue was shut. Takes no memory and doesn't wait.
     fn try_push(&self, seat: &mut Seat, body: Body, turns: u32) -> Result<(), Refusal> {
         self.push_in(seat, body, turns)
     }

@@ -1,4 +1,4 @@
-//! A bounded queue on a ring of words, whose push claims its place by one fetch-and-add.
+//! A bounded queue on a ring of words, whose push claims its place by one exchange of Tail.
 #![tactic(auto)]
 
 mod acts;
@@ -13,6 +13,7 @@ mod new_seats;
 mod places;
 mod plans;
 mod pops;
+mod push_batches;
 mod pushes;
 mod queue;
 mod remains;

@@ -1,28 +1,26 @@
 //! The lines that read.
-ghost use Rattle.std.specs.Prelude.{◌≡◌, ℕ, ◌<◌, List, [], ◌∷◌, length, ◌+◌, ◌%◌, ◌^◌, ◌≤◌, IfSome, IsNone};
+ghost use Rattle.std.specs.Prelude.{◌≡◌, ℕ, ◌<◌, List, [], ◌∷◌, length, ◌%◌, ◌^◌, ◌≤◌, IfSome, IsNone};
 ghost use Rattle.history.specs.Answers.{SeesMore};
-ghost use Rattle.ring_queue.specs.Knowledge.{saw, found};
-ghost use Rattle.ring_queue.specs.Steps.{HoldsSoMany, WasLate};
+ghost use Rattle.ring_queue.specs.Knowledge.{rests, found, unfilled, head_due};
+ghost use Rattle.ring_queue.specs.Steps.{HoldsSoMany, LeadsToSome, WasLate};
 ghost use Rattle.ring_queue.specs.Lengths.{HeadCounts};
-ghost use Rattle.ring_queue.specs.Seats.{IsReady, KeepsName, KeepsSlots, known_of, reserve_of, view};
-ghost use Rattle.ring_queue.specs.Looks.{NextSays, TailSays, HeadSays, MarkSays, EndSays};
+ghost use Rattle.ring_queue.specs.Seats.{IsReady, KeepsName, KeepsSlots, known_of, view};
+ghost use Rattle.ring_queue.specs.Turns.{Tried};
+ghost use Rattle.ring_queue.specs.Looks.{NextSays, TailSays, HeadSays, EndSays};
 
-use crate::acts::PARITY;
 use crate::places::{HEAD, SHUT, SLOTS, TAIL};
 use crate::queue::RingQueue;
 use crate::seats::Seat;
 use std::marker::Brand;
 
-/// What a push with no place in reserve finds in Tail.
+/// What a push finds in Tail.
 pub(crate) enum TailLook {
     /// The queue is shut.
     Shut,
-    /// All places that the seats might claim next might go beyond the limit.
+    /// No place up to the limit is left.
     Worn,
-    /// There is room: the seat has places in reserve again.
-    Room,
-    /// By the seat's head there is none, where so many places were claimed.
-    Full(u64),
+    /// A place is left.
+    Open,
 }
 
 /// What a pop that found its place not filled finds in Tail.
@@ -43,36 +41,36 @@ impl<T> RingQueue<T> {
         ensures slots { KeepsSlots seat.old seat.new }
         ensures name { KeepsName seat.old seat.new }
         ensures says { TailSays self.now.plan seat.old seat.new result }
+        ensures more { seat.old.tail ≤ seat.new.tail }
+        ensures tried { Tried seat.old seat.new 0 }
     {
-        let plan = self.sizes();
-        let reserve = self.all_reserves();
+        let limit = self.sizes().limit;
         let tail = self.table.shared.load::<Brand>(&mut seat.token, TAIL);
+        seat.tail = tail % SHUT;
         if tail >= SHUT {
             TailLook::Shut
-        } else if tail + reserve > plan.limit {
+        } else if tail >= limit {
             TailLook::Worn
-        } else if tail < seat.head + plan.most {
-            seat.credits = plan.credits;
-            TailLook::Room
         } else {
-            TailLook::Full(tail)
+            TailLook::Open
         }
     }
 
-    /// A push that read so many places in Tail reads Head: whether the queue is full.
-    pub(crate) fn finds_full(&self, seat: &mut Seat<T>, tail: u64) -> bool
+    /// A push reads Head: whether by its seat's tail the queue is full.
+    pub(crate) fn finds_full(&self, seat: &mut Seat<T>) -> bool
         requires ready { IsReady self.now.plan self.now.table.shared.table_id seat.old }
-        requires saw { (view seat.old).stage ≡ saw tail }
-        requires behind { seat.old.head + self.now.plan.most ≤ tail }
+        requires stage { (view seat.old).stage ≡ rests }
         ensures seat { IsReady self.now.plan self.now.table.shared.table_id seat.new }
         ensures slots { KeepsSlots seat.old seat.new }
         ensures name { KeepsName seat.old seat.new }
         ensures says { HeadSays self.now.plan seat.old seat.new result }
+        ensures tail { seat.new.tail ≡ seat.old.tail }
+        ensures tried { Tried seat.old seat.new 0 }
     {
         let most = self.sizes().most;
         let head = self.table.shared.load::<Brand>(&mut seat.token, HEAD);
         seat.head = head;
-        most <= tail.saturating_sub(head)
+        most <= seat.tail.saturating_sub(head)
     }
 
     /// A seat that looks how many values there are reads Tail.
@@ -83,10 +81,12 @@ impl<T> RingQueue<T> {
         ensures name { KeepsName seat.old seat.new }
         ensures sees { SeesMore (known_of seat.old) (known_of seat.new) }
         ensures head { seat.new.head ≡ seat.old.head }
-        ensures reserve { reserve_of seat.new ≡ reserve_of seat.old }
+        ensures tail { seat.new.tail ≡ result % 2 ^ 62 }
         ensures holds { HoldsSoMany self.now.plan result (view seat.new).seen }
     {
-        self.table.shared.load::<Brand>(&mut seat.token, TAIL)
+        let tail = self.table.shared.load::<Brand>(&mut seat.token, TAIL);
+        seat.tail = tail % SHUT;
+        tail
     }
 
     /// A seat reads Head.
@@ -98,25 +98,11 @@ impl<T> RingQueue<T> {
         ensures sees { SeesMore (known_of seat.old) (known_of seat.new) }
         ensures more { seat.old.head ≤ seat.new.head }
         ensures counts { HeadCounts self.now.plan seat.new }
-        ensures reserve { reserve_of seat.new ≡ reserve_of seat.old }
+        ensures tail { seat.new.tail ≡ seat.old.tail }
+        ensures some { seat.new.head < seat.new.tail → LeadsToSome (view seat.new).seen }
+        ensures tried { (view seat.old).stage ≡ head_due → Tried seat.old seat.new 1 }
     {
         seat.head = self.table.shared.load::<Brand>(&mut seat.token, HEAD);
-    }
-
-    /// A pop that found the mark at its place reads Head: whether the queue is shut and empty.
-    pub(crate) fn finds_closed(&self, seat: &mut Seat<T>, word: u64) -> bool
-        requires ready { IsReady self.now.plan self.now.table.shared.table_id seat.old }
-        requires found { (view seat.old).stage ≡ found (word ∷ []) }
-        requires mark { word % 2 ^ 63 ≡ 0 }
-        ensures seat { IsReady self.now.plan self.now.table.shared.table_id seat.new }
-        ensures slots { KeepsSlots seat.old seat.new }
-        ensures name { KeepsName seat.old seat.new }
-        ensures says { MarkSays seat.old seat.new result }
-    {
-        let head = self.table.shared.load::<Brand>(&mut seat.token, HEAD);
-        let closed = head == seat.head;
-        seat.head = head;
-        closed
     }
 
     /// A pop reads the word at its place, if this is filled.
@@ -127,9 +113,10 @@ impl<T> RingQueue<T> {
         ensures name { KeepsName seat.old seat.new }
         ensures sees { SeesMore (known_of seat.old) (known_of seat.new) }
         ensures head { seat.new.head ≡ seat.old.head }
-        ensures reserve { reserve_of seat.new ≡ reserve_of seat.old }
+        ensures tried { Tried seat.old seat.new 0 }
         ensures filled { IfSome result (λ word. (view seat.new).stage ≡ found (word ∷ [])) }
         ensures late { IsNone result → WasLate self.now.plan (view seat.new).seen seat.new.head }
+        ensures goes_on { IsNone result → (view seat.new).stage ≡ unfilled }
     {
         let slot = self.slot_of(seat.head);
         let word = self
@@ -143,7 +130,7 @@ impl<T> RingQueue<T> {
         }
     }
 
-    /// A pop that found these words, so many, at its places reads the next one, if this has a value.
+    /// A pop that found these words, so many, at its places reads the next one, if this place is filled.
     pub(crate) fn look_next(&self, seat: &mut Seat<T>, words: &[u64], count: u64) -> Option<u64>
         ghost before: { List ℕ }
         requires ready { IsReady self.now.plan self.now.table.shared.table_id seat.old }
@@ -156,6 +143,7 @@ impl<T> RingQueue<T> {
         ensures sees { SeesMore (known_of seat.old) (known_of seat.new) }
         ensures head { seat.new.head ≡ seat.old.head }
         ensures found { NextSays words.now (view seat.new).stage result }
+        ensures tried { Tried seat.old seat.new 0 }
     {
         let _ = words;
         let place = seat.head + count;
@@ -164,7 +152,7 @@ impl<T> RingQueue<T> {
             .table
             .shared
             .load::<Brand>(&mut seat.token, SLOTS + 2 * slot);
-        if word >> 63 == self.parity_of(place) && word % PARITY != 0 {
+        if word >> 63 == self.parity_of(place) {
             Some(word)
         } else {
             None
@@ -173,11 +161,13 @@ impl<T> RingQueue<T> {
 
     /// A pop that found its place not filled reads Tail.
     pub(crate) fn look_at_end(&self, seat: &mut Seat<T>) -> EndLook
-        requires { IsReady self.now.plan self.now.table.shared.table_id seat.old }
+        requires ready { IsReady self.now.plan self.now.table.shared.table_id seat.old }
+        requires due { (view seat.old).stage ≡ unfilled }
         ensures seat { IsReady self.now.plan self.now.table.shared.table_id seat.new }
         ensures slots { KeepsSlots seat.old seat.new }
         ensures name { KeepsName seat.old seat.new }
         ensures says { EndSays self.now.plan seat.old seat.new result }
+        ensures tried { Tried seat.old seat.new 0 }
     {
         let tail = self.table.shared.load::<Brand>(&mut seat.token, TAIL);
         if tail == seat.head {

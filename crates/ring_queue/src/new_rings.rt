@@ -1,11 +1,11 @@
 //! A new ring.
-ghost use Rattle.std.specs.Prelude.{◌≡◌, ◌≤◌, ◌^◌, true, length, map, IfOk, IfErr};
+ghost use Rattle.std.specs.Prelude.{◌≡◌, ◌<◌, ◌≤◌, ◌^◌, true, false, length, map, IfOk, IfErr};
 ghost use Rattle.std.specs.List.{All};
 ghost use Rattle.history.specs.Openings.{AreNew};
 ghost use Rattle.ring_queue.specs.Plans.{IsPlanned, permits_by, slots_of};
 ghost use Rattle.ring_queue.specs.Seats.{known_of};
 ghost use Rattle.ring_queue.specs.Queues.{IsNumberSeat, permits_in};
-ghost use Rattle.ring_queue.specs.NewRings.{AreFirst, AreDealt, IsLeastPower, IsMade, IsMadeFor, RingRefused};
+ghost use Rattle.ring_queue.specs.NewRings.{AreFirst, AreDealt, IsLeastPower, slots_for, IsMade, IsMadeFor, RingRefused};
 
 use crate::new_seats::deal_all;
 use crate::places::{HEAD, SHUT, TAIL};
@@ -33,7 +33,7 @@ fn words_at_start(alloc: Global, slots: u64, flags: u64) -> Result<Vec<u64>, All
 }
 
 // The least power of two that is no less than `room`.
-fn slots_for(room: u64) -> u64
+fn power_from(room: u64) -> u64
     requires some { 1 ≤ room }
     requires few { room ≤ 2 ^ 48 }
     ensures { IsLeastPower room result }
@@ -70,24 +70,36 @@ fn built<T>(alloc: Global, plan: Plan) -> Result<(RingQueue<T>, Vec<Seat<T>>), A
     Ok((RingQueue { table, plan }, seats))
 }
 
+// For how many slots a ring asks that carries values or doesn't.
+fn room_for(most: u32, roles: &[Role], carries: bool) -> u64
+    requires { length roles.now < 2 ^ 15 }
+    ensures value { result ≡ slots_for carries most roles.now }
+    ensures few { (most ≤ result) × (result ≤ 2 ^ 48) }
+{
+    let values = u64::from(most);
+    if carries {
+        values + roles.len() as u64
+    } else {
+        values
+    }
+}
+
 // A ring of these sizes, which carries values or doesn't, and its seats.
 fn made<T>(
     alloc: Global,
     most: u32,
-    credits: u32,
     limit: u64,
     roles: &[Role],
     carries: bool,
 ) -> Result<(RingQueue<T>, Vec<Seat<T>>), Refusal>
     ensures ok { IfOk result
-        (λ r. IsMadeFor carries most credits limit roles.now r.0 r.1.items) }
-    ensures refused { IfErr result (RingRefused most credits limit roles.now) }
+        (λ r. IsMadeFor carries most limit roles.now r.0 r.1.items) }
+    ensures refused { IfErr result (RingRefused carries most limit roles.now) }
 {
-    if most == 0 || credits == 0 || roles.is_empty() || roles.len() > MOST_SEATS {
+    if most == 0 || roles.is_empty() || roles.len() > MOST_SEATS {
         return Err(Refusal::BadSize);
     }
-    let room = u64::from(most) + u64::from(credits) * roles.len() as u64;
-    let slots = slots_for(room);
+    let slots = power_from(room_for(most, roles, carries));
     if limit < slots || limit >= SHUT {
         return Err(Refusal::BadSize);
     }
@@ -97,7 +109,6 @@ fn made<T>(
     let plan = Plan {
         slots,
         most: u64::from(most),
-        credits: u64::from(credits),
         limit,
         roles,
         carries,
@@ -109,49 +120,47 @@ fn made<T>(
 }
 
 impl RingQueue {
-    /// A ring that `most` values make full, with up to `credits` places in reserve for each seat, both from 1 on, and a
-    /// seat for each role, 1 to `MOST_SEATS` of them, in their order. Its slots are the least power of two that `most` and
-    /// all reserves fit in; its places go up to `limit`, from the number of slots to 2^62 - 1.
+    /// A ring with room for `most` values, one at least, and a seat for each role, 1 to `MOST_SEATS` of them, in their order. Its
+    /// slots are the least power of two that `most` fits in; its places go up to `limit`, from the number of slots to 2^62 - 1.
     ///
     /// Refusals: `BadSize` where one of them is out of its range, else `Memory`. Takes memory for two words a slot, the seats
     /// and their roles, and doesn't wait.
     pub fn new(
         alloc: Global,
         most: u32,
-        credits: u32,
         limit: u64,
         roles: &[Role],
     ) -> Result<(RingQueue, Vec<Seat>), Refusal>
         //= ring/opening (ok, permits, seats, unused, refused): A new ring has the sizes asked for, the least power of two of slots
-        //=   that its values and all reserves fit in, and a seat for each role, in no call, that has seen nothing. It is refused
-        //=   for a size out of its range, or else for want of memory.
-        ensures ok { IfOk result (λ r. IsMade most credits limit roles.now r.0 r.1.items) }
+        //=   that its values fit in, and a seat for each role, in no call, that has seen nothing. It is refused for a size out of
+        //=   its range, or else for want of memory.
+        ensures ok { IfOk result (λ r. IsMade most limit roles.now r.0 r.1.items) }
         ensures permits { IfOk result (λ r. permits_in r.0 ≡ permits_by roles.now) }
         ensures seats { IfOk result (λ r. All (IsNumberSeat r.0) r.1.items) }
         ensures unused { IfOk result (λ r. AreNew (permits_in r.0) (map known_of r.1.items)) }
-        ensures refused { IfErr result (RingRefused most credits limit roles.now) }
+        ensures refused { IfErr result (RingRefused false most limit roles.now) }
     {
-        made(alloc, most, credits, limit, roles, false)
+        made(alloc, most, limit, roles, false)
     }
 }
 
 impl<T> RingQueue<T> {
-    /// A ring that carries values, of the sizes of `new`, with a slot for each of a ring's, 1 to `MOST_SEATS` roles.
+    /// A ring that carries values, of the sizes of `new`; but its slots are the least power of two that `most` and a slot for each
+    /// seat fit in, which has one in hand while it calls.
     ///
     /// Refusals: those of `new`. Takes memory for three words and a slot a slot, the seats and their roles, and doesn't wait.
     pub fn with_slots(
         alloc: Global,
         most: u32,
-        credits: u32,
         limit: u64,
         roles: &[Role],
     ) -> Result<(RingQueue<T>, Vec<Seat<T>>), Refusal>
         //= ring/slots (ok, refused): A new ring that carries values is as a new ring of numbers, with a slot for a value for
         //=   each slot of the ring, and no seat has one.
         ensures ok { IfOk result
-            (λ r. IsMadeFor true most credits limit roles.now r.0 r.1.items) }
-        ensures refused { IfErr result (RingRefused most credits limit roles.now) }
+            (λ r. IsMadeFor true most limit roles.now r.0 r.1.items) }
+        ensures refused { IfErr result (RingRefused true most limit roles.now) }
     {
-        made(alloc, most, credits, limit, roles, true)
+        made(alloc, most, limit, roles, true)
     }
 }

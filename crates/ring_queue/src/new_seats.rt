@@ -32,7 +32,7 @@ fn deal<T>(
         number,
         role,
         head: plan.slots,
-        credits: 0,
+        tail: plan.slots,
         near: u64::from(number) * APART,
     }
 }

@@ -1,7 +1,6 @@
 //! Where the words of a ring lie in its table, and the slot and the parity of a place.
 ghost use Rattle.std.specs.Prelude.{◌≡◌, ◌%◌, ◌<◌};
 ghost use Rattle.ring_queue.specs.Words.{parity};
-ghost use Rattle.ring_queue.specs.Plans.{reserve};
 
 use crate::plans::Plan;
 use crate::queue::RingQueue;
@@ -25,14 +24,6 @@ impl<T> RingQueue<T> {
         ensures { result.now ≡ self.now.plan }
     {
         &self.plan
-    }
-
-    /// How many places all seats may have in reserve.
-    #[inline(always)]
-    pub(crate) fn all_reserves(&self) -> u64
-        ensures { result ≡ reserve self.now.plan }
-    {
-        self.plan.credits * self.plan.roles.len() as u64
     }
 
     /// The slot of a place.

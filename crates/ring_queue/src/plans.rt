@@ -2,13 +2,12 @@
 use crate::roles::Role;
 use std::marker::Model;
 
-/// How many slots a ring has, how many values make it full, how many places a seat may have in reserve, up to which place it
-/// goes, the role of each seat, and whether it carries values.
+/// How many slots a ring has, how many values it has room for, up to which place it goes, the role of each seat, and whether it
+/// carries values.
 #[derive(Drop)]
 pub struct Plan {
     pub(crate) slots: u64,
     pub(crate) most: u64,
-    pub(crate) credits: u64,
     pub(crate) limit: u64,
     pub(crate) roles: Vec<Role>,
     pub(crate) carries: bool,
@@ -19,5 +18,5 @@ impl Model for Plan {
 
     ghost Value = { Layout };
 
-    ghost view = { λ p. record { slots = p.slots; most = p.most; credits = p.credits; limit = p.limit; roles = p.roles.items; carries = p.carries } };
+    ghost view = { λ p. record { slots = p.slots; most = p.most; limit = p.limit; roles = p.roles.items; carries = p.carries } };
 }

@@ -1,14 +1,15 @@
 //! The pop of a ring.
-ghost use Rattle.std.specs.Prelude.{[], ◌∷◌, ◌≡◌, ◌≤◌, IfOk, IfErr, IfSome};
+ghost use Rattle.std.specs.Prelude.{[], ◌∷◌, ◌≡◌, ◌≤◌, true, IfOk, IfErr, IfSome, IsNone};
+ghost use Rattle.ring_queue.specs.Steps.{WasLate};
 ghost use Rattle.history.specs.Seats.{MayPop};
 ghost use Rattle.history.specs.Answers.{PopAnswers, PopRefused, SeesMore, StopsPop};
 ghost use Rattle.ring_queue.specs.Plans.{permits_of};
-ghost use Rattle.ring_queue.specs.Seats.{IsReady, KeepsName, KeepsSlots, known_of, view};
-ghost use Rattle.ring_queue.specs.Knowledge.{found};
+ghost use Rattle.ring_queue.specs.Seats.{IsReady, HasNoSlot, KeepsName, KeepsSlots, known_of, view};
+ghost use Rattle.ring_queue.specs.Knowledge.{found, unfilled};
 ghost use Rattle.ring_queue.specs.Queues.{IsRingSeat, permits_in};
 ghost use Rattle.ring_queue.specs.Causes.{PopCaused};
 ghost use Rattle.ring_queue.specs.Hands.{PopMoves, TurnMoves};
-ghost use Rattle.ring_queue.specs.Turns.{TurnSays};
+ghost use Rattle.ring_queue.specs.Turns.{TurnSays, Tried, TurnTried};
 
 use crate::looks::EndLook;
 use crate::queue::RingQueue;
@@ -28,20 +29,20 @@ pub(crate) enum Turn {
     Failed,
 }
 
-// The bits of a slot's word beside the parity: none of the mark.
-const PAYLOAD: u64 = (1 << 63) - 1;
-
 // How often a pop pauses before it looks again at a place that isn't filled.
 const PAUSES: u32 = 64;
 
 impl<T> RingQueue<T> {
     /// A turn of a pop that found its place not filled.
     fn turn_at_end(&self, seat: &mut Seat<T>) -> Turn
-        requires { IsReady self.now.plan self.now.table.shared.table_id seat.old }
+        requires ready { IsReady self.now.plan self.now.table.shared.table_id seat.old }
+        requires late { WasLate self.now.plan (view seat.old).seen seat.old.head }
+        requires due { (view seat.old).stage ≡ unfilled }
         ensures seat { IsReady self.now.plan self.now.table.shared.table_id seat.new }
         ensures name { KeepsName seat.old seat.new }
         ensures says { TurnSays self.now.plan seat.old seat.new result }
         ensures moves { TurnMoves self.now.plan seat.old seat.new result }
+        ensures tried { TurnTried seat.old seat.new result }
     {
         match self.look_at_end(seat) {
             EndLook::Empty => Turn::Empty,
@@ -62,7 +63,10 @@ impl<T> RingQueue<T> {
         ensures name { KeepsName seat.old seat.new }
         ensures sees { SeesMore (known_of seat.old) (known_of seat.new) }
         ensures head { seat.new.head ≡ seat.old.head }
+        ensures tried { Tried seat.old seat.new 0 }
         ensures filled { IfSome result (λ word. (view seat.new).stage ≡ found (word ∷ [])) }
+        ensures late { IsNone result → WasLate self.now.plan (view seat.new).seen seat.new.head }
+        ensures due { IsNone result → (view seat.new).stage ≡ unfilled }
     {
         if let Some(word) = self.look_at_front(seat) {
             return Some(word);
@@ -77,23 +81,19 @@ impl<T> RingQueue<T> {
     fn pop_turn(&self, seat: &mut Seat<T>) -> Turn
         requires ready { IsReady self.now.plan self.now.table.shared.table_id seat.old }
         requires role { MayPop (permits_of self.now.plan) (known_of seat.old).number }
+        requires none { self.now.plan.carries ≡ true → HasNoSlot seat.old }
         ensures seat { IsReady self.now.plan self.now.table.shared.table_id seat.new }
         ensures name { KeepsName seat.old seat.new }
         ensures says { TurnSays self.now.plan seat.old seat.new result }
         ensures moves { TurnMoves self.now.plan seat.old seat.new result }
+        ensures tried { TurnTried seat.old seat.new result }
     {
         let Some(word) = self.look_twice_at_front(seat) else {
             return self.turn_at_end(seat);
         };
-        if word & PAYLOAD != 0 {
-            match self.take_front(seat, word) {
-                Some(taken) => Turn::Took(taken),
-                None => Turn::Failed,
-            }
-        } else if self.finds_closed(seat, word) {
-            Turn::Closed
-        } else {
-            Turn::Failed
+        match self.take_front(seat, word) {
+            Some(taken) => Turn::Took(taken),
+            None => Turn::Failed,
         }
     }
 
@@ -104,6 +104,7 @@ impl<T> RingQueue<T> {
     pub fn pop_in(&self, seat: &mut Seat<T>, turns: u32) -> Result<Option<Taken>, Refusal>
         requires ready { IsRingSeat self.now seat.old }
         requires role { MayPop (permits_in self.now) (known_of seat.old).number }
+        requires none { self.now.plan.carries ≡ true → HasNoSlot seat.old }
         ensures seat { IsRingSeat self.now seat.new }
         ensures name { KeepsName seat.old seat.new }
         ensures answer { IfOk result (λ taken. PopAnswers (known_of seat.old) taken (known_of seat.new)) }

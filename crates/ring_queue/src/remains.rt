@@ -6,7 +6,7 @@ ghost use Rattle.history.specs.Rests.{left_of, taken_of, whole_of, was_shut_of};
 ghost use Rattle.ring_queue.specs.Remains.{values_from, HasWords, was_shut_in};
 ghost use Rattle.ring_queue.specs.Moments.{head_in, tail_in};
 
-use crate::acts::{PARITY, taken_of};
+use crate::acts::taken_of;
 use crate::places::{HEAD, SHUT, SLOTS, TAIL};
 use atomic_table::Closed;
 use history::{Rest, Taken};
@@ -24,7 +24,7 @@ fn word_at<T>(closed: &ClosedTable<T>, index: usize) -> u64
     closed.word(index)
 }
 
-// The values from a place on, up to the mark or to Tail, put into an empty list that has room for them.
+// The values from a place on, up to Tail, put into an empty list that has room for them.
 fn values_left<T>(
     closed: &ClosedTable<T>,
     slots: u64,
@@ -40,9 +40,6 @@ fn values_left<T>(
 {
     for place in head..tail {
         let word = word_at(closed, SLOTS + 2 * (place % slots) as usize);
-        if word % PARITY == 0 {
-            return values;
-        }
         values.push(taken_of(word)).unwrap();
     }
     values

@@ -10,8 +10,8 @@ pub struct Seat<T = ()> {
     pub(crate) role: Role,
     // A place that Head isn't below: where the seat's last call found Head, or left it.
     pub(crate) head: u64,
-    // How many places the seat may claim without a look at Tail.
-    pub(crate) credits: u64,
+    // A place that Tail isn't below: where the seat's last push or look found Tail, or left it.
+    pub(crate) tail: u64,
     // The slot that it tries first for its next value, where values are carried.
     pub(crate) near: u64,
 }

@@ -1,9 +1,9 @@
 //! The slots of a ring that carries values: the number that a push puts into it is that of the slot in which its value lies.
-ghost use Rattle.std.specs.Prelude.{◌≡◌, ◌+◌, ◌*◌, ◌<◌, true, false, Some, None, IfOk, IfErr};
+ghost use Rattle.std.specs.Prelude.{[], ◌≡◌, ◌+◌, ◌*◌, ◌<◌, true, false, Some, None, IfOk, IfErr};
 ghost use Rattle.ring_queue.specs.Plans.{words_of};
 ghost use Rattle.ring_queue.specs.Seats.{IsReady, HasNoSlot};
 ghost use Rattle.ring_queue.specs.Queues.{IsRingSeat};
-ghost use Rattle.ring_queue.specs.Hands.{HasSlot, HasValue, KeepsKnown, IsMissed, AllTaken, FailedTries};
+ghost use Rattle.ring_queue.specs.Hands.{HasSlot, HasValue, KeepsKnown, IsMissed, AllTaken, FailedTries, HasTried, TriedSome, GotAt, hitting};
 
 use crate::places::SLOTS;
 use crate::queue::RingQueue;
@@ -35,7 +35,7 @@ impl<T> RingQueue<T> {
         requires slot { slot < self.now.plan.slots }
         ensures ready { IsReady self.now.plan self.now.table.shared.table_id seat.new }
         ensures keeps { KeepsKnown seat.old seat.new }
-        ensures got { result ≡ true → HasSlot self.now.plan seat.new slot None }
+        ensures got { result ≡ true → HasSlot self.now.plan seat.new slot None × GotAt seat.old seat.new slot }
         ensures missed { result ≡ false → IsMissed self.now.plan seat.old seat.new slot }
     {
         let flag = self.flag(slot);
@@ -58,6 +58,8 @@ impl<T> RingQueue<T> {
         ensures few { IfOk result (λ got. got.failed < turns) }
         ensures failed { IfOk result (λ got. AllTaken self.now.plan seat.old.token.me.0 first got.failed) }
         ensures busy { IfErr result (λ _. AllTaken self.now.plan seat.old.token.me.0 first turns) }
+        ensures hit { IfOk result (λ got. HasTried self.now.plan seat.old seat.new first got.failed (hitting got.slot)) }
+        ensures missed { IfErr result (λ _. HasTried self.now.plan seat.old seat.new first turns []) }
     {
         let mut slot = first;
         for failed in 0..turns {
@@ -78,8 +80,9 @@ impl<T> RingQueue<T> {
         requires carries { self.now.plan.carries ≡ true }
         requires none { HasNoSlot seat.old }
         //= ring/get_slot (*): A seat that has no slot gets an empty one, after fewer failed tries than it may make; or Busy,
-        //=   after as many. Each try that failed, at one slot after another, was at a slot whose flag was up, in a state of
-        //=   the table by its rule in which the seat knew what it knew. The seat stores and knows the same as before.
+        //=   after as many. Each try that failed, at one slot after another, from where the seat begins to look on, was at a slot
+        //=   whose flag was up, in a state of the table by its rule in which the seat knew what it knew. The seat stores and
+        //=   knows the same as before, but for where it begins to look.
         ensures seat { IsRingSeat self.now seat.new }
         ensures keeps { KeepsKnown seat.old seat.new }
         ensures got { IfOk result (λ got. HasSlot self.now.plan seat.new got.slot None) }
@@ -87,6 +90,8 @@ impl<T> RingQueue<T> {
         ensures few { IfOk result (λ got. got.failed < turns) }
         ensures failed { IfOk result (λ got. FailedTries self.now.plan seat.old got.failed) }
         ensures busy { IfErr result (λ _. FailedTries self.now.plan seat.old turns) }
+        ensures hit { IfOk result (λ got. TriedSome self.now.plan seat.old seat.new got.failed (hitting got.slot)) }
+        ensures missed { IfErr result (λ _. TriedSome self.now.plan seat.old seat.new turns []) }
     {
         let first = self.slot_of(seat.near);
         match self.find_slot(seat, first, turns) {

@@ -12,13 +12,12 @@ use Rattle.carriers.specs.Deeds.{Deed, is_pushing, is_popping, RunsTo, IsRun}
 use Rattle.carriers.specs.DeedsOfNumbers.{Matches}
 use Rattle.carriers.proofs.Running.{run-first}
 use Rattle.ring_queue.specs.declared.lengths.RingEmptiness.{RingEmptiness}
-use Rattle.ring_queue.specs.declared.lengths.RingEmptiness.TheVariants.{Empty, ShutEmpty, Holds, Moved, Unfilled}
+use Rattle.ring_queue.specs.declared.lengths.RingEmptiness.TheVariants.{Empty, ShutEmpty, Holds, Moved}
 use Rattle.ring_queue.specs.declared.lengths.Len.{Len}
 use Rattle.ring_queue.specs.declared.queue.RingQueue.{RingQueue}
 use Rattle.ring_queue.specs.declared.seats.Seat.{Seat}
-use Rattle.ring_queue.specs.Plans.{reserve}
 use Rattle.ring_queue.specs.Steps.{LeadsToSome}
-use Rattle.ring_queue.specs.Lengths.{WasMeanwhile, FoundSo, slack, WasSoLong, pushes_left, LeavesPushes}
+use Rattle.ring_queue.specs.Lengths.{WasMeanwhile, FoundSo, WasSoLong, pushes_left, LeavesPushes}
 use Rattle.ring_queue.specs.Seats.{KeepsSlots, known_of, view}
 use Rattle.ring_queue.specs.Queues.{IsRingSeat}
 use Rattle.value_queue.specs.Matched.{length-Matches, Matches-take, left-Matches}
@@ -88,25 +87,12 @@ module _ {T : Type 0} (r : RingQueue T) (carries : carries_of r ≡ true) (s t :
   found ShutEmpty h = (deeds_then h.0 h.1, was_then h.0 h.1, RunsTo-Matches h.0 (deeds_then h.0 h.1) (matches_then h.0 h.1) true (run_then h.0 h.1) h.2)
   found Holds h = (deeds_then h.0 h.1, was_then h.0 h.1, holds_then h.0 h.1 h.2)
   found Moved h = record { more = sees-deeds r carries s t is it (goes_on s t kept) h.more; pops = (let p = h.pops in omega (arith, p, pops_as s is, pops_as t it)) }
-  found Unfilled h =
-      record {
-        numbers = h;
-        before = deeds_then h.before h.first;
-        now = deeds_then h.now h.later;
-        first = was_then h.before h.first;
-        later = was_then h.now h.later;
-        on = take_within (length h.before) (length h.now) (seen_by t) (let long = sym (length-append h.before h.on.0) ∙ ap length h.on.1 in omega (arith, long));
-        shut = RunsToShut-Matches h.before (deeds_then h.before h.first) (matches_then h.before h.first) (run_then h.before h.first) h.shut;
-        claimed = matches_then h.before h.first;
-        late = matches_then h.now h.later;
-      }
 
   -- how long the ring is
   pub long : (len : Len) → WasSoLong r.plan (known_of s) len (known_of t) → WasSoLongOf r.plan s t len
   long len h =
       let run = run_then h.now h.meanwhile in
       let same = same_then h.now h.meanwhile h.values h.shut h.leads in
-      let far = ap (slack r.plan) same.1 in
       let l = h.least in
       let m = h.most in
       let n = h.near in
@@ -118,23 +104,13 @@ module _ {T : Type 0} (r : RingQueue T) (carries : carries_of r ≡ true) (s t :
         runs = run.2;
         least = omega (arith, l, same.0);
         most = omega (arith, m, same.0);
-        near = omega (arith, n, far, pops_as s is, pops_as t it);
+        near = omega (arith, n, pops_as s is, pops_as t it);
       }
 
   -- and how many pushes it has left
   pub leaves : (left : ℕ) → LeavesPushes r.plan (known_of s) left (known_of t) → LeavesPushesOf r.plan s t left
   leaves left h =
       let ds = deeds_then h.now h.meanwhile in
-      let run = run_then h.now h.meanwhile in
-      let same = same_then h.now h.meanwhile h.values h.shut h.leads in
       let pushes = count-Matches is_push is_pushing pushing-is h.now ds (matches_then h.now h.meanwhile) in
-      let as_many : pushes_left r.plan h.now ≡ pushes_left_of r.plan ds = ap (λ n. r.plan.limit - ((r.plan.slots + n) + reserve r.plan)) (sym pushes) in
-      record {
-        now = ds;
-        meanwhile = was_then h.now h.meanwhile;
-        shut = run.1;
-        values = run.0;
-        runs = run.2;
-        least = subst (λ n. left ≤ n) as_many h.least;
-        exact = λ unshut. h.exact (same.1 ∙ unshut) ∙ as_many;
-      }
+      let as_many : pushes_left r.plan h.now ≡ pushes_left_of r.plan ds = ap (λ n. r.plan.limit - (r.plan.slots + n)) (sym pushes) in
+      record { now = ds; meanwhile = was_then h.now h.meanwhile; exact = h.exact ∙ as_many }

@@ -2,7 +2,6 @@
 use Rattle.std.proofs.Common.{◌≡◌, ℕ, suc, ◌+◌, ◌*◌, ◌^◌, ◌<◌, ◌≤◌, true, List, [], ◌∷◌, length, map, Option, Some, None, option_map, slice_get, refl, sym, ap, subst, ◌∙◌, arith}
 use Rattle.std.specs.List.{All}
 use Rattle.std.proofs.lemmas.List.{length-map}
-use Rattle.std.proofs.lemmas.Nat.{mul-le}
 use Rattle.std.proofs.lemmas.List.Elements.{All-nil, All-cons}
 use Rattle.std.proofs.lemmas.Option.{slice_get-map, none-some, same_Some}
 use Rattle.carriers.specs.Deeds.{own_deeds}
@@ -26,22 +25,21 @@ all_places P [] h = All-nil P
 all_places P (x ∷ xs) h = All-cons P x xs (h 0 x refl) (all_places P xs (λ k y e. h (suc k) y e))
 
 -- each seat of a new queue may begin a call, and has no slot
-pub made_seats : {T : Type 0} (most credits limit : ℕ) (roles : List Role) (q : RingValues T) (seats : List (Seat T))
-    → IsMadeFor true most credits limit roles (ring_of q) seats → All (IsQueueSeat q) seats
-made_seats most credits limit roles q seats m = all_places (IsQueueSeat q) seats (λ k s e. let new = m.each k s e in record { ready = new.ready; none_out = new.none_out })
+pub made_seats : {T : Type 0} (most limit : ℕ) (roles : List Role) (q : RingValues T) (seats : List (Seat T))
+    → IsMadeFor true most limit roles (ring_of q) seats → All (IsQueueSeat q) seats
+made_seats most limit roles q seats m = all_places (IsQueueSeat q) seats (λ k s e. let new = m.each k s e in record { ready = new.ready; none_out = new.none_out })
 
-module _ {T : Type 0} (most credits limit : ℕ) (roles : List Role) (r : RingQueue T) (seats : List (Seat T)) (m : IsMadeFor true most credits limit roles r seats) where
+module _ {T : Type 0} (most limit : ℕ) (roles : List Role) (r : RingQueue T) (seats : List (Seat T)) (m : IsMadeFor true most limit roles r seats) where
   -- a new ring permits what its roles do
   pub made_permits : permits_in r ≡ permits_by roles
   made_permits = ap permits_by m.deals
 
   -- the numbers of its slots are those of bodies
-  pub made_narrow : most ≤ 4294967295 → credits ≤ 4294967295 → slots_in r ≤ 2 ^ 48
-  made_narrow few_values few_credits =
+  pub made_narrow : most ≤ 4294967295 → slots_in r ≤ 2 ^ 48
+  made_narrow few_values =
       let few : length roles < 2 ^ 15 = subst (λ (rs : List Role). length rs < 2 ^ 15) m.deals r.laid.planned.few in
-      let places : credits * length roles ≤ 4294967295 * 32767 = mul-le credits (length roles) 4294967295 32767 few_credits (omega (arith, few)) in
-      let close : r.plan.slots < 2 * (most + credits * length roles) = m.slots.close in
-      omega (arith, few_values, places, close)
+      let close : r.plan.slots < 2 * (most + length roles) = m.slots.close in
+      omega (arith, few_values, few, close)
 
   knows_none : (n : ℕ) (s : Seat T) → IsDealt r.plan r.table.shared.table_id n s → known_by s ≡ newcomer n
   knows_none n s new = (λ i. record { number = (new.view i).number; seen = told [] (new.none_done i); mine = own_deeds (new.view i).number (told [] (new.none_done i)); notes = (new.view i).notes })

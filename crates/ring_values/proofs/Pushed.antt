@@ -1,5 +1,5 @@
 -- What a push of a value answers, by what its parts do.
-use Rattle.std.proofs.Common.{◌≡◌, ℕ, ◌+◌, ◌-◌, ◌≤◌, List, [], ◌∷◌, ◌++◌, true, Option, Some, None, Result, Ok, Err, IfErr, IsErrAnd, inl, inr, sym, ap, subst, ◌∙◌, append-nil}
+use Rattle.std.proofs.Common.{◌≡◌, ℕ, ◌+◌, ◌-◌, ◌<◌, ◌≤◌, List, [], ◌∷◌, ◌++◌, true, Option, Some, None, Result, Ok, Err, IfErr, IsErrAnd, inl, inr, sym, ap, subst, ◌∙◌, append-nil}
 use Rattle.history.specs.declared.operations.Entry.TheVariants.{Push}
 use Rattle.history.specs.declared.refusals.Refusal.{Refusal}
 use Rattle.history.specs.declared.refusals.Refusal.TheVariants.{NoNode, WornOut, Busy, Closed}
@@ -37,14 +37,14 @@ value_is {T} held slot x y e f = ap value_or (sym e ∙ f)
     value_or ((i, None) ∷ xs) = x
     value_or ((i, Some z) ∷ xs) = z
 
--- a cause is one still, where its seat knows the same and its head is where it was
-caused_still : {T : Type 0} (z : Layout) (s x t : Seat T) (turns : ℕ) → view t ≡ view x → t.head ≡ x.head → (refusal : Refusal)
+-- a cause is one still, where its seat knows the same and its tail is where it was
+caused_still : {T : Type 0} (z : Layout) (s x t : Seat T) (turns : ℕ) → view t ≡ view x → t.tail ≡ x.tail → (refusal : Refusal)
     → ring.PushCaused z s x turns refusal → ring.PushCaused z s t turns refusal
-caused_still z s x t turns same head NoNode c = (c.0, subst (λ (w : SeatView). IsFull z w.seen) (sym same) c.1)
-caused_still z s x t turns same head (WornOut OfTail) c = (c.0, subst (λ (w : SeatView). IsWorn z w.seen) (sym same) c.1)
-caused_still z s x t turns same head Busy c = (c.0, subst (λ (n : ℕ). s.head + turns ≤ n) (sym head) c.1)
-caused_still z s x t turns same head Closed c = subst (λ (w : SeatView). LeadsToShut w.seen) (sym same) c
-caused_still z s x t turns same head _ c = absurd c
+caused_still z s x t turns same tail Busy c = (subst (λ (n : ℕ). s.tail + turns < n) (sym tail) c.0, record { accesses = c.1.accesses; path = ap (λ (w : SeatView). w.path) same ∙ c.1.path; failed = c.1.failed })
+caused_still z s x t turns same tail NoNode c = subst (λ (w : SeatView). IsFull z w.seen) (sym same) c
+caused_still z s x t turns same tail (WornOut OfTail) c = subst (λ (w : SeatView). IsWorn z w.seen) (sym same) c
+caused_still z s x t turns same tail Closed c = subst (λ (w : SeatView). LeadsToShut w.seen) (sym same) c
+caused_still z s x t turns same tail _ c = absurd c
 
 -- the push of a slot's number was refused, and then the value came out of the slot, which was given back
 pub put_back : {T : Type 0} (r : RingQueue T) (s x y t : Seat T) (slot turns : ℕ) (refusal : Refusal) (value : T) → IsRingSeat r t → HasNoSlot t
@@ -65,7 +65,7 @@ put_back r s x y t slot turns refusal value ready none name kept k l has refused
       );
       refused = subst (λ (q : Known). numbers.PushRefused (known_of s) refusal q) (λ i. seeing.known_by (sym same i)) refused;
       refusal = stops;
-      caused = caused_still r.plan s x t turns same (l.head ∙ k.head) refusal caused;
+      caused = caused_still r.plan s x t turns same (l.tail ∙ k.tail) refusal caused;
     }
 
 -- a refusal that is handed on
@@ -137,15 +137,9 @@ module _ {T : Type 0} (r : RingQueue T) (carries : carries_of r ≡ true) (s : S
           caused = by_cause unpushed.refusal p.caused;
         }
       where
-        none_kept : u.credits ≡ 0 → s.credits ≡ 0
-        none_kept e = sym k.reserve ∙ e
-
         by_cause : (refusal : Refusal) → ring.PushCaused r.plan u x (turns - got.failed) refusal → PushCaused r s x turns refusal
-        by_cause NoNode y = (none_kept y.0, y.1)
-        by_cause (WornOut OfTail) y = (none_kept y.0, y.1)
-        by_cause Busy y = inr (got.failed, l.loaded.1, l.loaded.2, (none_kept y.0, subst (λ (h : ℕ). h + (turns - got.failed) ≤ x.head) k.head y.1))
-        by_cause Closed y = y
-        by_cause _ y = absurd y
+        by_cause Busy y = inr (got.failed, l.loaded.1, l.loaded.2, (subst (λ (t : ℕ). t + (turns - got.failed) < x.tail) k.tail y.0, record { accesses = y.1.accesses; path = y.1.path ∙ ap (λ (w : SeatView). w.path ++ y.1.accesses) k.view; failed = y.1.failed }))
+        by_cause _ y = y
 
     -- one or the other
     pub slot_pushed : (out : Result (Unit {0}) (Unpushed T)) → PutsSlot r u x got.slot (turns - got.failed) out → AnswersPush r s x value turns out

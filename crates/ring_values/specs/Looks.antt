@@ -1,45 +1,26 @@
 -- What a seat of a queue of values on a ring finds that looks at it.
 use Rattle.std.specs.Prelude.{◌≡◌, ℕ, ◌+◌, ◌-◌, ◌≤◌, Bool, true, false, List, [], length}
 use Rattle.std.specs.List.{count_by}
-use mathlib.Core.List.{IsPrefix}
 use Rattle.carriers.specs.declared.items.ItemOf.{ItemOf}
-use Rattle.carriers.specs.Deeds.{Deed, is_pushing, is_popping, RunsTo, RunsToShut}
-use Rattle.carriers.specs.DeedsOfNumbers.{Matches}
+use Rattle.carriers.specs.Deeds.{Deed, is_pushing, is_popping, RunsTo}
 use Rattle.ring_queue.specs.declared.lengths.RingEmptiness.{RingEmptiness}
-use Rattle.ring_queue.specs.declared.lengths.RingEmptiness.TheVariants.{Empty, ShutEmpty, Holds, Moved, Unfilled}
+use Rattle.ring_queue.specs.declared.lengths.RingEmptiness.TheVariants.{Empty, ShutEmpty, Holds, Moved}
 use Rattle.ring_queue.specs.declared.lengths.Len.{Len}
 use Rattle.ring_queue.specs.declared.seats.Seat.{Seat}
-use Rattle.ring_queue.specs.Plans.{Layout, reserve}
-use Rattle.ring_queue.specs.Lengths.{FoundUnfilled, slack}
-use Rattle.ring_queue.specs.Seats.{known_of}
+use Rattle.ring_queue.specs.Plans.{Layout}
 use Rattle.value_queue.specs.Looks.{WasMeanwhileOf, RunsToSome, SawPopsOf}
 use Rattle.ring_values.specs.ValuesSeen.{seen_by, known_by}
 
--- after some deeds no older than what the seat had seen the ring was shut, and the place at Head had been claimed; after some no
--- older than those this place wasn't filled, and was still at Head: so by the entries of the numbers, with which these deeds go
--- one by one
-pub record FoundUnfilledOf {T : Type 0} (z : Layout) (s t : Seat T) : Type 0 where
-  pub numbers : FoundUnfilled z (known_of s) (known_of t)
-  pub before : List (Deed T)
-  pub now : List (Deed T)
-  pub first : WasMeanwhileOf (known_by s) before (known_by t)
-  pub later : WasMeanwhileOf (known_by s) now (known_by t)
-  pub on : IsPrefix before now
-  pub shut : RunsToShut before
-  pub claimed : Matches numbers.before before
-  pub late : Matches numbers.now now
-
 -- the ring was found so: after deeds no older than what the seat had seen it was empty and not shut, empty and shut, or held a
--- value; or pops took effect; or it was shut, and the place at its front wasn't filled
+-- value; or pops took effect
 abbrev pub FoundSoOf : {T : Type 0} → Layout → (s t : Seat T) → RingEmptiness → Type 0
 FoundSoOf {T} z s t Empty = (now : List (Deed T)) × WasMeanwhileOf (known_by s) now (known_by t) × RunsTo now false []
 FoundSoOf {T} z s t ShutEmpty = (now : List (Deed T)) × WasMeanwhileOf (known_by s) now (known_by t) × RunsTo now true []
 FoundSoOf {T} z s t Holds = (now : List (Deed T)) × WasMeanwhileOf (known_by s) now (known_by t) × RunsToSome now
 FoundSoOf z s t Moved = SawPopsOf (known_by s) (known_by t)
-FoundSoOf z s t Unfilled = FoundUnfilledOf z s t
 
 -- the ring's length was between these bounds after deeds no older than what the seat had seen; they are no further apart than the
--- pops that took effect meanwhile and, where the ring was shut, all reserves
+-- pops that took effect meanwhile
 pub record WasSoLongOf {T : Type 0} (z : Layout) (s t : Seat T) (len : Len) : Type 0 where
   pub now : List (Deed T)
   pub meanwhile : WasMeanwhileOf (known_by s) now (known_by t)
@@ -48,19 +29,14 @@ pub record WasSoLongOf {T : Type 0} (z : Layout) (s t : Seat T) (len : Len) : Ty
   pub runs : RunsTo now shut values
   pub least : len.least ≤ length values
   pub most : length values ≤ len.most
-  pub near : len.most + count_by is_popping (seen_by s) ≤ (len.least + slack z shut) + count_by is_popping (seen_by t)
+  pub near : len.most + count_by is_popping (seen_by s) ≤ len.least + count_by is_popping (seen_by t)
 
--- after how many pushes more the places are used up that come before the limit, but for those that all seats may have in reserve
+-- after how many pushes more the places are used up that come before the limit
 abbrev pub pushes_left_of : {A : Type 0} → Layout → (ds : List (Deed A)) → ℕ
-pushes_left_of z ds = z.limit - ((z.slots + count_by is_pushing ds) + reserve z)
+pushes_left_of z ds = z.limit - (z.slots + count_by is_pushing ds)
 
--- no fewer pushes than so many were left after deeds no older than what the seat had seen, and just so many where the ring wasn't
--- shut
+-- so many pushes were left after deeds no older than what the seat had seen
 pub record LeavesPushesOf {T : Type 0} (z : Layout) (s t : Seat T) (left : ℕ) : Type 0 where
   pub now : List (Deed T)
   pub meanwhile : WasMeanwhileOf (known_by s) now (known_by t)
-  pub shut : Bool
-  pub values : List (ItemOf T)
-  pub runs : RunsTo now shut values
-  pub least : left ≤ pushes_left_of z now
-  pub exact : shut ≡ false → left ≡ pushes_left_of z now
+  pub exact : left ≡ pushes_left_of z now

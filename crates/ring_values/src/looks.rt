@@ -5,29 +5,29 @@ use crate::queue::RingValues;
 use ring_queue::{Len, RingEmptiness, Seat};
 
 impl<T> RingValues<T> {
-    ghost use Rattle.ring_queue.specs.Seats.{KeepsStored};
+    ghost use Rattle.ring_queue.specs.Seats.{KeepsName};
     ghost use Rattle.ring_values.specs.Queues.{plan_of, IsQueueSeat};
 
-    /// Whether the queue is empty, as `emptiness` of a ring of numbers tells, by two or three loads, and by four where it is shut.
-    /// Takes no memory and doesn't wait.
+    /// Whether the queue is empty, as `emptiness` of a ring of numbers tells, by two or three loads. Takes no memory and doesn't
+    /// wait.
     ///
     /// ```rust
     /// match queue.emptiness(&mut seat) {
     ///     RingEmptiness::Empty | RingEmptiness::Holds => {}
     ///     // Nothing comes any more.
     ///     RingEmptiness::ShutEmpty => return,
-    ///     // Others are popping, or a push is under way: look again.
-    ///     RingEmptiness::Moved | RingEmptiness::Unfilled => backoff.snooze(),
+    ///     // Others are popping: look again.
+    ///     RingEmptiness::Moved => backoff.snooze(),
     /// }
     /// ```
     pub fn emptiness(&self, seat: &mut Seat<T>) -> RingEmptiness
         requires { IsQueueSeat self.now seat.old }
         ensures seat { IsQueueSeat self.now seat.new }
-        ensures stored { KeepsStored seat.old seat.new }
-        //= ring_values/emptiness (seat, stored, found): A seat that looks whether its ring of values is empty is told so, shut or
+        ensures name { KeepsName seat.old seat.new }
+        //= ring_values/emptiness (seat, name, found): A seat that looks whether its ring of values is empty is told so, shut or
         //=   not, or that it holds a value, as it was after some deeds that begin with those that the seat had seen and that it
-        //=   has now seen; or that Head moved, and then it has seen more pops than before; or that it was shut, with a place
-        //=   claimed at its front that isn't filled. It is in no call, as before, with no slot and as many places in reserve.
+        //=   has now seen; or that Head moved, and then it has seen more pops than before. It is in no call, as before, with no
+        //=   slot.
         ensures found { FoundSoOf (plan_of self.now) seat.old seat.new result }
     {
         self.ring.emptiness_in(seat)
@@ -44,17 +44,16 @@ impl<T> RingValues<T> {
     pub fn len(&self, seat: &mut Seat<T>) -> Len
         requires { IsQueueSeat self.now seat.old }
         ensures seat { IsQueueSeat self.now seat.new }
-        ensures stored { KeepsStored seat.old seat.new }
-        //= ring_values/len (seat, stored, long): A seat that looks how long its ring of values is is told two bounds, between
+        ensures name { KeepsName seat.old seat.new }
+        //= ring_values/len (seat, name, long): A seat that looks how long its ring of values is is told two bounds, between
         //=   which the length was after some deeds that begin with those that the seat had seen and that it has now seen. They
-        //=   are at most as far apart as the pops that it has newly seen and, of a ring that is shut, all reserves. It is in no
-        //=   call, as before, with no slot and as many places in reserve.
+        //=   are at most as far apart as the pops that it has newly seen. It is in no call, as before, with no slot.
         ensures long { WasSoLongOf (plan_of self.now) seat.old seat.new result }
     {
         self.ring.len_in(seat)
     }
 
-    /// How many values may still be pushed at least before a push is refused `WornOut`, as `left` of a ring of numbers tells, by
+    /// How many values may still be pushed before a push is refused `WornOut`, as `left` of a ring of numbers tells, by
     /// one load. Takes no memory and doesn't wait.
     ///
     /// ```rust
@@ -65,11 +64,10 @@ impl<T> RingValues<T> {
     pub fn left(&self, seat: &mut Seat<T>) -> u64
         requires { IsQueueSeat self.now seat.old }
         ensures seat { IsQueueSeat self.now seat.new }
-        ensures stored { KeepsStored seat.old seat.new }
-        //= ring_values/left (seat, stored, left): A seat that looks how many pushes its ring of values has left is told how
-        //=   many places are left up to its limit, but for those that all seats may have in reserve, after some deeds that
-        //=   begin with those that the seat had seen and that it has now seen; or fewer, where the ring was shut there. It is
-        //=   in no call, as before, with no slot and as many places in reserve.
+        ensures name { KeepsName seat.old seat.new }
+        //= ring_values/left (seat, name, left): A seat that looks how many pushes its ring of values has left is told how
+        //=   many places are left up to its limit after some deeds that begin with those that the seat had seen and that it has
+        //=   now seen. It is in no call, as before, with no slot.
         ensures left { LeavesPushesOf (plan_of self.now) seat.old seat.new result }
     {
         self.ring.left_in(seat)

@@ -25,9 +25,6 @@ const ROLES: [Role; 4] = [Role::Both; 4];
 /// The same of a ring.
 const RING_ROLES: [RingRole; 4] = [RingRole::Both; 4];
 
-/// How many places a seat of a ring may have in reserve.
-pub const RESERVE: u32 = 32;
-
 /// The greatest place of a ring that there is.
 pub const MOST_PLACE: u64 = (1 << 62) - 1;
 
@@ -108,13 +105,7 @@ fn worked_places<R: Threads + Wait + Sync, T: Load>(
     alloc: Global,
     asked: Asked,
 ) -> Result<u64, Refusal> {
-    let (queue, seats) = RingValues::<T>::new(
-        alloc,
-        asked.values,
-        RESERVE,
-        MOST_PLACE,
-        &RING_ROLES,
-    )?;
+    let (queue, seats) = RingValues::<T>::new(alloc, asked.values, MOST_PLACE, &RING_ROLES)?;
     worked_by(rt, alloc, queue, seats, asked)
 }
 
@@ -145,13 +136,7 @@ fn worked_ring<R: Threads + Wait + Sync>(
 ) -> Result<u64, Refusal> {
     match carried {
         Carried::Numbers => {
-            let (queue, seats) = RingQueue::new(
-                alloc,
-                asked.values,
-                RESERVE,
-                MOST_PLACE,
-                &RING_ROLES,
-            )?;
+            let (queue, seats) = RingQueue::new(alloc, asked.values, MOST_PLACE, &RING_ROLES)?;
             worked_by(rt, alloc, Numbers::new(queue), seats, asked)
         }
         Carried::Word => worked_places::<R, u64>(rt, alloc, asked),

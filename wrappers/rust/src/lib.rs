@@ -106,8 +106,7 @@ pub enum WornWord {
     Free,
     /// The node was set aside: push again, by another one.
     Next,
-    /// Of the non-blocking queue: no push or shut comes any more, and no pop of the last value. Of the ring: no push by a seat
-    /// without a place in reserve.
+    /// Of the non-blocking queue: no push or shut comes any more, and no pop of the last value. Of the ring: no push.
     Tail,
     /// No pop comes any more: of the two-lock queue.
     Head,

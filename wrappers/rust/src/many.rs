@@ -3,7 +3,7 @@ use crate::{answer, raw, Body, Receiver, Refusal, Sender, Value};
 
 impl Sender {
     /// Pushes these bodies in their order until one is refused: how many were pushed, and why no more were. To a ring as many go at
-    /// one step as the seat has in reserve, up to 32; otherwise each goes by itself. A step has so many turns, 1 or more. Pushes of
+    /// one step as there is room for, up to 32; otherwise each goes by itself. A step has so many turns, 1 or more. Pushes of
     /// other seats may come between two steps.
     ///
     /// ```

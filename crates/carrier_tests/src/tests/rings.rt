@@ -20,7 +20,7 @@ const MOST_PLACE: u64 = (1 << 62) - 1;
 /// How many values go through where they are many.
 const ROUNDS: u64 = 1000;
 
-/// How many values a ring of 64 slots has room for beside two reserves of one place.
+/// How many values a ring of 64 slots has room for beside a slot for each of two seats.
 const FULL: u32 = 62;
 
 /// Room for all slots of a ring of two values and one seat.
@@ -28,13 +28,7 @@ const ROOM: usize = 6;
 
 #[test]
 fn texts_go_through_a_ring(rt: HostRuntime) -> Result<(), Fail> {
-    let (queue, mut seats) = RingValues::<String>::new(
-        rt.alloc(),
-        2,
-        1,
-        MOST_PLACE,
-        &[Role::Both],
-    )?;
+    let (queue, mut seats) = RingValues::<String>::new(rt.alloc(), 2, MOST_PLACE, &[Role::Both])?;
     let mut seat = last(&queue, &mut seats)?;
     goes(
         &rt,
@@ -48,7 +42,7 @@ fn texts_go_through_a_ring(rt: HostRuntime) -> Result<(), Fail> {
 
 #[test]
 fn values_of_no_size_go_through_a_ring(rt: HostRuntime) -> Result<(), Fail> {
-    let (queue, mut seats) = RingValues::<()>::new(rt.alloc(), 2, 1, MOST_PLACE, &[Role::Both])?;
+    let (queue, mut seats) = RingValues::<()>::new(rt.alloc(), 2, MOST_PLACE, &[Role::Both])?;
     let mut seat = last(&queue, &mut seats)?;
     goes(&rt, &queue, &mut seat, [(); 5], [(); 5]);
     Ok(())
@@ -57,13 +51,7 @@ fn values_of_no_size_go_through_a_ring(rt: HostRuntime) -> Result<(), Fail> {
 /// Each slot is used again, laps over.
 #[test]
 fn slots_of_a_ring_are_used_again(rt: HostRuntime) -> Result<(), Fail> {
-    let (queue, mut seats) = RingValues::<String>::new(
-        rt.alloc(),
-        2,
-        1,
-        MOST_PLACE,
-        &[Role::Both],
-    )?;
+    let (queue, mut seats) = RingValues::<String>::new(rt.alloc(), 2, MOST_PLACE, &[Role::Both])?;
     let mut seat = last(&queue, &mut seats)?;
     for i in 0..ROUNDS {
         same(
@@ -83,13 +71,7 @@ fn slots_of_a_ring_are_used_again(rt: HostRuntime) -> Result<(), Fail> {
 #[test]
 fn a_seat_looks_on_for_a_slot_in_a_ring(rt: HostRuntime) -> Result<(), Fail> {
     let roles = [Role::Taker, Role::Giver, Role::Giver];
-    let (queue, mut seats) = RingValues::<u64>::new(
-        rt.alloc(),
-        ROUNDS as u32,
-        1,
-        MOST_PLACE,
-        &roles,
-    )?;
+    let (queue, mut seats) = RingValues::<u64>::new(rt.alloc(), ROUNDS as u32, MOST_PLACE, &roles)?;
     let mut second = last(&queue, &mut seats)?;
     let mut first = last(&queue, &mut seats)?;
     let mut taker = last(&queue, &mut seats)?;
@@ -113,7 +95,7 @@ fn a_seat_looks_on_for_a_slot_in_a_ring(rt: HostRuntime) -> Result<(), Fail> {
 #[test]
 fn a_full_ring_of_values_says_so(rt: HostRuntime) -> Result<(), Fail> {
     let roles = [Role::Giver, Role::Giver];
-    let (queue, mut seats) = RingValues::<u64>::new(rt.alloc(), FULL, 1, MOST_PLACE, &roles)?;
+    let (queue, mut seats) = RingValues::<u64>::new(rt.alloc(), FULL, MOST_PLACE, &roles)?;
     let mut second = last(&queue, &mut seats)?;
     let mut first = last(&queue, &mut seats)?;
     let mut pushed = 0;
@@ -140,7 +122,7 @@ fn a_full_ring_of_values_says_so(rt: HostRuntime) -> Result<(), Fail> {
 #[test]
 fn large_values_go_through_a_ring(rt: HostRuntime) -> Result<(), Fail> {
     let roles = [Role::Both];
-    let (queue, mut seats) = RingValues::<[u64; 64]>::new(rt.alloc(), 2, 1, MOST_PLACE, &roles)?;
+    let (queue, mut seats) = RingValues::<[u64; 64]>::new(rt.alloc(), 2, MOST_PLACE, &roles)?;
     let mut seat = last(&queue, &mut seats)?;
     let rows = [[1; 64], [2; 64], [3; 64], [4; 64], [5; 64]];
     goes(&rt, &queue, &mut seat, rows, rows);
@@ -150,7 +132,7 @@ fn large_values_go_through_a_ring(rt: HostRuntime) -> Result<(), Fail> {
 #[test]
 fn values_left_in_a_ring_come_in_order(rt: HostRuntime) -> Result<(), Fail> {
     let roles = [Role::Both, Role::Giver];
-    let (queue, seats) = RingValues::<String>::new(rt.alloc(), 4, 1, MOST_PLACE, &roles)?;
+    let (queue, seats) = RingValues::<String>::new(rt.alloc(), 4, MOST_PLACE, &roles)?;
     texts_are_left(&rt, rt.alloc(), queue, seats)
 }
 
@@ -159,8 +141,8 @@ fn made(alloc: Global) -> Result<(RingValues<Counted>, Vec<Seat<Counted>>), Refu
     ensures seats { IfOk result (λ r. All (IsQueueSeat r.0) r.1.items) }
     ensures one { IfOk result (λ r. length (permits_of r.0) ≡ 1) }
 {
-    match RingValues::<Counted>::new(alloc, 2, 1, MOST_PLACE, &[Role::Both]) {
-        Err(Refusal::Memory) => RingValues::<Counted>::new(alloc, 2, 1, MOST_PLACE, &[Role::Both]),
+    match RingValues::<Counted>::new(alloc, 2, MOST_PLACE, &[Role::Both]) {
+        Err(Refusal::Memory) => RingValues::<Counted>::new(alloc, 2, MOST_PLACE, &[Role::Both]),
         made => made,
     }
 }
@@ -238,7 +220,7 @@ fn tickets_left(mut left: LeftValues<Ticket>) -> ([Option<u64>; 3], u64) {
 fn tickets_left_in_a_ring_all_come_back(rt: HostRuntime) -> Result<(), Fail> {
     let numbers = Vec::with_capacity(rt.alloc(), ROOM)?;
     let slots = Vec::with_capacity(rt.alloc(), ROOM)?;
-    match RingValues::<Ticket>::new(rt.alloc(), 2, 1, MOST_PLACE, &[Role::Both]) {
+    match RingValues::<Ticket>::new(rt.alloc(), 2, MOST_PLACE, &[Role::Both]) {
         Ok((queue, mut seats)) => {
             let first = told(push(&queue, &mut seats[0], Ticket { number: 1 }));
             let second = told(push(&queue, &mut seats[0], Ticket { number: 2 }));

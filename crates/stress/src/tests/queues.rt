@@ -1,6 +1,5 @@
 //! Numbers through each queue, by four threads, with kept nodes and without, and over words that wear out.
 use super::runs::{Came, Run, outcome};
-use crate::queues::RESERVE;
 use crate::works::works_of;
 use arena_queue::{Algorithm, ArenaQueueOf};
 use carriers::Numbers;
@@ -38,11 +37,10 @@ pub fn linked<A: Algorithm<24>>(
 pub fn ring(
     alloc: Global,
     values: u32,
-    reserve: u32,
     last_place: u64,
     roles: &[RingRole],
 ) -> Result<(Numbers<RingQueue>, Vec<RingSeat>), Refusal> {
-    let (queue, seats) = RingQueue::new(alloc, values, reserve, last_place, roles)?;
+    let (queue, seats) = RingQueue::new(alloc, values, last_place, roles)?;
     Ok((Numbers::new(queue), seats))
 }
 
@@ -75,19 +73,17 @@ fn over_nodes<R: Threads + Wait + Sync, A: Algorithm<24> + Sync>(
     ))
 }
 
-// The same over a new ring, and for how many values it has room at most: a seat pushes from its reserve where the ring is full.
+// The same over a new ring.
 fn over_places<R: Threads + Wait + Sync>(
     rt: &R,
     alloc: Global,
     values: u32,
-    reserve: u32,
     last_place: u64,
     count: u64,
-) -> Result<(Option<Came>, u64), Refusal> {
-    let most = u64::from(values) + 4 * u64::from(reserve);
-    let (queue, seats) = ring(alloc, values, reserve, last_place, &[RingRole::Both; 4])?;
-    let came = outcome(rt, alloc, queue, seats, pairs_of(count, false, most));
-    Ok((came, most))
+) -> Result<Option<Came>, Refusal> {
+    let most = u64::from(values);
+    let (queue, seats) = ring(alloc, values, last_place, &[RingRole::Both; 4])?;
+    Ok(outcome(rt, alloc, queue, seats, pairs_of(count, false, most)))
 }
 
 /// Four threads push and pop 50,000 times each over 65 nodes, with kept nodes and without: each value comes once, each sender's
@@ -111,12 +107,12 @@ fn each_value_comes_once_and_each_node_is_found(rt: HostRuntime) -> Result<(), F
     Ok(())
 }
 
-/// The same over a ring of 64 values with 32 places in reserve for each seat, whose pushes find no more room than there is.
+/// The same over a ring of 64 values, whose pushes find just as much room as there is.
 #[test]
 fn each_value_comes_once_over_a_ring(rt: HostRuntime) -> Result<(), Fail> {
-    let (came, most) = over_places(&rt, rt.alloc(), 64, RESERVE, MOST_COUNT, PAIRS)?;
+    let came = over_places(&rt, rt.alloc(), 64, MOST_COUNT, PAIRS)?;
     assert!(rt;
-        matches!(came, Some(it) if it.is_right && it.found < most),
+        matches!(came, Some(it) if it.is_right && it.found == 64),
         "{came:?}"
     );
     Ok(())
@@ -150,22 +146,13 @@ fn each_value_comes_once_where_words_wear_out(rt: HostRuntime) -> Result<(), Fai
     Ok(())
 }
 
-/// A ring of 1 to 3 values, with 1 to 5 places in reserve for each seat, has its last place used up.
+/// A ring of 1 to 3 values has its last place used up.
 #[test]
 fn each_value_comes_once_where_places_are_used_up(rt: HostRuntime) -> Result<(), Fail> {
     for values in 1..=3 {
-        for reserve in 1..=5 {
-            let (came, most) = over_places(
-                &rt,
-                rt.alloc(),
-                values,
-                reserve,
-                FEW_PLACES,
-                FEW_PAIRS,
-            )?;
-            let right = matches!(came, Some(it) if it.is_right && it.found < most);
-            assert!(rt; right, "{values} values, {reserve} in reserve, {came:?}");
-        }
+        let came = over_places(&rt, rt.alloc(), values, FEW_PLACES, FEW_PAIRS)?;
+        let right = matches!(came, Some(it) if it.is_right && it.found <= u64::from(values));
+        assert!(rt; right, "{values} values, {came:?}");
     }
     Ok(())
 }

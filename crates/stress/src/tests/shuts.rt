@@ -179,7 +179,7 @@ fn a_shut_among_threads_loses_no_value(rt: HostRuntime) -> Result<(), Fail> {
         let two_lock = is_shut_once(&rt, alloc, queue, seats, first);
         let (queue, seats) = linked::<NonBlockingAlgorithm>(alloc, 8, MOST_COUNT, &ROLES)?;
         let non_blocking = is_shut_once(&rt, alloc, queue, seats, first);
-        let (queue, seats) = ring(alloc, 8, 2, MOST_COUNT, &RING_ROLES)?;
+        let (queue, seats) = ring(alloc, 8, MOST_COUNT, &RING_ROLES)?;
         let ring = is_shut_once(&rt, alloc, queue, seats, first);
         let right = [two_lock, non_blocking, ring] == [Some(true); 3];
         assert!(rt;

@@ -1,7 +1,7 @@
 //! Values of several types through each queue of values, the ring too, by four threads.
 use super::runs::{Run, outcome};
 use crate::loads::{Load, Words};
-use crate::queues::{MOST_PLACE, RESERVE};
+use crate::queues::MOST_PLACE;
 use crate::works::Work;
 use node_arena::{MOST_COUNT, Role};
 use nonblocking::NonBlockingAlgorithm;
@@ -55,7 +55,7 @@ fn all_come<R: Threads + Wait + Sync, T: Load>(rt: &R, alloc: Global) -> Result<
                 alloc, 65, MOST_COUNT, &roles,
             )?;
             let non_blocking = outcome(rt, alloc, queue, seats, run);
-            let (queue, seats) = RingValues::<T>::new(alloc, 64, RESERVE, MOST_PLACE, &ring_roles)?;
+            let (queue, seats) = RingValues::<T>::new(alloc, 64, MOST_PLACE, &ring_roles)?;
             let ring = outcome(rt, alloc, queue, seats, run);
             for came in [two_lock, non_blocking, ring] {
                 right = right && matches!(came, Some(it) if it.is_right && it.pushed == pushed);

@@ -22,6 +22,6 @@ returns-clause-over g c =
     let roles = c.deref.ensures.value ∙ c.in_ok-roles.ensures.roles in
     IfOk-weaker c.results_over.result _ _ (λ r same. (
       made.seats.items,
-      subst (λ q. IsMade c.args.values 32 (2 ^ 62 - 1) (ring_crew_roles c.args.workers) q made.seats.items) (sym same)
-          (subst (λ rs. IsMade c.args.values 32 (2 ^ 62 - 1) rs made.queue made.seats.items) roles made.ensures.ok),
+      subst (λ q. IsMade c.args.values (2 ^ 62 - 1) (ring_crew_roles c.args.workers) q made.seats.items) (sym same)
+          (subst (λ rs. IsMade c.args.values (2 ^ 62 - 1) rs made.queue made.seats.items) roles made.ensures.ok),
     )) c.results_over.ensures.same

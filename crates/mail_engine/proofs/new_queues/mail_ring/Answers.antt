@@ -21,4 +21,4 @@ returns-clause-made c =
     let roles = c.deref.ensures.value ∙ c.in_ok-roles.ensures.roles in
     let whole : c.in_ok-queue.seats.items ≡ c.pop.new.self.items ++ c.in-Some.receiver ∷ [] = grind (arith, common_steps) in
     subst (IsMailRing c.args.values c.args.senders c.in_ok-queue.queue) whole
-    (subst (λ rs. IsMade c.args.values 32 (2 ^ 62 - 1) rs c.in_ok-queue.queue c.in_ok-queue.seats.items) roles c.in_ok-queue.ensures.ok)
+    (subst (λ rs. IsMade c.args.values (2 ^ 62 - 1) rs c.in_ok-queue.queue c.in_ok-queue.seats.items) roles c.in_ok-queue.ensures.ok)

@@ -82,15 +82,10 @@ pub fn shut(queue: &RingQueue, seat: &mut Seat) -> Result<(), Refusal>
 }
 
 /// A ring with seats for these roles.
-pub fn ring(
-    alloc: Global,
-    most: u32,
-    credits: u32,
-    roles: &[Role],
-) -> Result<(RingQueue, Vec<Seat>), Refusal>
+pub fn ring(alloc: Global, most: u32, roles: &[Role]) -> Result<(RingQueue, Vec<Seat>), Refusal>
     ensures { IfOk result (λ r. All (IsNumberSeat r.0) r.1.items) }
 {
-    RingQueue::new(alloc, most, credits, AMPLE, roles)
+    RingQueue::new(alloc, most, AMPLE, roles)
 }
 
 /// What is left of a ring that is closed by all its seats. With another number of them it answers `BadSize`, which no queue does.

@@ -15,10 +15,10 @@ fn values(alloc: Global, rest: Rest) -> Result<Vec<(u16, u64)>, Fail> {
     Ok(values)
 }
 
-/// Values that lie across the end of a ring of eight slots come in their order, each with who pushed it.
+/// Values that lie across the end of a ring of four slots come in their order, each with who pushed it.
 #[test]
 fn what_is_left_comes_in_order(rt: HostRuntime) -> Result<(), Fail> {
-    let (queue, mut seats) = ring(rt.alloc(), 3, 1, &[Role::Both; 2])?;
+    let (queue, mut seats) = ring(rt.alloc(), 3, &[Role::Both; 2])?;
     for body in 0..6 {
         same(&rt, push(&queue, &mut seats[0], body, 2), Ok(()), "a push");
         same(
@@ -50,10 +50,10 @@ fn what_is_left_comes_in_order(rt: HostRuntime) -> Result<(), Fail> {
     Ok(())
 }
 
-/// A place that was claimed behind the shut is left out.
+/// A push behind the shut leaves nothing.
 #[test]
-fn a_mark_is_no_value(rt: HostRuntime) -> Result<(), Fail> {
-    let (queue, mut seats) = ring(rt.alloc(), 4, 2, &[Role::Both])?;
+fn a_push_behind_the_shut_leaves_nothing(rt: HostRuntime) -> Result<(), Fail> {
+    let (queue, mut seats) = ring(rt.alloc(), 4, &[Role::Both])?;
     same(&rt, push(&queue, &mut seats[0], 5, 1), Ok(()), "the value");
     same(&rt, shut(&queue, &mut seats[0]), Ok(()), "the shut");
     let closed = Err(Refusal::Closed);

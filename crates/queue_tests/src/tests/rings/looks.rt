@@ -17,11 +17,10 @@ fn told(queue: &RingQueue, seat: &mut Seat) -> (RingEmptiness, u64, u64)
     (found, len.least, len.most)
 }
 
-/// Of a ring with values the length is one number; behind a shut all reserves, here of 4 places, are taken off the lesser bound,
-/// and a place that was claimed behind the shut counts for the greater one.
+/// Of a ring with values the length is one number, of one that is shut too; a push behind the shut claims no place.
 #[test]
 fn a_look_tells_what_is_there(rt: HostRuntime) -> Result<(), Fail> {
-    let (queue, mut seats) = ring(rt.alloc(), 8, 2, &[Role::Both; 2])?;
+    let (queue, mut seats) = ring(rt.alloc(), 8, &[Role::Both; 2])?;
     let mut seat = last(&queue, &mut seats)?;
     let mut other = last(&queue, &mut seats)?;
     same(
@@ -55,7 +54,7 @@ fn a_look_tells_what_is_there(rt: HostRuntime) -> Result<(), Fail> {
     same(
         &rt,
         told(&queue, &mut seat),
-        (RingEmptiness::Holds, 2, 6),
+        (RingEmptiness::Holds, 6, 6),
         "shut",
     );
     for body in 1..7 {
@@ -73,9 +72,8 @@ fn a_look_tells_what_is_there(rt: HostRuntime) -> Result<(), Fail> {
         &rt,
         push(&queue, &mut seat, 7, 1),
         closed,
-        "from the reserve",
+        "behind the shut",
     );
-    let mark = (RingEmptiness::ShutEmpty, 0, 1);
-    same(&rt, told(&queue, &mut other), mark, "with a place claimed");
+    same(&rt, told(&queue, &mut other), none, "no place claimed");
     Ok(())
 }

@@ -8,28 +8,18 @@ use std::test::Fail;
 /// How many calls one seat makes alone.
 const ALONE: u64 = 10_000;
 
-/// Each reply before and behind a shut: of a seat with places in reserve, of one without, and of seats that pop.
+/// Each reply before and behind a shut: of a seat that pushed before, of one that didn't, and of seats that pop.
 #[test]
 fn a_shut_stops_pushes_and_then_pops(rt: HostRuntime) -> Result<(), Fail> {
     let roles = [Role::Giver, Role::Giver, Role::Taker];
-    let (queue, mut seats) = ring(rt.alloc(), 8, 2, &roles)?;
+    let (queue, mut seats) = ring(rt.alloc(), 8, &roles)?;
     let mut taker = last(&queue, &mut seats)?;
     let mut other = last(&queue, &mut seats)?;
     let mut giver = last(&queue, &mut seats)?;
     same(&rt, pop(&queue, &mut taker, 1), Ok(None), "empty");
     same(&rt, push(&queue, &mut giver, 7, 1), Ok(()), "the first");
-    same(
-        &rt,
-        push(&queue, &mut giver, 8, 1),
-        Ok(()),
-        "from the reserve",
-    );
-    same(
-        &rt,
-        push(&queue, &mut giver, 9, 1),
-        Ok(()),
-        "one left in reserve",
-    );
+    same(&rt, push(&queue, &mut giver, 8, 1), Ok(()), "the second");
+    same(&rt, push(&queue, &mut giver, 9, 1), Ok(()), "the third");
     same(&rt, shut(&queue, &mut giver), Ok(()), "the shut");
     same(
         &rt,
@@ -42,9 +32,9 @@ fn a_shut_stops_pushes_and_then_pops(rt: HostRuntime) -> Result<(), Fail> {
         &rt,
         push(&queue, &mut giver, 1, 1),
         closed,
-        "with a place in reserve",
+        "behind the shut",
     );
-    same(&rt, push(&queue, &mut giver, 2, 1), closed, "with none");
+    same(&rt, push(&queue, &mut giver, 2, 1), closed, "once more");
     same(&rt, push(&queue, &mut other, 3, 1), closed, "of the other");
     for body in [7, 8, 9] {
         same(
@@ -68,7 +58,7 @@ fn a_shut_stops_pushes_and_then_pops(rt: HostRuntime) -> Result<(), Fail> {
 /// A seat that pops alone pushes nothing, and one that pushes alone pops nothing.
 #[test]
 fn seats_call_by_their_roles(rt: HostRuntime) -> Result<(), Fail> {
-    let (queue, mut seats) = ring(rt.alloc(), 8, 2, &[Role::Giver, Role::Taker])?;
+    let (queue, mut seats) = ring(rt.alloc(), 8, &[Role::Giver, Role::Taker])?;
     let mut taker = last(&queue, &mut seats)?;
     let mut giver = last(&queue, &mut seats)?;
     same(
@@ -86,10 +76,10 @@ fn seats_call_by_their_roles(rt: HostRuntime) -> Result<(), Fail> {
     Ok(())
 }
 
-/// A pop whose head is two laps old finds there the mark of a place behind the shut, and goes on to the value before it.
+/// A seat whose head and tail are many laps old goes on from where the ring is.
 #[test]
 fn an_old_head_goes_on(rt: HostRuntime) -> Result<(), Fail> {
-    let (queue, mut seats) = ring(rt.alloc(), 1, 2, &[Role::Both; 3])?;
+    let (queue, mut seats) = ring(rt.alloc(), 8, &[Role::Both; 3])?;
     let mut old = last(&queue, &mut seats)?;
     let mut late = last(&queue, &mut seats)?;
     let mut seat = last(&queue, &mut seats)?;
@@ -111,12 +101,13 @@ fn an_old_head_goes_on(rt: HostRuntime) -> Result<(), Fail> {
         );
     }
     same(&rt, push(&queue, &mut seat, 23, 2), Ok(()), "place 23");
+    same(&rt, push(&queue, &mut late, 24, 1), Ok(()), "place 24");
     same(&rt, shut(&queue, &mut seat), Ok(()), "the shut");
     same(
         &rt,
-        push(&queue, &mut late, 2, 2),
+        push(&queue, &mut old, 2, 1),
         Err(Refusal::Closed),
-        "place 24",
+        "behind the shut",
     );
     same(
         &rt,
@@ -124,6 +115,7 @@ fn an_old_head_goes_on(rt: HostRuntime) -> Result<(), Fail> {
         Ok(Some((1, 23))),
         "the value before",
     );
+    same(&rt, pop(&queue, &mut old, 2), Ok(Some((2, 24))), "the last");
     same(
         &rt,
         pop(&queue, &mut old, 2),
@@ -133,12 +125,12 @@ fn an_old_head_goes_on(rt: HostRuntime) -> Result<(), Fail> {
     Ok(())
 }
 
-/// A ring of four slots goes up to place 9 where the limit is 10; what is in it is popped, and a shut is still made.
+/// A ring of two slots goes up to place 9 where the limit is 10; what is in it is popped, and a shut is still made.
 #[test]
 fn places_are_used_up(rt: HostRuntime) -> Result<(), Fail> {
-    let (queue, mut seats) = RingQueue::new(rt.alloc(), 2, 1, 10, &[Role::Both])?;
+    let (queue, mut seats) = RingQueue::new(rt.alloc(), 2, 10, &[Role::Both])?;
     let mut seat = last(&queue, &mut seats)?;
-    for body in 4..10 {
+    for body in 2..10 {
         same(&rt, push(&queue, &mut seat, body, 1), Ok(()), "a place");
         if body < 9 {
             same(
@@ -169,32 +161,28 @@ fn places_are_used_up(rt: HostRuntime) -> Result<(), Fail> {
     Ok(())
 }
 
-/// A push of many pushes as many as are in reserve, in their order; behind a shut it pushes none, and leaves its places marked.
+/// A push of many pushes as many as there is room for, in their order; behind a shut it pushes none.
 #[test]
 fn many_are_pushed_at_one_step(rt: HostRuntime) -> Result<(), Fail> {
-    let (queue, mut seats) = ring(rt.alloc(), 8, 3, &[Role::Both])?;
+    let (queue, mut seats) = ring(rt.alloc(), 6, &[Role::Both])?;
     let mut seat = last(&queue, &mut seats)?;
     let bodies = [4, 5, 6, 7, 8];
-    same(
-        &rt,
-        push_all(&queue, &mut seat, &bodies),
-        Ok(3),
-        "the reserve",
-    );
-    same(
-        &rt,
-        push_all(&queue, &mut seat, &bodies[3..4]),
-        Ok(1),
-        "one",
-    );
-    same(&rt, queue.reserve(&seat), 2, "two are left");
+    same(&rt, push_all(&queue, &mut seat, &bodies), Ok(5), "all");
     same(
         &rt,
         push_all(&queue, &mut seat, &bodies[..0]),
         Ok(0),
         "none",
     );
-    for body in [4, 5, 6, 7] {
+    same(
+        &rt,
+        push_all(&queue, &mut seat, &bodies),
+        Ok(1),
+        "as there is room for",
+    );
+    let full = Err(Refusal::NoNode);
+    same(&rt, push_all(&queue, &mut seat, &bodies), full, "full");
+    for body in [4, 5, 6, 7, 8, 4] {
         same(&rt, pop(&queue, &mut seat, 1), Ok(Some((1, body))), "a pop");
     }
     same(&rt, shut(&queue, &mut seat), Ok(()), "the shut");
@@ -203,9 +191,8 @@ fn many_are_pushed_at_one_step(rt: HostRuntime) -> Result<(), Fail> {
         &rt,
         push_all(&queue, &mut seat, &bodies),
         closed,
-        "two places",
+        "behind the shut",
     );
-    same(&rt, queue.reserve(&seat), 0, "both were claimed");
     same(
         &rt,
         pop(&queue, &mut seat, 1),
@@ -215,10 +202,10 @@ fn many_are_pushed_at_one_step(rt: HostRuntime) -> Result<(), Fail> {
     Ok(())
 }
 
-/// A pop of many takes as many as are there, or as it is to, across the end of eight slots too, and stops at a mark.
+/// A pop of many takes as many as are there, or as it is to, across the end of four slots too.
 #[test]
 fn many_are_popped_at_one_step(rt: HostRuntime) -> Result<(), Fail> {
-    let (queue, mut seats) = ring(rt.alloc(), 4, 4, &[Role::Both])?;
+    let (queue, mut seats) = ring(rt.alloc(), 4, &[Role::Both])?;
     let mut seat = last(&queue, &mut seats)?;
     let mut values = Vec::with_capacity(rt.alloc(), 32)?;
     same(
@@ -275,7 +262,7 @@ fn many_are_popped_at_one_step(rt: HostRuntime) -> Result<(), Fail> {
 /// One seat alone with one turn a call is never refused by `Busy`.
 #[test]
 fn one_seat_alone_is_never_busy(rt: HostRuntime) -> Result<(), Fail> {
-    let (queue, mut seats) = ring(rt.alloc(), 3, 2, &[Role::Both])?;
+    let (queue, mut seats) = ring(rt.alloc(), 3, &[Role::Both])?;
     let mut seat = last(&queue, &mut seats)?;
     let mut busy = 0u64;
     let mut number = 1u64;
@@ -296,38 +283,19 @@ fn one_seat_alone_is_never_busy(rt: HostRuntime) -> Result<(), Fail> {
     Ok(())
 }
 
-/// A push with a place in reserve ends in one turn, however far others have come.
+/// A push of one turn is done, however far others have come since its seat's last one.
 #[test]
-fn a_reserve_needs_no_turn_more(rt: HostRuntime) -> Result<(), Fail> {
-    let (queue, mut seats) = ring(rt.alloc(), 4, 2, &[Role::Both; 2])?;
+fn an_old_tail_costs_no_turn(rt: HostRuntime) -> Result<(), Fail> {
+    let (queue, mut seats) = ring(rt.alloc(), 4, &[Role::Both; 2])?;
     let mut other = last(&queue, &mut seats)?;
     let mut seat = last(&queue, &mut seats)?;
-    same(&rt, queue.reserve(&seat), 0, "a new seat");
-    same(
-        &rt,
-        push(&queue, &mut seat, 1, 1),
-        Ok(()),
-        "fills the reserve",
-    );
-    same(&rt, queue.reserve(&seat), 1, "one was claimed");
+    same(&rt, push(&queue, &mut seat, 1, 1), Ok(()), "the first");
     for body in 0..100 {
         same(&rt, pop(&queue, &mut other, 2).is_ok(), true, "a pop");
         same(&rt, push(&queue, &mut other, body, 2), Ok(()), "a push");
     }
-    same(
-        &rt,
-        push(&queue, &mut seat, 2, 1),
-        Ok(()),
-        "from the reserve",
-    );
-    same(&rt, queue.reserve(&seat), 0, "both were claimed");
-    same(
-        &rt,
-        push(&queue, &mut seat, 3, 1),
-        Err(Refusal::Busy),
-        "it read Head long ago",
-    );
-    same(&rt, push(&queue, &mut seat, 3, 1), Ok(()), "and now lately");
+    same(&rt, push(&queue, &mut seat, 2, 1), Ok(()), "its second one");
+    same(&rt, push(&queue, &mut seat, 3, 1), Ok(()), "and a third");
     queue.meet(&mut seat, &mut other);
     Ok(())
 }

@@ -75,7 +75,7 @@ fn takes(queue: &RingQueue, mut seat: Seat) -> Tally
 #[test]
 fn values_come_once_and_in_order(rt: HostRuntime) -> Result<(), Fail> {
     let roles = [Role::Giver, Role::Giver, Role::Taker, Role::Taker];
-    let (queue, mut seats) = ring(rt.alloc(), 16, 4, &roles)?;
+    let (queue, mut seats) = ring(rt.alloc(), 16, &roles)?;
     let fourth = last(&queue, &mut seats)?;
     let third = last(&queue, &mut seats)?;
     let second = last(&queue, &mut seats)?;

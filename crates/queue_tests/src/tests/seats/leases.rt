@@ -28,7 +28,7 @@ fn ring_pool_of(alloc: Global) -> Result<SeatPool<RingQueue>, Refusal>
         ≡ length (permits_in (queue_in (store_of pool)))) }
 {
     let roles = [RingRole::Giver, RingRole::Taker];
-    let (queue, seats) = RingQueue::new(alloc, 8, 2, 1 << 40, &roles)?;
+    let (queue, seats) = RingQueue::new(alloc, 8, 1 << 40, &roles)?;
     SeatPool::new(alloc, queue, seats)
 }
 

@@ -1,14 +1,9 @@
-use Rattle.std.proofs.Common.{◌+◌, ◌-◌, ◌%◌, ◌^◌, ◌++◌, sym, ap, ◌∙◌, arith}
+use Rattle.std.proofs.Common.{◌+◌, ◌-◌, ◌++◌, sym, ap, ◌∙◌, arith}
 use Rattle.std.specs.Slots.{slots_items}
 use Rattle.ring_queue.specs.Steps.{taken_in}
 use Rattle.ring_queue.specs.Remains.{values_from}
-use Rattle.ring_queue.proofs.Lefts.{one_read, mark_read}
+use Rattle.ring_queue.proofs.Lefts.{one_read}
 use Rattle.ring_queue.proofs.remains.values_left.Goals as goal
-
-pub returns-then-word-eq0 : goal.returns-then-word-eq0
-returns-then-word-eq0 g c =
-    sym (mark_read c.args.slots (slots_items c.args.closed.now.words) _ c.loop-place.values.items c.loop-place.place c.args.tail c.loop-place.invariant.told c.loop-place-test.true
-    (ap (λ w. w % 2 ^ 63) (sym c.word_at-word.ensures) ∙ c.if-word-eq0.true))
 
 pub loop-place-preserved : goal.loop-place-preserved
 loop-place-preserved g c =
@@ -18,7 +13,7 @@ loop-place-preserved g c =
     let words = slots_items c.args.closed.now.words in
     record {
       told = one_read c.args.slots words _ c.loop-place.values.items c.loop-place.place c.args.tail c.loop-place.invariant.told c.taken_of.result c.loop-place-test.true
-          (λ e. c.if-word-eq0.false (ap (λ w. w % 2 ^ 63) c.word_at-word.ensures ∙ e)) (c.taken_of.ensures ∙ ap taken_in c.word_at-word.ensures)
+          (c.taken_of.ensures ∙ ap taken_in c.word_at-word.ensures)
           ∙ ap (λ xs. xs ++ values_from c.args.slots words (c.loop-place.place + 1) (c.args.tail - (c.loop-place.place + 1))) (sym pushed);
       len = omega (arith, longer, c.loop-place.invariant.len);
       room = omega (arith, more, c.loop-place.invariant.room);

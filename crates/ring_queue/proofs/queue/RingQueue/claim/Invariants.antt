@@ -3,5 +3,5 @@ use Rattle.ring_queue.specs.Beside.{TellsBeside}
 use Rattle.ring_queue.specs.Steps.{pushes, PlacesClaimed}
 use Rattle.ring_queue.proofs.queue.RingQueue.claim.Given as goal
 
-abbrev pub ghosts-fetch_add : goal.ghosts-fetch_add
-ghosts-fetch_add g a = record { then = λ _ me. TellsBeside a.self.now.key.carries a.self.now.key (pushes (knows me.0.plain).number g.pushed) (PlacesClaimed a.self.now.key g.pushed) me }
+abbrev pub ghosts-compare_exchange : goal.ghosts-compare_exchange
+ghosts-compare_exchange g a = record { then = λ _ me. TellsBeside a.self.now.key.carries a.self.now.key (pushes (knows me.0.plain).number g.pushed) (PlacesClaimed a.self.now.key g.pushed) me }

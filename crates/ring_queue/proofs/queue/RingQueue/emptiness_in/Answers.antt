@@ -1,6 +1,6 @@
-use Rattle.std.proofs.Common.{◌+◌, ◌^◌, sym, refl, ap, ◌∙◌, arith}
+use Rattle.std.proofs.Common.{◌+◌, ◌^◌, ap, ◌∙◌, arith}
 use Rattle.ring_queue.specs.Seats.{known_of}
-use Rattle.ring_queue.proofs.Bounds.{empty_found, shut_empty_found, holds_found, shut_found}
+use Rattle.ring_queue.proofs.Bounds.{empty_found, shut_empty_found, holds_found}
 use Rattle.ring_queue.proofs.Moved.{stays_on}
 use Rattle.ring_queue.proofs.queue.RingQueue.emptiness_in.Goals as goal
 
@@ -16,25 +16,7 @@ returns-then-tail-seat-2-clause-found g c =
     let first = c.look_at_head.ensures in
     let tail = c.see_tail-tail.ensures in
     shut_empty_found c.args.self.now.plan (known_of c.args.seat.now) (known_of c.look_at_head.new.seat) (known_of c.see_tail-tail.new.seat) c.see_tail-tail.result c.look_at_head.new.seat.head
-    first.sees first.counts tail.sees tail.holds (c.if-tail-seat-2.true ∙ ap (λ h. h + 2 ^ 62) tail.head)
-
-pub returns-then-tail-ge-SHUT-clause-found : goal.returns-then-tail-ge-SHUT-clause-found
-returns-then-tail-ge-SHUT-clause-found g c =
-    let first = c.look_at_head.ensures in
-    let tail = c.see_tail-tail.ensures in
-    shut_found c.args.self.now.plan (known_of c.args.seat.now) (known_of c.look_at_head.new.seat) (known_of c.see_tail-tail.new.seat) c.see_tail-tail.result c.look_at_head.new.seat.head
-    first.sees first.counts tail.sees tail.holds c.see_tail-tail.new.seat c.shut_emptiness.new.seat c.shut_emptiness.result refl tail.head c.if-tail-ge-SHUT.true
-    (λ e. c.if-tail-seat-2.false (e ∙ ap (λ h. h + 2 ^ 62) (sym tail.head))) c.shut_emptiness.ensures.says
-
-pub returns-clause-found : goal.returns-clause-found
-returns-clause-found g c =
-    let first = c.look_at_head.ensures in
-    let tail = c.see_tail-tail.ensures in
-    let last = c.look_at_head-2.ensures in
-    let small = c.if-tail-ge-SHUT.false in
-    let below = c.if-tail-seat-3.false in
-    holds_found c.args.self.now.plan (known_of c.args.seat.now) (known_of c.look_at_head.new.seat) (known_of c.see_tail-tail.new.seat) c.see_tail-tail.result c.look_at_head.new.seat.head
-    first.sees first.counts tail.sees tail.holds (known_of c.look_at_head-2.new.seat) c.look_at_head-2.new.seat.head last.sees last.counts (omega (arith, small)) (omega (arith, below))
+    first.sees first.counts tail.sees tail.holds first.seat.sits.below (c.if-tail-seat-2.true ∙ ap (λ h. h + 2 ^ 62) tail.head)
 
 pub returns-then-tail-seat-clause-slots : goal.returns-then-tail-seat-clause-slots
 returns-then-tail-seat-clause-slots g c = stays_on c.args.seat.now c.look_at_head.new.seat c.see_tail-tail.new.seat c.look_at_head.ensures.slots c.see_tail-tail.ensures.slots
@@ -42,17 +24,16 @@ returns-then-tail-seat-clause-slots g c = stays_on c.args.seat.now c.look_at_hea
 pub returns-then-tail-seat-2-clause-slots : goal.returns-then-tail-seat-2-clause-slots
 returns-then-tail-seat-2-clause-slots g c = stays_on c.args.seat.now c.look_at_head.new.seat c.see_tail-tail.new.seat c.look_at_head.ensures.slots c.see_tail-tail.ensures.slots
 
-pub returns-then-tail-ge-SHUT-clause-slots : goal.returns-then-tail-ge-SHUT-clause-slots
-returns-then-tail-ge-SHUT-clause-slots g c =
-    stays_on c.args.seat.now c.see_tail-tail.new.seat c.shut_emptiness.new.seat
-    (stays_on c.args.seat.now c.look_at_head.new.seat c.see_tail-tail.new.seat c.look_at_head.ensures.slots c.see_tail-tail.ensures.slots) c.shut_emptiness.ensures.slots
-
-pub returns-then-tail-seat-3-clause-slots : goal.returns-then-tail-seat-3-clause-slots
-returns-then-tail-seat-3-clause-slots g c =
-    stays_on c.args.seat.now c.see_tail-tail.new.seat c.look_at_head-2.new.seat
-    (stays_on c.args.seat.now c.look_at_head.new.seat c.see_tail-tail.new.seat c.look_at_head.ensures.slots c.see_tail-tail.ensures.slots) c.look_at_head-2.ensures.slots
-
 pub returns-clause-slots : goal.returns-clause-slots
 returns-clause-slots g c =
     stays_on c.args.seat.now c.see_tail-tail.new.seat c.look_at_head-2.new.seat
     (stays_on c.args.seat.now c.look_at_head.new.seat c.see_tail-tail.new.seat c.look_at_head.ensures.slots c.see_tail-tail.ensures.slots) c.look_at_head-2.ensures.slots
+
+pub returns-clause-found : goal.returns-clause-found
+returns-clause-found g c =
+    let first = c.look_at_head.ensures in
+    let tail = c.see_tail-tail.ensures in
+    let last = c.look_at_head-2.ensures in
+    let below = c.if-places-seat.false in
+    holds_found c.args.self.now.plan (known_of c.args.seat.now) (known_of c.look_at_head.new.seat) (known_of c.see_tail-tail.new.seat) c.see_tail-tail.result c.look_at_head.new.seat.head
+    first.sees first.counts tail.sees tail.holds (known_of c.look_at_head-2.new.seat) last.sees (last.some (omega (arith, below)))

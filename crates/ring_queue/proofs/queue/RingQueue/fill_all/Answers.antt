@@ -1,7 +1,7 @@
-use Rattle.std.proofs.Common.{◌≡◌, ◌+◌, drop, ap, ◌∙◌, arith}
+use Rattle.std.proofs.Common.{◌≡◌, ◌+◌, Some, drop, ap, ◌∙◌, arith}
 use Rattle.ring_queue.specs.Words.{payload}
 use Rattle.ring_queue.specs.Knowledge.{standing}
-use Rattle.ring_queue.specs.Steps.{next_stage, content, contents}
+use Rattle.ring_queue.specs.Steps.{next_stage, contents}
 use Rattle.ring_queue.specs.Seats.{known_of}
 use Rattle.ring_queue.proofs.Fillings.{fillings_at, number_small}
 use Rattle.ring_queue.proofs.queue.RingQueue.fill_all.Goals as goal
@@ -14,10 +14,10 @@ fill-requires-clause-claimed g c =
     let n = (known_of c.args.seat.now).number in
     let sits = c.loop-i.invariant.sits in
     let its : c.loop-i.seat.number ≡ n = sits.number ∙ ap (λ k. k.number) c.loop-i.invariant.known in (
-      content c.args.shut n c.index-bodies-i.result,
-      drop (c.loop-i.i + 1) (contents c.args.shut n c.args.bodies.now),
-      c.loop-i.invariant.stage ∙ ap (standing (c.args.place + c.loop-i.i)) (fillings_at c.args.shut n c.args.bodies.now c.loop-i.i c.index-bodies-i.result c.loop-i-test.true c.index-bodies-i.is),
-      c.payload_of-payload.ensures.value ∙ ap (λ k. payload (content c.args.shut k c.index-bodies-i.result)) its,
+      Some (record { from = n; body = c.index-bodies-i.result }),
+      drop (c.loop-i.i + 1) (contents n c.args.bodies.now),
+      c.loop-i.invariant.stage ∙ ap (standing (c.args.place + c.loop-i.i)) (fillings_at n c.args.bodies.now c.loop-i.i c.index-bodies-i.result c.loop-i-test.true c.index-bodies-i.is),
+      c.payload_of-payload.ensures.value ∙ ap (λ k. payload (Some (record { from = k; body = c.index-bodies-i.result }))) its,
     )
 
 pub loop-i-preserved : goal.loop-i-preserved
@@ -28,10 +28,10 @@ loop-i-preserved g c =
     record {
       sits = c.fill.ensures.seat;
       name = record { number = name.number ∙ before.number; role = name.role ∙ before.role };
-      reserve = c.fill.ensures.reserve ∙ c.loop-i.invariant.reserve;
+      places = (c.fill.ensures.places.0 ∙ c.loop-i.invariant.places.0, c.fill.ensures.places.1 ∙ c.loop-i.invariant.places.1);
       known = c.fill.ensures.known ∙ c.loop-i.invariant.known;
       stage = c.fill.ensures.stage
           ∙ ap next_stage (c.loop-i.invariant.stage ∙ ap (standing (c.args.place + c.loop-i.i))
-          (fillings_at c.args.shut n c.args.bodies.now c.loop-i.i c.index-bodies-i.result c.loop-i-test.true c.index-bodies-i.is))
-          ∙ ap (λ p. standing p (drop (c.loop-i.i + 1) (contents c.args.shut n c.args.bodies.now))) (let e : c.args.place + c.loop-i.i + 1 ≡ c.args.place + (c.loop-i.i + 1) = omega arith in e);
+          (fillings_at n c.args.bodies.now c.loop-i.i c.index-bodies-i.result c.loop-i-test.true c.index-bodies-i.is))
+          ∙ ap (λ p. standing p (drop (c.loop-i.i + 1) (contents n c.args.bodies.now))) (let e : c.args.place + c.loop-i.i + 1 ≡ c.args.place + (c.loop-i.i + 1) = omega arith in e);
     }

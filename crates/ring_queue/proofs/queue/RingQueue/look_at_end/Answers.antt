@@ -4,12 +4,15 @@ use Rattle.ring_queue.specs.Seats.{view}
 use Rattle.ring_queue.proofs.Lines.{reads_end}
 use Rattle.ring_queue.proofs.Calls.{reads}
 use Rattle.ring_queue.proofs.Asks.{asks}
+use Rattle.ring_queue.specs.Paths.{P4}
+use Rattle.ring_queue.proofs.Runs.{ran_read}
 use Rattle.ring_queue.proofs.queue.RingQueue.look_at_end.Goals as goal
 
 pub load-tail-requires : goal.load-tail-requires
 load-tail-requires g c =
     let q = c.args.self.now in
-    let sits = c.requires.sits in
+    let sits = c.requires.ready.sits in
     let words = q.laid.words in
     asks q.plan q.table.shared.key q.table.shared.table_id c.args.seat.now EndFound q.laid 0 (λ n. n) sits (omega (arith, words))
-    (reads q.plan 0 (view c.args.seat.now) (EndFound q.plan) (λ ws seats r is. reads_end q.plan ws seats r (view c.args.seat.now) is c.requires.rests))
+    (reads q.plan 0 (view c.args.seat.now) (EndFound q.plan) (λ ws seats r is. reads_end q.plan ws seats r (view c.args.seat.now) is c.requires.ready.rests c.requires.due))
+    (λ n v' k. ran_read q.plan P4 0 n (view c.args.seat.now) v' k.went)

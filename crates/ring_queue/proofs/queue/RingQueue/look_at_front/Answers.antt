@@ -3,6 +3,8 @@ use Rattle.ring_queue.specs.Steps.{FrontFound}
 use Rattle.ring_queue.specs.Seats.{view}
 use Rattle.ring_queue.proofs.Calls.{fronts_there}
 use Rattle.ring_queue.proofs.Asks.{asks}
+use Rattle.ring_queue.specs.Paths.{P2}
+use Rattle.ring_queue.proofs.Runs.{ran_read_at}
 use Rattle.ring_queue.proofs.queue.RingQueue.look_at_front.Goals as goal
 
 pub load-word-requires : goal.load-word-requires
@@ -15,3 +17,4 @@ load-word-requires g c =
     let within = slot.within in
     asks q.plan q.table.shared.key q.table.shared.table_id s FrontFound q.laid (32 + 2 * c.slot_of-slot.result) (λ n. n) sits (omega (arith, words, within))
     (fronts_there q.plan (view s) _ c.requires.rests (ap (λ k. 32 + 2 * k) (slot.value ∙ ap (λ h. h % q.plan.slots) sits.head)))
+    (λ n v' k. ran_read_at q.plan P2 (32 + 2 * c.slot_of-slot.result) _ n (view s) v' (ap (λ k. 32 + 2 * k) (slot.value ∙ ap (λ h. h % q.plan.slots) sits.head)) k.went)

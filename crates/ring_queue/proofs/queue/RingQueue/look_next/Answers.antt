@@ -3,6 +3,8 @@ use Rattle.ring_queue.specs.Steps.{NextFound}
 use Rattle.ring_queue.specs.Seats.{view}
 use Rattle.ring_queue.proofs.Calls.{nexts_there}
 use Rattle.ring_queue.proofs.Asks.{asks}
+use Rattle.ring_queue.specs.Paths.{P5}
+use Rattle.ring_queue.proofs.Runs.{ran_read_at}
 use Rattle.ring_queue.proofs.queue.RingQueue.look_next.Goals as goal
 
 pub load-word-requires : goal.load-word-requires
@@ -19,3 +21,5 @@ load-word-requires g c =
     asks q.plan q.table.shared.key q.table.shared.table_id s (λ y. NextFound y g.before) q.laid (32 + 2 * c.slot_of-slot.result) (λ n. n) sits (omega (arith, words, within))
     (nexts_there q.plan (view s) _ g.before c.requires.1.0.rests c.requires.1.1.0 (omega (arith, few, counted, ap length same))
     (ap (λ k. 32 + 2 * k) (slot.value ∙ ap (λ h. h % q.plan.slots) (λ i. sits.head i + (counted ∙ sym (ap length same)) i))))
+    (λ n v' k. ran_read_at q.plan P5 (32 + 2 * c.slot_of-slot.result) _ n (view s) v'
+    (ap (λ k. 32 + 2 * k) (slot.value ∙ ap (λ h. h % q.plan.slots) (λ i. sits.head i + (counted ∙ sym (ap length same)) i))) k.went)

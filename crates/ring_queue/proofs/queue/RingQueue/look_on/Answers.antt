@@ -2,7 +2,8 @@ use Rattle.std.proofs.Common.{ap, sym, ◌∙◌, arith}
 use Rattle.std.proofs.lemmas.List.{length-set}
 use Rattle.history.proofs.Learning.{sees_then}
 use Rattle.ring_queue.specs.Knowledge.{found}
-use Rattle.ring_queue.proofs.Batching.{take_set, values_more}
+use Rattle.ring_queue.proofs.Batching.{take_set}
+use Rattle.ring_queue.proofs.Tries.{tried_then}
 use Rattle.ring_queue.proofs.queue.RingQueue.look_on.Goals as goal
 
 pub loop-count-preserved : goal.loop-count-preserved
@@ -20,9 +21,9 @@ loop-count-preserved g c =
       name = record { number = name.number ∙ before.number; role = name.role ∙ before.role };
       sees = sees_then _ _ _ inv.sees next.sees;
       head = next.head ∙ inv.head;
-      found = next.found.0 ∙ ap found (sym same);
-      values = values_more _ _ c.in-Some.word same inv.values next.found.1;
+      found = next.found ∙ ap found (sym same);
       some = omega (arith, low);
       few = omega (arith, lt);
       long = length-set c.loop-count.words c.loop-count.count c.in-Some.word ∙ inv.long;
+      tried = tried_then c.args.seat.now c.loop-count.seat c.look_next.new.seat 0 0 inv.tried next.tried;
     }

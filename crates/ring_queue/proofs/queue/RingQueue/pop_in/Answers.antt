@@ -1,8 +1,9 @@
 use Rattle.std.proofs.Common.{Some, ◌∙◌}
 use Rattle.history.proofs.Learning.{answers_then, sees_then}
 use Rattle.ring_queue.specs.Seats.{view}
-use Rattle.ring_queue.proofs.Moved.{stays_on, then_takes}
+use Rattle.ring_queue.proofs.Moved.{stays_on, then_takes, none_stays}
 use Rattle.ring_queue.proofs.Turns.{failed_more}
+use Rattle.ring_queue.proofs.Tries.{tried_then}
 use Rattle.ring_queue.proofs.queue.RingQueue.pop_in.Goals as goal
 
 pub returns-in-Took-clause-answer : goal.returns-in-Took-clause-answer
@@ -19,6 +20,7 @@ loop-preserved g c =
       stays_on c.args.seat.now c.loop.seat c.pop_turn.new.seat c.loop.invariant.3 c.in-Failed.ensures.moves,
       failed_more c.args.self.now.plan (view c.args.seat.now).seen c.loop.invariant.2.between c.args.seat.now.head c.loop.counter c.loop.seat
           c.pop_turn.new.seat c.loop.invariant.2.seen says.0 c.loop.invariant.4 says.1,
+      tried_then c.args.seat.now c.loop.seat c.pop_turn.new.seat c.loop.counter 1 c.loop.invariant.5 c.in-Failed.ensures.tried,
     )
 
 pub returns-in-Took-clause-moves : goal.returns-in-Took-clause-moves
@@ -29,3 +31,6 @@ returns-in-Empty-clause-moves g c = stays_on c.args.seat.now c.loop.seat c.pop_t
 
 pub returns-in-Closed-clause-kept : goal.returns-in-Closed-clause-kept
 returns-in-Closed-clause-kept g c = stays_on c.args.seat.now c.loop.seat c.pop_turn.new.seat c.loop.invariant.3 c.in-Closed.ensures.moves
+
+pub pop_turn-requires-clause-none : goal.pop_turn-requires-clause-none
+pop_turn-requires-clause-none g c carried = none_stays c.args.seat.now c.loop.seat c.loop.invariant.3 (c.requires.none carried)

@@ -1,29 +1,32 @@
-use Rattle.history.proofs.Learning.{sees_itself}
-use Rattle.ring_queue.specs.Seats.{known_of, view}
-use Rattle.ring_queue.proofs.Moved.{ready_push, still_loaded, gives_after, kept_after}
-use Rattle.ring_queue.proofs.Turns.{done_after, refused_after}
+use Rattle.std.proofs.Common.{◌∙◌, arith}
+use Rattle.history.proofs.Learning.{sees_then}
+use Rattle.ring_queue.proofs.Moved.{stays_on, then_gives, still_loaded}
+use Rattle.ring_queue.proofs.Pushing.{stopped_after}
+use Rattle.ring_queue.proofs.Tries.{tried_then}
 use Rattle.ring_queue.proofs.queue.RingQueue.push_in.Goals as goal
 
-pub returns-clause-pushed : goal.returns-clause-pushed
-returns-clause-pushed g c = done_after _ _ _ _ c.args.body c.push_reserved-2.result c.in_ok-refill.ensures.done.sees (sees_itself _) c.push_reserved-2.ensures.pushed
+pub returns-in-Done-clause-gives : goal.returns-in-Done-clause-gives
+returns-in-Done-clause-gives g c =
+    then_gives c.args.self.now.plan c.args.body c.args.seat.now c.loop.seat c.push_turn.new.seat c.loop.invariant.2.number c.loop.invariant.3 c.in-Done.ensures.moves
 
-pub returns-clause-refused : goal.returns-clause-refused
-returns-clause-refused g c =
-    refused_after (known_of c.args.seat.now) (known_of c.refill.new.seat) (known_of c.refill.new.seat) (known_of c.push_reserved-2.new.seat) c.push_reserved-2.result
-    c.in_ok-refill.ensures.done.sees (sees_itself _) c.push_reserved-2.ensures.shut
+pub returns-in-Stopped-clause-refused : goal.returns-in-Stopped-clause-refused
+returns-in-Stopped-clause-refused g c =
+    (stopped_after c.args.self.now.plan c.args.seat.now c.loop.seat c.push_turn.new.seat c.loop.invariant.2 c.in-Stopped.refusal c.in-Stopped.ensures.says).refused
 
-pub push_reserved-requires-clause-loaded : goal.push_reserved-requires-clause-loaded
-push_reserved-requires-clause-loaded g c = ready_push c.args.self.now.plan.carries c.args.self.now.plan.slots (view c.args.seat.now).number c.args.body c.args.seat.now.token.me c.requires.loaded
+pub loop-preserved : goal.loop-preserved
+loop-preserved g c =
+    let before = c.loop.invariant in
+    let name = c.push_turn.ensures.name in
+    let says = c.in-Failed.ensures.says in
+    let more = says.more in
+    let raised = before.4 in (
+      c.push_turn.ensures.seat,
+      record { number = name.number ∙ before.1.number; role = name.role ∙ before.1.role },
+      sees_then _ _ _ before.2 says.sees,
+      stays_on c.args.seat.now c.loop.seat c.push_turn.new.seat before.3 c.in-Failed.ensures.moves,
+      omega (arith, more, raised),
+      tried_then c.args.seat.now c.loop.seat c.push_turn.new.seat c.loop.counter 1 before.5 says.tried,
+    )
 
-pub push_reserved-requires-2-clause-loaded : goal.push_reserved-requires-2-clause-loaded
-push_reserved-requires-2-clause-loaded g c =
-    let z = c.args.self.now.plan in
-    let t = c.refill.new.seat in
-    ready_push z.carries z.slots (view t).number c.args.body t.token.me (still_loaded z c.args.body c.args.seat.now t c.refill.ensures.slots c.requires.loaded)
-
-pub returns-clause-gives : goal.returns-clause-gives
-returns-clause-gives g c = gives_after c.args.self.now.plan c.args.body c.args.seat.now c.refill.new.seat c.push_reserved-2.new.seat c.push_reserved-2.result
-    c.in_ok-refill.ensures.done.sees.number c.refill.ensures.slots c.push_reserved-2.ensures.gives
-
-pub returns-clause-kept : goal.returns-clause-kept
-returns-clause-kept g c = kept_after c.args.seat.now c.refill.new.seat c.push_reserved-2.new.seat c.push_reserved-2.result c.refill.ensures.slots c.push_reserved-2.ensures.kept
+pub push_turn-requires-clause-loaded : goal.push_turn-requires-clause-loaded
+push_turn-requires-clause-loaded g c = still_loaded c.args.self.now.plan c.args.body c.args.seat.now c.loop.seat c.loop.invariant.3 c.requires.loaded

@@ -3,6 +3,7 @@ use Rattle.ring_queue.specs.Steps.{ShutMade}
 use Rattle.ring_queue.specs.Seats.{view}
 use Rattle.ring_queue.proofs.Shuts.{shuts_queue}
 use Rattle.ring_queue.proofs.Asks.{asks_shut}
+use Rattle.ring_queue.proofs.Runs.{ran_shut}
 use Rattle.ring_queue.proofs.queue.RingQueue.set_shut.Goals as goal
 
 pub fetch_or-tail-requires : goal.fetch_or-tail-requires
@@ -13,3 +14,4 @@ fetch_or-tail-requires g c =
     let words = q.laid.words in
     asks_shut q.plan q.table.shared.key q.table.shared.table_id s ShutMade q.laid 0 (λ n. bit_or n (2 ^ 62)) sits (omega (arith, words))
     (λ ws seats r is. shuts_queue q.plan ws seats r (view s) is c.requires.ready.rests c.requires.role)
+    (λ n v' k. ran_shut q.plan (view s) n v' k)

@@ -2,6 +2,7 @@ use Rattle.std.proofs.Common.{◌+◌, ◌≤◌, sym, ap, ◌∙◌, subst, vec
 use Rattle.history.proofs.Learning.{sees_then}
 use Rattle.ring_queue.specs.Seats.{known_of, view}
 use Rattle.ring_queue.proofs.Turns.{failed_more}
+use Rattle.ring_queue.proofs.Tries.{tried_then}
 use Rattle.ring_queue.proofs.Batching.{pops_some}
 use Rattle.ring_queue.proofs.queue.RingQueue.try_pop_up_to.Goals as goal
 
@@ -22,6 +23,7 @@ loop-preserved g c =
       sees = sees_then _ _ _ inv.sees says.1;
       failed = failed_more c.args.self.now.plan (view c.args.seat.now).seen inv.sees.between c.args.seat.now.head c.loop.counter c.loop.seat
           c.batch_turn.new.seat inv.sees.seen says.1 inv.failed says.2;
+      tried = tried_then c.args.seat.now c.loop.seat c.batch_turn.new.seat c.loop.counter 1 inv.tried c.in-Failed.ensures.tried;
       into = says.0 ∙ inv.into;
       room = subst (λ v. vec_len v + c.args.most ≤ vec_capacity v) (sym says.0) inv.room;
     }

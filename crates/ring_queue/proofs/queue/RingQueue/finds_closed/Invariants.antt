@@ -1,6 +1,0 @@
-use Rattle.ring_queue.specs.Beside.{TellsQuiet}
-use Rattle.ring_queue.specs.Steps.{MarkFound}
-use Rattle.ring_queue.proofs.queue.RingQueue.finds_closed.Given as goal
-
-abbrev pub ghosts-load : goal.ghosts-load
-ghosts-load g a = record { then = λ _. TellsQuiet a.self.now.key.carries a.self.now.key (MarkFound a.self.now.key) }
