@@ -3,7 +3,7 @@ use Rattle.std.specs.Prelude.{◌≡◌, ◌⊎◌, ℕ, List, Bool, true, false
 use Rattle.history.specs.declared.refusals.Refusal.{Refusal}
 use Rattle.text_io.specs.Blocks.{Writes}
 use Rattle.text_io.specs.Devices.{SinkState}
-use Rattle.explanations.specs.declared.lookups.Entry.{Entry}
+use Rattle.engine_faults.specs.declared.lookups.Entry.{Entry}
 
 -- an entry has this word as its number or its name
 abbrev pub IsCalled : List ℕ → Entry → Type 0

@@ -2,9 +2,9 @@ use Rattle.std.proofs.Common.{rules, List, All, inl, inr, subst}
 use Rattle.std.proofs.lemmas.List.{take_all}
 use Rattle.std.proofs.lemmas.List.Elements.{All-more, All-nil}
 use Rattle.std.specs.Cmp.Lexicographic.{other_text}
-use Rattle.explanations.specs.declared.lookups.Entry.{Entry}
-use Rattle.explanations.specs.Entries.{IsCalled}
-use Rattle.explanations.proofs.lookups.entry_named.Goals as goal
+use Rattle.engine_faults.specs.declared.lookups.Entry.{Entry}
+use Rattle.engine_faults.specs.Entries.{IsCalled}
+use Rattle.engine_faults.proofs.lookups.entry_named.Goals as goal
 
 pub loop-entry-init : goal.loop-entry-init
 loop-entry-init c = All-nil (λ (entry : Entry). ¬ IsCalled c.args.word.now entry)

@@ -1,6 +1,6 @@
 //! Finds what is told of a refusal, and writes it.
 ghost use Rattle.std.specs.Prelude.{◌≡◌, All, IfNone, IfSome};
-ghost use Rattle.explanations.specs.Entries.{Explains, IsCalled, IsEntryOf};
+ghost use Rattle.engine_faults.specs.Entries.{Explains, IsCalled, IsEntryOf};
 
 use history::Refusal;
 use text_io::{Sink, send};
