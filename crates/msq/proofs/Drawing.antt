@@ -4,9 +4,9 @@ use Rattle.std.proofs.lemmas.Bool.{false≢true}
 use Rattle.std.proofs.lemmas.Result.{on_ok_weaker}
 use Rattle.std.specs.Prelude.{option_map, OnOk, Result, Ok, Err}
 use Rattle.std.specs.Io.KnownBytes.{Appends, Keeps}
-use Rattle.colours.specs.declared.coloured.Coloured.{Coloured}
-use Rattle.colours.specs.Plain.{plain}
-use Rattle.colours.specs.Colouring.{IsUnused, plain_of, state_of}
+use Rattle.show_engine.specs.declared.coloured.Coloured.{Coloured}
+use Rattle.show_engine.specs.Plain.{plain}
+use Rattle.show_engine.specs.Colouring.{IsUnused, plain_of, state_of}
 use Rattle.command_line.specs.declared.commands.ShowOptions.{ShowOptions}
 use Rattle.show_engine.specs.declared.frames.Meaning.{Meaning}
 use Rattle.text_io.specs.Devices.{SinkState}

@@ -1,8 +1,8 @@
 //! Commands with options, which are handed on to the engines.
 ghost use Rattle.std.specs.Prelude.{◌≡◌, ◌↔◌, [], Err, IfOk, IfSome, OnOk, false, true, if◌then◌else◌, map, option_map};
 ghost use Rattle.std.specs.Io.KnownBytes.{Keeps};
-ghost use Rattle.colours.specs.Colouring.{plain_state, state_of};
-ghost use Rattle.colours.specs.Plain.{plain};
+ghost use Rattle.show_engine.specs.Colouring.{plain_state, state_of};
+ghost use Rattle.show_engine.specs.Plain.{plain};
 ghost use Rattle.job_engine.specs.Crews.{IsCrewQueue};
 ghost use Rattle.job_engine.specs.Queues.{queue_in};
 ghost use Rattle.job_engine.specs.Works.{IsBadSize};
@@ -13,14 +13,13 @@ ghost use Rattle.recording_text.specs.HeldTexts.{AreHeld};
 ghost use Rattle.place_engine.specs.Places.{TellsPlaces};
 ghost use Rattle.msq.specs.Options.{Draws, PlacesBy, has_colours, held_texts};
 
-use colours::{Coloured, Drawing};
 use command_line::{Colours, Crew, Placing, ShowOptions};
 use engine_faults::Fault;
 use history::Refusal;
 use job_engine::{JobQueue, work_text};
 use page_engine::{Frame, history_page, page_text};
 use place_engine::{Told, place_holding, place_text};
-use show_engine::{Meaning, View, show_found, show_history, show_text};
+use show_engine::{Coloured, Drawing, Meaning, View, show_found, show_history, show_text};
 use std::alloc::Global;
 use std::sync::Wait;
 use std::thread::Threads;

@@ -9,3 +9,4 @@ mod Told
 mod RowsBeside
 mod ToldFound
 mod WholePictures
+pub mod Chunks

@@ -12,3 +12,5 @@ pub mod Timelines
 pub mod TimelinesWritten
 pub mod Reasons
 pub mod Found
+pub mod Colouring
+pub mod Plain

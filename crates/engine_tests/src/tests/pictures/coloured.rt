@@ -2,8 +2,8 @@
 ghost use Rattle.std.specs.Prelude.{◌<◌};
 
 use crate::tests::comparisons::same;
-use colours::{Coloured, Drawing};
 use history::Refusal;
+use show_engine::{Coloured, Drawing};
 use std::alloc::Global;
 use std::test::Fail;
 use text_io::{Script, Trouble, send};

@@ -1,6 +1,6 @@
 use Rattle.std.proofs.Common.{ap}
-use Rattle.colours.proofs.Chunks.{plain_of-exchanged}
-use Rattle.colours.proofs.coloured.Coloured.exchange.Goals as goal
+use Rattle.show_engine.proofs.Chunks.{plain_of-exchanged}
+use Rattle.show_engine.proofs.coloured.Coloured.exchange.Goals as goal
 
 pub returns-then-branch-clause-bytes : goal.returns-then-branch-clause-bytes
 returns-then-branch-clause-bytes g c =

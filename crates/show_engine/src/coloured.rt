@@ -2,7 +2,7 @@
 ghost use Rattle.std.specs.Prelude.{◌≡◌, ◌≢◌, ◌+◌, ◌≤◌, [], true, IfErr, IfOk, MatchResult, OnErr, OnOk, length, option_map, take};
 ghost use Rattle.std.specs.Io.KnownBytes.{Keeps, WriteAppends};
 ghost use Rattle.text_io.specs.Devices.{failures_after};
-ghost use Rattle.colours.specs.Plain.{Colours, plain};
+ghost use Rattle.show_engine.specs.Plain.{Colours, plain};
 
 use crate::styles::{Drawing, Shown, code_of};
 use history::Refusal;
@@ -32,7 +32,7 @@ pub struct Coloured<W> {
 }
 
 impl<W> Coloured<W> {
-    ghost use Rattle.colours.specs.Colouring.{IsUnused};
+    ghost use Rattle.show_engine.specs.Colouring.{IsUnused};
 
     /// A sink that colours such a drawing for this one. It takes no memory.
     pub fn new(inner: W, drawing: Drawing) -> Coloured<W>
@@ -57,7 +57,7 @@ impl<W> Coloured<W> {
 }
 
 impl<W: Sink> Coloured<W> {
-    ghost use Rattle.colours.specs.Colouring.{held_by, state_of};
+    ghost use Rattle.show_engine.specs.Colouring.{held_by, state_of};
 
     /// Hands on all that is held back, and answers whether all of it was taken.
     fn hand_on(&mut self) -> io::Result<bool>
@@ -150,7 +150,7 @@ fn with_colours(drawing: Drawing, before: Shown, bytes: &[u8]) -> (LineBuffer, S
 }
 
 impl<W: Sink> Sink for Coloured<W> {
-    ghost use Rattle.colours.specs.Colouring.{state_of};
+    ghost use Rattle.show_engine.specs.Colouring.{state_of};
 
     //= texts/devices
     ghost state = { λ s. state_of W.state s };

@@ -3,8 +3,8 @@ use Rattle.std.proofs.Common.{◌≡◌, ℕ, ◌+◌, ◌-◌, length, subst, B
 use Rattle.std.proofs.Common.{refl, sym, ap, ◌∙◌, append_assoc, append-nil, take, drop, take-append-drop}
 use Rattle.std.proofs.lemmas.List.{drop-drop, take_rest}
 use Rattle.std.specs.Io.KnownBytes.{Appends, Keeps}
-use Rattle.colours.specs.Plain.{Colours, IsColour, escape, is_in_colour, plain, plain_after, uncoloured}
-use Rattle.colours.specs.Colouring.{plain_of}
+use Rattle.show_engine.specs.Plain.{Colours, IsColour, escape, is_in_colour, plain, plain_after, uncoloured}
+use Rattle.show_engine.specs.Colouring.{plain_of}
 
 -- whether a colour has begun and goes on behind bytes
 abbrev in_colour_after : Bool → List ℕ → Bool

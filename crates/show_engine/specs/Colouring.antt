@@ -2,8 +2,8 @@
 use Rattle.std.specs.Prelude.{◌≡◌, ℕ, false, List, [], Option, drop, option_map}
 use Rattle.std.specs.Io.KnownBytes.{append_known}
 use Rattle.text_io.specs.Devices.{SinkState}
-use Rattle.colours.specs.declared.coloured.Coloured.{Coloured}
-use Rattle.colours.specs.Plain.{plain}
+use Rattle.show_engine.specs.declared.coloured.Coloured.{Coloured}
+use Rattle.show_engine.specs.Plain.{plain}
 
 -- the bytes that a sink has taken, and those that are held back for it, without their colours
 abbrev pub plain_of : (sent : Option (List ℕ)) → (held : List ℕ) → Option (List ℕ)

@@ -1,7 +1,7 @@
 use Rattle.std.proofs.Common.{◌≡◌, ◌-◌, length}
 use Rattle.std.specs.Io.KnownBytes.{Keeps}
-use Rattle.colours.specs.Colouring.{state_of}
-use Rattle.colours.proofs.coloured.Coloured.hand_on.Given as goal
+use Rattle.show_engine.specs.Colouring.{state_of}
+use Rattle.show_engine.proofs.coloured.Coloured.hand_on.Given as goal
 
 abbrev pub invariant-loop-self : goal.invariant-loop-self
 invariant-loop-self g l = record {

@@ -1,6 +1,6 @@
 use Rattle.std.proofs.Common.{length, ◌-◌, ◌≤◌, take}
-use Rattle.colours.specs.Plain.{Colours}
-use Rattle.colours.proofs.coloured.with_colours.Given as goal
+use Rattle.show_engine.specs.Plain.{Colours}
+use Rattle.show_engine.proofs.coloured.with_colours.Given as goal
 
 abbrev pub invariant-loop-count : goal.invariant-loop-count
 invariant-loop-count l = record {

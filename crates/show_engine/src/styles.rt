@@ -1,6 +1,6 @@
 //! How the bytes of a drawing look: green and bright where an operation takes effect or is of a reason, dim beside the actors.
 ghost use Rattle.std.specs.Prelude.{◌≡◌, ◌≤◌, length};
-ghost use Rattle.colours.specs.Plain.{IsColour};
+ghost use Rattle.show_engine.specs.Plain.{IsColour};
 
 /// What is drawn.
 #[derive(Clone, Copy, Debug, PartialEq, Eq)]

@@ -1,7 +1,7 @@
 use Rattle.std.proofs.Common.{◌∙◌}
 use Rattle.std.proofs.KnownBytes.{Keeps-trans}
-use Rattle.colours.proofs.Chunks.{plain_of-sent}
-use Rattle.colours.proofs.coloured.Coloured.hand_on.Goals as goal
+use Rattle.show_engine.proofs.Chunks.{plain_of-sent}
+use Rattle.show_engine.proofs.coloured.Coloured.hand_on.Goals as goal
 
 pub loop-self-preserved : goal.loop-self-preserved
 loop-self-preserved g c =

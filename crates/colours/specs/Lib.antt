@@ -1,2 +1,0 @@
-pub mod Colouring
-pub mod Plain
