@@ -8,7 +8,7 @@ use Rattle.placing.specs.declared.answers.Placed.{Placed}
 use Rattle.placing.specs.Answers.{IsAnswer, HasCause}
 use Rattle.place_engine.specs.Places.{SaysOf}
 use Rattle.place_engine.specs.WhyTexts.{answer_text}
-use Rattle.recorded_source.specs.Given.{IsRecordOf}
+use Rattle.place_engine.specs.Given.{IsRecordOf}
 use Rattle.page_engine.specs.Pages.{page_around}
 use Rattle.page_engine.specs.declared.engine.Frame.{Frame}
 

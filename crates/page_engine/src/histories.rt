@@ -2,16 +2,15 @@
 ghost use Rattle.std.specs.Prelude.{◌≡◌, ◌≢◌, IfErr, IfOk, OnOk};
 ghost use Rattle.engine_faults.specs.Faults.{IsRunRefusal};
 ghost use Rattle.page_engine.specs.Histories.{BeginsHistoryPage, WritesHistoryPage, IsFoundOf};
-ghost use Rattle.recorded_source.specs.Given.{TellsFaultOfRecord};
+ghost use Rattle.place_engine.specs.Given.{TellsFaultOfRecord};
 ghost use Rattle.text_io.specs.Blocks.{GivesUp};
 ghost use Rattle.text_io.specs.Readings.{EndsReadingFor};
 
 use crate::engine::{Frame, write_page};
 use crate::kept::KeptText;
 use history::Refusal;
-use place_engine::tell;
+use place_engine::{Given, record_in, tell};
 use placing::place;
-use recorded_source::{Given, record_in};
 use std::alloc::Global;
 use text_io::{Sink, Source};
 

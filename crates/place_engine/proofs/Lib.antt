@@ -8,3 +8,6 @@ mod OfHolding
 mod HeldReasons
 mod Chains
 mod Overlapping
+mod RightVerdict
+mod Eithers
+mod Records

@@ -19,7 +19,7 @@ use Rattle.placing.specs.declared.answers.Span.{Span}
 use Rattle.placing.specs.declared.answers.Reason.{Reason}
 use Rattle.placing.specs.declared.answers.Reason.TheVariants.{Shape, Span as Spans, Reply, Sooner, Order, Full, Late, Twice, Unshut, Undrained}
 use Rattle.placing.specs.Reasons.{StandsAt, IsOfValue, IsLeft, IsHeld, IsThere, IsReason}
-use Rattle.recorded_source.specs.Given.{header_of}
+use Rattle.place_engine.specs.Given.{header_of}
 use Rattle.place_engine.specs.WhyTexts.{lines_in, lines_of_recording, places_held, places_of, IsPlaceIn}
 use Rattle.place_engine.proofs.Lines.{lines_in-line}
 

@@ -5,3 +5,6 @@ pub mod OfTexts
 pub mod Overlaps
 pub mod Places
 pub mod WhyTexts
+pub mod Checks
+pub mod EitherGrammars
+pub mod Given

@@ -9,7 +9,7 @@ use Rattle.placing.specs.declared.answers.Placed.TheVariants.{History, Impossibl
 use Rattle.placing.specs.Calls.{IsOfQueue}
 use Rattle.placing.specs.Answers.{IsAnswer, HasCause}
 use Rattle.place_engine.specs.WhyTexts.{answer_text}
-use Rattle.recorded_source.specs.Given.{IsRecordOf}
+use Rattle.place_engine.specs.Given.{IsRecordOf}
 
 -- what an answer says of a recorded history: that it is one of a queue, that it isn't, or neither
 abbrev pub SaysOf : List Stamped → Placed → Type 0

@@ -13,7 +13,7 @@ use Rattle.placing.specs.declared.answers.Reason.{Reason}
 use Rattle.placing.specs.declared.answers.Reason.TheVariants.{Shape, Span as Spans, Reply, Sooner, Order, Full, Late, Twice, Unshut, Undrained}
 use Rattle.placing.specs.declared.answers.Placed.{Placed}
 use Rattle.placing.specs.declared.answers.Placed.TheVariants.{History, Impossible, Open}
-use Rattle.recorded_source.specs.Given.{header_of}
+use Rattle.place_engine.specs.Given.{header_of}
 use Rattle.history_text.specs.HistoryText.{history_text}
 use Rattle.place_engine.specs.FoundTexts.{no_text, open_text}
 use Rattle.place_engine.specs.GivenParts.{given_part}

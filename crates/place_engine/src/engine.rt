@@ -3,15 +3,15 @@ ghost use Rattle.std.specs.Prelude.{◌≡◌, ◌≢◌, IfErr, IfOk, OnOk};
 ghost use Rattle.text_io.specs.Blocks.{GivesUp};
 ghost use Rattle.text_io.specs.Readings.{EndsReadingFor};
 ghost use Rattle.engine_faults.specs.Faults.{IsRunRefusal};
-ghost use Rattle.recorded_source.specs.Given.{TellsFaultOfRecord};
+ghost use Rattle.place_engine.specs.Given.{TellsFaultOfRecord};
 ghost use Rattle.place_engine.specs.Places.{TellsPlaces, BeginsPlaces};
 ghost use Rattle.place_engine.specs.Overlaps.{SaysOverlap, TellsOverlap};
 
 use crate::found_texts::tell;
+use crate::histories::record_in;
 use crate::overlaps::overlap_in;
 use history::Refusal;
 use placing::{Placed, place};
-use recorded_source::record_in;
 use std::alloc::Global;
 use text_io::{Sink, Source};
 

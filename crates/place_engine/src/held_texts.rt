@@ -10,9 +10,9 @@ ghost use Rattle.place_engine.specs.Overlaps.{SaysOverlap};
 
 use crate::engine::{Told, overlap_of};
 use crate::found_texts::tell;
+use crate::recordings::recording_in;
 use history::Refusal;
 use placing::{Placed, place};
-use recorded_source::recording_in;
 use recording_text::parse_holding;
 use std::alloc::Global;
 use text_io::{Sink, Source};

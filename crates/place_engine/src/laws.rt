@@ -11,7 +11,7 @@ ghost use Rattle.recording_text.specs.Recordings.{Recorded};
 ghost use Rattle.recording_text.specs.Numbers.{history_of};
 ghost use Rattle.recording_text.specs.RecordingLines.{recording_text, IsRecordingInRange};
 ghost use Rattle.recording_text.specs.HeldTexts.{longer};
-ghost use Rattle.recorded_source.specs.Given.{header_of};
+ghost use Rattle.place_engine.specs.Given.{header_of};
 ghost use Rattle.place_engine.specs.FoundTexts.{place_of};
 ghost use Rattle.place_engine.specs.GivenParts.{given_part};
 ghost use Rattle.place_engine.specs.HeldTexts.{IsOfHoldingQueue, HasPointsFrom};

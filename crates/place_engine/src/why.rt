@@ -6,8 +6,8 @@ ghost use Rattle.place_engine.specs.WhyTexts as texts;
 ghost use Rattle.place_engine.specs.WhyTexts.{held_line, lines_in, numbered_line, told_line, places_held, why_text};
 ghost use Rattle.recording_text.specs.RecordingReading.{bytes_of};
 
+use crate::recorded_texts::header_of;
 use placing::{Held, Reason, Span};
-use recorded_source::header_of;
 use std::alloc::{AllocError, Global};
 use text_io::LineBuffer;
 use text_lines::line_at;

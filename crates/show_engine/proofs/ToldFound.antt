@@ -8,7 +8,7 @@ use Rattle.history.specs.declared.refusals.Refusal.TheVariants.{Write}
 use Rattle.placing.specs.declared.answers.Placed.{Placed}
 use Rattle.placing.specs.Answers.{IsAnswer, HasCause}
 use Rattle.place_engine.proofs.Saying.{says}
-use Rattle.recorded_source.specs.Given.{IsRecordOf}
+use Rattle.place_engine.specs.Given.{IsRecordOf}
 use Rattle.text_io.specs.Blocks.{TakesPrefix}
 use Rattle.text_io.specs.Devices.{SinkState}
 use Rattle.show_engine.specs.declared.frames.View.{View}

@@ -5,7 +5,7 @@ use Rattle.history.specs.declared.operations.Stamped.{Stamped}
 use Rattle.placing.specs.declared.answers.Reason.{Reason}
 use Rattle.place_engine.specs.FoundTexts.{no_text}
 use Rattle.place_engine.specs.WhyTexts.{lines_in, places_of}
-use Rattle.recorded_source.specs.Given.{header_of}
+use Rattle.place_engine.specs.Given.{header_of}
 use Rattle.show_engine.specs.declared.frames.View.{View}
 use Rattle.show_engine.specs.declared.scales.Scale.{Scale}
 use Rattle.show_engine.specs.Found.{AreRising}

@@ -6,7 +6,7 @@ use Rattle.history.specs.declared.operations.Stamped.{Stamped}
 use Rattle.placing.specs.declared.answers.Reason.{Reason}
 use Rattle.placing.specs.declared.answers.Placed.{Placed}
 use Rattle.placing.specs.declared.answers.Placed.TheVariants.{History, Impossible, Open}
-use Rattle.recorded_source.specs.Given.{header_of}
+use Rattle.place_engine.specs.Given.{header_of}
 use Rattle.place_engine.specs.FoundTexts.{no_text}
 use Rattle.place_engine.specs.WhyTexts.{answer_text, lines_in, numbered_line, places_of}
 use Rattle.show_engine.specs.declared.frames.View.{View}

@@ -4,7 +4,7 @@ use Rattle.std.specs.Io.KnownBytes.{Appends}
 use Rattle.history.specs.declared.operations.Stamped.{Stamped}
 use Rattle.text_io.specs.Blocks.{TakesPrefix}
 use Rattle.text_io.specs.Devices.{SinkState}
-use Rattle.check_engine.specs.Checks.{IsTextOf}
+use Rattle.place_engine.specs.Checks.{IsTextOf}
 use Rattle.show_engine.specs.declared.frames.View.{View}
 use Rattle.show_engine.specs.Timelines.{timeline_text}
 

@@ -2,7 +2,7 @@
 ghost use Rattle.std.specs.Prelude.{◌≡◌, ◌≢◌, ◌⊎◌, IfErr, IfOk, OnOk};
 ghost use Rattle.std.specs.Io.KnownBytes.{Appends};
 ghost use Rattle.engine_faults.specs.Faults.{IsRunRefusal};
-ghost use Rattle.recorded_source.specs.Given.{TellsFaultOfRecord};
+ghost use Rattle.place_engine.specs.Given.{TellsFaultOfRecord};
 ghost use Rattle.text_io.specs.Blocks.{GivesUp, TakesPrefix};
 ghost use Rattle.text_io.specs.Readings.{EndsReadingFor};
 ghost use Rattle.show_engine.specs.Found.{AreRising, BeginsFound, DrawsFound};
@@ -12,9 +12,8 @@ use crate::bars::count_shown;
 use crate::beside::{push_rows, scale_beside, times_line};
 use crate::frames::View;
 use history::{Refusal, Stamped};
-use place_engine::{lines_of, no_line, places_of, tell};
+use place_engine::{header_of, lines_of, no_line, places_of, record_in, tell};
 use placing::{Placed, Reason, place};
-use recorded_source::{header_of, record_in};
 use std::alloc::{AllocError, Global};
 use text_io::{Sink, Source, send};
 

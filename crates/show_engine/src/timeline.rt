@@ -3,7 +3,7 @@ ghost use Rattle.std.specs.Prelude.{◌≡◌, ◌≢◌, ◌++◌, IfErr, OnOk}
 ghost use Rattle.engine_faults.specs.Faults.{IsRunRefusal};
 ghost use Rattle.text_io.specs.Blocks.{GivesUp, Writes};
 ghost use Rattle.text_io.specs.Readings.{EndsReadingFor};
-ghost use Rattle.check_engine.specs.Checks.{TellsFirstFault};
+ghost use Rattle.place_engine.specs.Checks.{TellsFirstFault};
 ghost use Rattle.show_engine.specs.Scales.{IsFitting};
 ghost use Rattle.show_engine.specs.Timelines.{scaled_text};
 ghost use Rattle.show_engine.specs.TimelinesWritten.{BeginsTimeline, WritesTimeline};
@@ -11,8 +11,8 @@ ghost use Rattle.show_engine.specs.TimelinesWritten.{BeginsTimeline, WritesTimel
 use crate::bars::{count_shown, shown_row, span_line};
 use crate::frames::View;
 use crate::scales::{Scale, end_of_history};
-use check_engine::history_in;
 use history::{Refusal, Stamped};
+use place_engine::history_in;
 use std::alloc::Global;
 use text_io::{Block, Sink, Source};
 

@@ -2,11 +2,10 @@
 ghost use Rattle.std.specs.Prelude.{◌<◌};
 
 use crate::tests::comparisons::same;
-use check_engine::check_text;
 use engine_faults::{Ending, Fault, end_of};
 use expand_engine::expand_text;
 use history::{Refusal, TextCause};
-use place_engine::{place_holding, place_text};
+use place_engine::{check_text, place_holding, place_text};
 use placing::Placed;
 use run_engine::run_text;
 use show_engine::{View, show_found, show_history, show_text};

@@ -3,8 +3,8 @@ use crate::tests::schedules::{FIRST_HISTORY, FIRST_TABLE, RUNS};
 use crate::tests::trials::{
     Engine, answers, does, does_by_any_piece, tells_each_end, writes_a_prefix, writes_nothing,
 };
-use check_engine::check_text;
 use history::{Cause, Refusal, TextCause, Verdict};
+use place_engine::check_text;
 use std::alloc::{AllocError, Global};
 use std::test::Fail;
 use text_io::{Script, Trouble};

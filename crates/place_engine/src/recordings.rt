@@ -2,9 +2,9 @@
 ghost use Rattle.std.specs.Prelude.{◌≢◌, IfErr, IfOk};
 ghost use Rattle.text_io.specs.Readings.{EndsReadingFor, WereAll};
 ghost use Rattle.engine_faults.specs.Faults.{IsRunRefusal};
-ghost use Rattle.recorded_source.specs.Given.{TellsFaultOfRecording};
+ghost use Rattle.place_engine.specs.Given.{TellsFaultOfRecording};
 
-use crate::texts::copy_of;
+use crate::recorded_texts::copy_of;
 use history::Refusal;
 use recording_text::parse_recording;
 use std::alloc::Global;
@@ -15,7 +15,7 @@ struct RecordingTexts;
 
 impl Parser for RecordingTexts {
     ghost use Rattle.recording_text.specs.RecordingLines.{RecordingDue, RecordingLine, VersionDue, recording_grammar};
-    ghost use Rattle.recorded_source.specs.Given.{IsTextOfRecording};
+    ghost use Rattle.place_engine.specs.Given.{IsTextOfRecording};
 
     type Parsed = Vec<u8>;
 

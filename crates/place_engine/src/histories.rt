@@ -2,9 +2,9 @@
 ghost use Rattle.std.specs.Prelude.{◌≢◌, IfErr, IfOk};
 ghost use Rattle.text_io.specs.Readings.{EndsReadingFor};
 ghost use Rattle.engine_faults.specs.Faults.{IsRunRefusal};
-ghost use Rattle.recorded_source.specs.Given.{IsRecordOf, TellsFaultOfRecord};
+ghost use Rattle.place_engine.specs.Given.{IsRecordOf, TellsFaultOfRecord};
 
-use crate::texts::{Given, RecordedTexts};
+use crate::recorded_texts::{Given, RecordedTexts};
 use history::Refusal;
 use std::alloc::Global;
 use text_io::{Source, parse_source};

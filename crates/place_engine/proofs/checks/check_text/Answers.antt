@@ -1,7 +1,7 @@
 use Rattle.std.proofs.Common.{◌≡◌}
 use Rattle.history.specs.History.{verdict}
-use Rattle.check_engine.proofs.RightVerdict.{verdict_is_right}
-use Rattle.check_engine.proofs.engine.check_text.Goals as goal
+use Rattle.place_engine.proofs.RightVerdict.{verdict_is_right}
+use Rattle.place_engine.proofs.checks.check_text.Goals as goal
 
 pub returns-clause-ok : goal.returns-clause-ok
 returns-clause-ok g c =

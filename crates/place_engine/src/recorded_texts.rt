@@ -1,9 +1,9 @@
 //! Texts of histories and of recordings, as they are parsed.
 ghost use Rattle.std.specs.Prelude.{◌≡◌, IfErr, IfOk, false, true};
 ghost use Rattle.text_io.specs.Prefixes.{IsRefusedBy};
-ghost use Rattle.recorded_source.specs.EitherGrammars.{Start};
-ghost use Rattle.recorded_source.specs.Given as texts;
-ghost use Rattle.recorded_source.specs.Given.{begins_as_recording, recorded_grammar, given_text, IsGivenInRange};
+ghost use Rattle.place_engine.specs.EitherGrammars.{Start};
+ghost use Rattle.place_engine.specs.Given as texts;
+ghost use Rattle.place_engine.specs.Given.{begins_as_recording, recorded_grammar, given_text, IsGivenInRange};
 
 use history::{Refusal, Stamped};
 use history_text::parse_history;
@@ -26,8 +26,8 @@ pub struct RecordedTexts;
 impl Parser for RecordedTexts {
     ghost use Rattle.history_text.specs.HistoryLines.{HistoryDue, HistoryLine};
     ghost use Rattle.recording_text.specs.RecordingLines.{RecordingDue, RecordingLine};
-    ghost use Rattle.recorded_source.specs.EitherGrammars.{EitherDue, EitherLine, Start};
-    ghost use Rattle.recorded_source.specs.Given.{recorded_grammar, given_text, IsGivenInRange};
+    ghost use Rattle.place_engine.specs.EitherGrammars.{EitherDue, EitherLine, Start};
+    ghost use Rattle.place_engine.specs.Given.{recorded_grammar, given_text, IsGivenInRange};
 
     type Parsed = Given;
 

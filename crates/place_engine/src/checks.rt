@@ -3,10 +3,10 @@ ghost use Rattle.std.specs.Prelude.{◌≡◌, ◌≢◌, ◌≤◌, ◌⊎◌, 
 ghost use Rattle.std.specs.Io.KnownBytes.{Appends};
 ghost use Rattle.text_io.specs.Blocks.{TakesPrefix, GivesUp};
 ghost use Rattle.engine_faults.specs.Faults.{IsRunRefusal};
-ghost use Rattle.check_engine.specs.Checks.{cause_name, no_text, verdict_text, IsTextOf, TellsVerdict, BeginsVerdict, TellsFirstFault};
+ghost use Rattle.place_engine.specs.Checks.{cause_name, no_text, verdict_text, IsTextOf, TellsVerdict, BeginsVerdict, TellsFirstFault};
 ghost use Rattle.text_io.specs.Readings.{EndsReadingFor};
 
-use crate::texts::HistoryTexts;
+use crate::history_texts::HistoryTexts;
 use history::{Cause, Refusal, Stamped, Verdict, check};
 use report::history_table;
 use std::alloc::Global;

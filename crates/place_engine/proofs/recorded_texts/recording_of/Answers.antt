@@ -1,6 +1,6 @@
 use Rattle.std.proofs.lemmas.Result.{err_from_is_err_and}
-use Rattle.recorded_source.proofs.Records.{refused-recording}
-use Rattle.recorded_source.proofs.texts.recording_of.Goals as goal
+use Rattle.place_engine.proofs.Records.{refused-recording}
+use Rattle.place_engine.proofs.recorded_texts.recording_of.Goals as goal
 
 pub returns-in_err-history-clause-err : goal.returns-in_err-history-clause-err
 returns-in_err-history-clause-err c =

@@ -8,9 +8,9 @@ use Rattle.history.specs.declared.refusals.Refusal.{Refusal}
 use Rattle.history.specs.declared.refusals.Refusal.TheVariants.{Text, Memory}
 use Rattle.history_text.specs.HistoryLines.{HistoryLine, IsFirstFaultOfHistory, history_grammar}
 use Rattle.recording_text.specs.RecordingLines.{RecordingLine, Version, Count, Operation, VersionDue, IsFirstFaultOfRecording, recording_grammar}
-use Rattle.recorded_source.specs.EitherGrammars.{Start}
-use Rattle.recorded_source.specs.Given.{begins_as_recording, recorded_grammar, TellsFaultOfRecord, TellsFaultOfRecording}
-use Rattle.recorded_source.proofs.Eithers.{first_fault-one, first_fault-other}
+use Rattle.place_engine.specs.EitherGrammars.{Start}
+use Rattle.place_engine.specs.Given.{begins_as_recording, recorded_grammar, TellsFaultOfRecord, TellsFaultOfRecording}
+use Rattle.place_engine.proofs.Eithers.{first_fault-one, first_fault-other}
 
 -- a text with another first byte has no first line of a recording
 no_recording : (text : List ℕ) → begins_as_recording text ≡ false → (says later : List ℕ) → text ≡ line says ++ later → (q : RecordingLine) → ¬ Says recording_grammar VersionDue says q

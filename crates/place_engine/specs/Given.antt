@@ -12,8 +12,8 @@ use Rattle.history_text.specs.HistoryText.{history_text}
 use Rattle.recording_text.specs.Recordings.{Recorded}
 use Rattle.recording_text.specs.RecordingLines.{RecordingDue, RecordingLine, VersionDue, recording_grammar, recording_text, IsRecordingInRange, HasFirstFault}
 use Rattle.recording_text.specs.RecordingReading.{StandsFor}
-use Rattle.recorded_source.specs.EitherGrammars.{EitherDue, EitherLine, Start, either_grammar}
-use Rattle.recorded_source.specs.declared.texts.Given.{Given}
+use Rattle.place_engine.specs.EitherGrammars.{EitherDue, EitherLine, Start, either_grammar}
+use Rattle.place_engine.specs.declared.recorded_texts.Given.{Given}
 
 -- whether a text can be a recording's: its first byte is that of `msq`
 abbrev pub begins_as_recording : List ℕ → Bool

@@ -5,7 +5,7 @@ use Rattle.history.specs.declared.text_causes.TextCause.{TextCause}
 use Rattle.history.specs.declared.text_causes.TextCause.TheVariants.{End, Form, Range, Extra}
 use Rattle.text_lines.specs.Lines.{line}
 use Rattle.text_lines.specs.Grammars.{Grammar, Says, AreDue, state_after, lines_of, IsFault, IsFirstFault}
-use Rattle.recorded_source.specs.EitherGrammars.{EitherDue, Start, InOne, InOther, EitherLine, OfOne, OfOther, either_grammar}
+use Rattle.place_engine.specs.EitherGrammars.{EitherDue, Start, InOne, InOther, EitherLine, OfOne, OfOther, either_grammar}
 
 module _ {S R T Q : Type 0} (g : Grammar S R) (h : Grammar T Q) (s : S) (t : T) where
   abbrev either : Grammar (EitherDue S T) (EitherLine R Q)

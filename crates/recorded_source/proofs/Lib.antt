@@ -1,2 +1,0 @@
-mod Eithers
-mod Records

@@ -1,2 +1,0 @@
-pub mod EitherGrammars
-pub mod Given
