@@ -11,7 +11,7 @@ use history::Refusal;
 use mail_engine::post_text;
 use page_engine::{AFTER, AFTER_HISTORY, BEFORE, BEFORE_HISTORY, Frame};
 use place_engine::check_text;
-use run_engine::run_text;
+use run_engine::{run_text, trace_text};
 use show_engine::ACCESSES;
 use std::fs::File;
 use std::rt::Runtime;
@@ -19,7 +19,6 @@ use std::sync::Wait;
 use std::thread::Threads;
 use std::{env, io};
 use text_io::{ReaderSource, Sink, Source, WriterSink};
-use trace_engine::trace_text;
 
 /// Which of the standard streams are terminals.
 #[derive(Clone, Copy)]

@@ -1,7 +1,7 @@
 -- What is known of a sink in memory.
 use Rattle.std.specs.Prelude.{ℕ, List, Option, Some}
-use Rattle.trace_engine.specs.Answers.{OfSchedule}
-use Rattle.trace_engine.specs.TracesWritten.{IsTraceOf}
+use Rattle.run_engine.specs.Answers.{OfSchedule}
+use Rattle.run_engine.specs.TracesWritten.{IsTraceOf}
 use Rattle.text_io.specs.Devices.{SinkState}
 use Rattle.page_engine.specs.declared.kept.KeptText.{KeptText}
 

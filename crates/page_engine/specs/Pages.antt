@@ -5,8 +5,8 @@ use Rattle.page_engine.specs.declared.engine.Frame.{Frame}
 use Rattle.schedule_text.specs.Schedules.{Schedule}
 use Rattle.text_io.specs.Blocks.{TakesPrefix}
 use Rattle.text_io.specs.Devices.{SinkState}
-use Rattle.trace_engine.specs.Answers.{OfSchedule}
-use Rattle.trace_engine.specs.TracesWritten.{IsTraceOf}
+use Rattle.run_engine.specs.Answers.{OfSchedule}
+use Rattle.run_engine.specs.TracesWritten.{IsTraceOf}
 
 -- a trace between what a page has before it and behind it
 abbrev pub page_around : Frame → List ℕ → List ℕ

@@ -8,9 +8,9 @@ ghost use Rattle.text_io.specs.Blocks.{GivesUp, Writes};
 use crate::kept::KeptText;
 use engine_faults::Fault;
 use history::Refusal;
+use run_engine::trace_text;
 use std::alloc::Global;
 use text_io::{Sink, Source, send};
-use trace_engine::trace_text;
 
 /// What a page has before the text that it shows and behind it.
 #[derive(Clone, Copy)]

@@ -6,8 +6,8 @@ use Rattle.history.specs.declared.refusals.Refusal.{Refusal}
 use Rattle.text_io.specs.Blocks.{Sends, Writes}
 use Rattle.text_io.specs.Devices.{SinkState}
 use Rattle.text_io.proofs.Rows.{rows_more}
-use Rattle.trace_engine.specs.Answers.{Tells}
-use Rattle.trace_engine.proofs.HasTold.{Tells-then, Tells-written}
+use Rattle.run_engine.specs.Answers.{Tells}
+use Rattle.run_engine.proofs.HasTold.{Tells-then, Tells-written}
 
 -- behind what was told of a text, two more texts are written with what is held back
 pub Tells-end : {A : Type 0} (a b d : SinkState) (text held x y : List ℕ) (result : Result A Refusal) → Sends a.contents b.contents text held → b.failures ≡ a.failures

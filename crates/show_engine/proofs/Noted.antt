@@ -9,7 +9,7 @@ use Rattle.step_machine.specs.declared.actors.Move.{Move}
 use Rattle.step_machine.specs.Machine.{World, next, run_on}
 use Rattle.run_engine.specs.Runs.{world_after}
 use Rattle.run_engine.proofs.Moves.{world_after_both, world_after_one}
-use Rattle.trace_engine.proofs.Texts.{moves_of-drop, replicate-first}
+use Rattle.run_engine.proofs.Texts.{moves_of-drop, replicate-first}
 use Rattle.show_engine.specs.declared.frames.Frame.{Frame}
 use Rattle.show_engine.specs.Legends.{lines_on, with_move, with_moves}
 

@@ -9,10 +9,10 @@ use Rattle.run_engine.proofs.Leading.{world_after-moves_of}
 use Rattle.schedule_text.specs.declared.schedules.Event.{Event}
 use Rattle.schedule_text.specs.Schedules.{Schedule}
 use Rattle.step_machine.specs.Machine.{World}
-use Rattle.trace_engine.specs.declared.counts.RunExtent.{RunExtent}
-use Rattle.trace_engine.specs.Pieces.{actors_text, rest_text}
-use Rattle.trace_engine.specs.Extents.{IsExtentOf, StopsAt}
-use Rattle.trace_engine.proofs.Answered.{IsDue}
+use Rattle.run_engine.specs.declared.counts.RunExtent.{RunExtent}
+use Rattle.run_engine.specs.Pieces.{actors_text, rest_text}
+use Rattle.run_engine.specs.Extents.{IsExtentOf, StopsAt}
+use Rattle.run_engine.proofs.Answered.{IsDue}
 use Rattle.show_engine.specs.declared.counts.Counted.{Counted}
 use Rattle.show_engine.specs.declared.frames.Frame.{Frame}
 use Rattle.show_engine.specs.declared.frames.View.{View}

@@ -12,7 +12,7 @@ use Rattle.step_machine.specs.Accesses.{touched_by}
 use Rattle.step_machine.specs.Calls.{move_answer}
 use Rattle.step_machine.specs.Machine.{World, actor_of, mover}
 use Rattle.run_engine.specs.Runs.{opening_of}
-use Rattle.trace_engine.specs.Pieces.{Pieces, actors_text, moves_text}
+use Rattle.run_engine.specs.Pieces.{Pieces, actors_text, moves_text}
 use Rattle.show_engine.specs.declared.frames.Frame.{Frame}
 use Rattle.show_engine.specs.declared.frames.Meaning.{Meaning}
 use Rattle.show_engine.specs.declared.frames.View.{View}

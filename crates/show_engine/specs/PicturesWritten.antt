@@ -5,8 +5,8 @@ use Rattle.std.specs.List.Sorted.{IsNonDecreasing}
 use Rattle.history.specs.declared.operations.Stamped.{Stamped}
 use Rattle.schedule_text.specs.Schedules.{Schedule}
 use Rattle.text_io.specs.Devices.{SinkState}
-use Rattle.trace_engine.specs.Answers.{HasWritten, OfSchedule, RunText}
-use Rattle.trace_engine.specs.Extents.{IsExtentOf}
+use Rattle.run_engine.specs.Answers.{HasWritten, OfSchedule, RunText}
+use Rattle.run_engine.specs.Extents.{IsExtentOf}
 use Rattle.show_engine.specs.declared.counts.Counted.{Counted}
 use Rattle.show_engine.specs.declared.frames.View.{View}
 use Rattle.show_engine.specs.Pictures.{picture_text, stopped_text, takes_effect}

@@ -6,8 +6,8 @@ use Rattle.history.specs.declared.refusals.Refusal.{Refusal}
 use Rattle.schedule_text.specs.Schedules.{Schedule}
 use Rattle.step_machine.specs.Machine.{World}
 use Rattle.text_io.specs.Devices.{SinkState}
-use Rattle.trace_engine.specs.Answers.{Answers, HasBegun, HasStopped, OfSchedule}
-use Rattle.trace_engine.specs.Pieces.{Pieces, run_text}
+use Rattle.run_engine.specs.Answers.{Answers, HasBegun, HasStopped, OfSchedule}
+use Rattle.run_engine.specs.Pieces.{Pieces, run_text}
 use Rattle.show_engine.specs.declared.counts.Counted.{Counted}
 use Rattle.show_engine.specs.declared.frames.Frame.{Frame}
 use Rattle.show_engine.specs.declared.frames.View.{View}

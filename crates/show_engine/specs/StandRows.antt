@@ -4,7 +4,7 @@ use Rattle.line_steps.specs.Memory.{Word}
 use Rattle.step_machine.specs.Accesses.{contents_in, touched_by}
 use Rattle.step_machine.specs.Calls.{line_of}
 use Rattle.step_machine.specs.Machine.{World, actor_of}
-use Rattle.trace_engine.specs.Stands.{at_text}
+use Rattle.run_engine.specs.Stands.{at_text}
 use Rattle.show_engine.specs.declared.frames.Frame.{Frame}
 use Rattle.show_engine.specs.Cells.{held_text, place_text}
 use Rattle.show_engine.specs.Frames.{has_column}

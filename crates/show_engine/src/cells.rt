@@ -2,15 +2,15 @@
 ghost use Rattle.std.specs.Prelude.{◌≡◌, ◌+◌, ◌≤◌, ◌++◌, codes, length, decimal};
 ghost use Rattle.history_text.specs.HistoryText.{call_text};
 ghost use Rattle.step_machine.specs.Accesses.{word_named};
-ghost use Rattle.trace_engine.specs.Stands.{at_text};
+ghost use Rattle.run_engine.specs.Stands.{at_text};
 ghost use Rattle.show_engine.specs.Cells.{access_text, answer_text, cell_text, change_text, exchanges, gives_text, held_text, mark_text, name_text, named_reply, place_text};
 
 use history::{Op, Refusal, Reply};
 use history_text::{push_call, push_reply};
 use line_table::Line;
+use run_engine::push_at;
 use step_machine::{Contents, Stepped, WordName};
 use text_io::{LINE_ROOM, LineBuffer};
-use trace_engine::push_at;
 
 /// Puts the name of a word at the end of a line.
 fn push_place(line: &mut LineBuffer, word: WordName)

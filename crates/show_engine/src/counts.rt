@@ -7,10 +7,10 @@ ghost use Rattle.show_engine.specs.PicturesWritten.{AreEffects, IsCountOf};
 
 use crate::effects::effects_of;
 use history::Refusal;
+use run_engine::{RunExtent, first_events, make_all, opening_world};
 use schedule_text::Schedule;
 use std::alloc::Global;
 use step_machine::WorldOf;
-use trace_engine::{RunExtent, first_events, make_all, opening_world};
 
 /// What a run of a schedule leaves for the next one.
 #[derive(Drop)]

@@ -11,11 +11,10 @@ use crate::frames::{Frame, View};
 use crate::pictures::draw;
 use engine_faults::Fault;
 use history::Refusal;
-use run_engine::by_bits;
+use run_engine::{by_bits, refuse_at};
 use schedule_text::{Schedule, read_schedule};
 use std::alloc::Global;
 use text_io::{Sink, Source};
-use trace_engine::refuse_at;
 
 /// Writes the picture of a schedule of `B` bits, which is run once before, to find where its operations take effect.
 fn show_with_bits<const B: u32, W: Sink>(

@@ -14,11 +14,11 @@ use crate::move_rows::mover;
 use crate::rows::pair_line;
 use history::Refusal;
 use line_table::Line;
+use run_engine::{first_events, moves_in, opening_world};
 use schedule_text::{Event, Schedule};
 use std::alloc::Global;
 use step_machine::{Move, Stepped, WorldOf, step_in};
 use text_io::{Block, LineBuffer, Sink};
-use trace_engine::{first_events, moves_in, opening_world};
 
 /// Whether a line is one of these.
 fn has_line(lines: &[Line], at: Line) -> bool

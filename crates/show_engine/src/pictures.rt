@@ -3,7 +3,7 @@ ghost use Rattle.std.specs.Prelude.{◌≡◌, [], take};
 ghost use Rattle.run_engine.specs.Runs.{EventsLead, opening_of};
 ghost use Rattle.schedule_text.specs.Texts.{IsInRange};
 ghost use Rattle.step_machine.specs.Machine.{World};
-ghost use Rattle.trace_engine.specs.Answers.{Tells};
+ghost use Rattle.run_engine.specs.Answers.{Tells};
 ghost use Rattle.show_engine.specs.Frames.{IsFitting};
 ghost use Rattle.show_engine.specs.PicturesWritten.{IsCountOf};
 ghost use Rattle.show_engine.specs.RefusedPictures.{due_text};
@@ -15,11 +15,11 @@ use crate::move_rows::draw_move;
 use crate::rows::{names_line, queue_line, shown_line};
 use crate::stand_rows::shown_stand;
 use history::Refusal;
+use run_engine::{RunPrinter, print_run};
 use schedule_text::{Event, Schedule};
 use std::alloc::Global;
 use step_machine::{Move, WorldOf};
 use text_io::{Block, LineBuffer, Sink};
-use trace_engine::{RunPrinter, print_run};
 
 /// The rows of a picture, marked where operations take effect.
 #[derive(Drop)]

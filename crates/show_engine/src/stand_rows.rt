@@ -8,9 +8,9 @@ ghost use Rattle.show_engine.specs.StandRows.{shown_stand, stand_row};
 use crate::cells::stand_cell;
 use crate::frames::Frame;
 use crate::rows::row;
+use run_engine::line_of;
 use step_machine::{WordName, WorldOf};
 use text_io::LineBuffer;
-use trace_engine::line_of;
 
 /// The row of an actor that is there, whose next step touches this word.
 fn touching_row<const B: u32>(

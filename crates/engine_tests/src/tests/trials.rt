@@ -7,14 +7,13 @@ use expand_engine::expand_text;
 use history::{Refusal, TextCause};
 use place_engine::{check_text, place_holding, place_text};
 use placing::Placed;
-use run_engine::run_text;
+use run_engine::{run_text, trace_text};
 use show_engine::{View, show_found, show_history, show_text};
 use std::alloc::Global;
 use std::fmt::Display;
 use std::process::Abort;
 use std::test::Fail;
 use text_io::{Script, Trouble};
-use trace_engine::trace_text;
 
 /// The engine of a command.
 #[derive(Clone, Copy)]

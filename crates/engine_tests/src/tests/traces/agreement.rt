@@ -6,13 +6,13 @@ use crate::tests::traces::chance::{Chance, schedule};
 use crate::tests::traces::rows::{Access, Row, Told, parse_trace};
 use history::{Refusal, Reply, WornWord};
 use line_table::Kind;
+use run_engine::trace_text;
 use schedule_text::{Event, Schedule, print};
 use std::alloc::Global;
 use std::process::Abort;
 use std::test::Fail;
 use step_machine::{Move, Stepped, WordName, WorldOf, step_in};
 use text_io::Script;
-use trace_engine::trace_text;
 
 /// How many schedules were traced, how many rows agreed with what a world did, and how many of either didn't.
 #[derive(Clone, Copy, Debug, PartialEq, Eq)]

@@ -1,6 +1,6 @@
 use Rattle.std.proofs.Common.{refl}
 use Rattle.std.proofs.lemmas.Result.{err_from_is_err_and}
-use Rattle.trace_engine.proofs.Answered.{Answers-counted, Answers-telling, Answers-unmade}
+use Rattle.run_engine.proofs.Answered.{Answers-counted, Answers-telling, Answers-unmade}
 use Rattle.show_engine.specs.PicturesWritten.{the_picture}
 use Rattle.show_engine.proofs.Shown.{framed_as, picture_due}
 use Rattle.show_engine.proofs.engine.show_with_bits.Goals as goal

@@ -2,7 +2,7 @@ use Rattle.std.proofs.Common.{[], ap, subst, sym, take}
 use Rattle.std.specs.List.Sorted.{IsNonDecreasing}
 use Rattle.std.proofs.lemmas.Result.{err_from_is_err_and}
 use Rattle.schedule_text.specs.Schedules.{Schedule}
-use Rattle.trace_engine.proofs.HasTold.{StopsTelling-memory, TakesPrefix-none, Tells-longer, Tells-refused}
+use Rattle.run_engine.proofs.HasTold.{StopsTelling-memory, TakesPrefix-none, Tells-longer, Tells-refused}
 use Rattle.show_engine.proofs.Ends.{Tells-end}
 use Rattle.show_engine.specs.Legends.{legend_text, lines_in}
 use Rattle.show_engine.specs.Rows.{shown_text}

@@ -1,9 +1,9 @@
 use Rattle.std.proofs.Common.{◌++◌, List, sym, subst}
 use Rattle.std.specs.Prelude.{ℕ}
 use Rattle.std.proofs.lemmas.Result.{err_from_is_err_and}
-use Rattle.trace_engine.specs.Answers.{Tells}
-use Rattle.trace_engine.proofs.HasTold.{StopsTelling-memory, TakesPrefix-none, Tells-put, Tells-refused}
-use Rattle.trace_engine.proofs.Texts.{moves_text-one}
+use Rattle.run_engine.specs.Answers.{Tells}
+use Rattle.run_engine.proofs.HasTold.{StopsTelling-memory, TakesPrefix-none, Tells-put, Tells-refused}
+use Rattle.run_engine.proofs.Texts.{moves_text-one}
 use Rattle.show_engine.specs.Pictures.{drawn_text}
 use Rattle.show_engine.specs.PicturesWritten.{is_among}
 use Rattle.show_engine.proofs.pictures.RowsRunPrinter.put_move.Goals as goal
