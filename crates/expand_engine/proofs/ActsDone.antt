@@ -9,7 +9,7 @@ use Rattle.history.specs.declared.refusals.Refusal.TheVariants.{Memory}
 use Rattle.history.specs.declared.refusals.Refusal.{Refusal}
 use Rattle.schedule_text.specs.declared.schedules.Event.{Event}
 use Rattle.step_machine.specs.Machine.{World}
-use Rattle.recipe_text.specs.declared.recipes.Act.{Act}
+use Rattle.expand_engine.specs.declared.recipes.Act.{Act}
 use Rattle.expand_engine.specs.Expansions.{ActLeads, ActRefused, ActsLead, ActsRefused, DoesAct}
 
 -- acts, and then one more

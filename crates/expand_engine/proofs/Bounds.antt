@@ -5,13 +5,13 @@ use Rattle.std.proofs.lemmas.List.{append-nil, length-append}
 use Rattle.std.proofs.lemmas.List.Elements.{All-nil, All-cons, All-append}
 use Rattle.schedule_text.specs.declared.fields.Field.TheVariants.{Bits, Nodes, Limit, Actors}
 use Rattle.text_lines.specs.Grammars.{AreDue, state_after}
-use Rattle.recipe_text.specs.declared.recipes.Act.{Act}
-use Rattle.recipe_text.specs.declared.recipes.Due.{Due}
-use Rattle.recipe_text.specs.declared.recipes.Due.TheVariants.{Version as VersionDue, Queue as QueueDue, Number as NumberDue, Act as ActDue, Repeated, Nothing as NothingDue}
-use Rattle.recipe_text.specs.declared.recipes.Said.{Said}
-use Rattle.recipe_text.specs.declared.recipes.Said.TheVariants.{Nothing, Version, Queue, Number, Happens, Until, Finish, Repeat, End}
-use Rattle.recipe_text.specs.Recipes.{IsActInRange, IsSaidInRange, MaySay, RecipeLine, due_after, is_act, is_due, recipe_lines}
-use Rattle.recipe_text.specs.UnrolledActs.{Open, acts_done, open_after, repeated, unrolled}
+use Rattle.expand_engine.specs.declared.recipes.Act.{Act}
+use Rattle.expand_engine.specs.declared.recipes.Due.{Due}
+use Rattle.expand_engine.specs.declared.recipes.Due.TheVariants.{Version as VersionDue, Queue as QueueDue, Number as NumberDue, Act as ActDue, Repeated, Nothing as NothingDue}
+use Rattle.expand_engine.specs.declared.recipes.Said.{Said}
+use Rattle.expand_engine.specs.declared.recipes.Said.TheVariants.{Nothing, Version, Queue, Number, Happens, Until, Finish, Repeat, End}
+use Rattle.expand_engine.specs.Recipes.{IsActInRange, IsSaidInRange, MaySay, RecipeLine, due_after, is_act, is_due, recipe_lines}
+use Rattle.expand_engine.specs.UnrolledActs.{Open, acts_done, open_after, repeated, unrolled}
 use Rattle.expand_engine.specs.Expansions.{IsActOf}
 
 -- one list, and then as many as there are of the others

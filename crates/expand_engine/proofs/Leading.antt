@@ -3,9 +3,9 @@ use Rattle.std.proofs.Common.{◌≡◌, ℕ, zero, suc, List, [], ◌∷◌, �
 use Rattle.step_machine.specs.Machine.{World}
 use Rattle.run_engine.specs.Runs.{EventsLead}
 use Rattle.schedule_text.specs.declared.schedules.Event.{Event}
-use Rattle.recipe_text.specs.declared.recipes.Act.{Act}
-use Rattle.recipe_text.specs.declared.recipes.Said.{Said}
-use Rattle.recipe_text.specs.declared.recipes.Said.TheVariants.{Happens, Until, Finish}
+use Rattle.expand_engine.specs.declared.recipes.Act.{Act}
+use Rattle.expand_engine.specs.declared.recipes.Said.{Said}
+use Rattle.expand_engine.specs.declared.recipes.Said.TheVariants.{Happens, Until, Finish}
 use Rattle.expand_engine.specs.Expansions.{ActLeads, ActsLead}
 use Rattle.expand_engine.specs.Walks.{Walks, steps_told}
 

@@ -3,5 +3,10 @@ pub mod ActsDone
 pub mod Leading
 pub mod OneExpansion
 pub mod Bounds
-pub mod Sizes
+pub mod ExpansionSizes
 pub mod Ranges
+pub mod Spoken
+pub mod Marks
+pub mod SoFar
+pub mod Unrolled
+pub mod OneRecipe

@@ -5,9 +5,9 @@ use Rattle.std.proofs.lemmas.Bool.{cases_order}
 use Rattle.line_table.specs.declared.lines.Line.{Line}
 use Rattle.schedule_text.specs.declared.schedules.Event.{Event}
 use Rattle.step_machine.specs.Machine.{World, actor_of}
-use Rattle.recipe_text.specs.declared.recipes.Act.{Act}
-use Rattle.recipe_text.specs.declared.recipes.Said.{Said}
-use Rattle.recipe_text.specs.declared.recipes.Said.TheVariants.{Happens, Until, Finish}
+use Rattle.expand_engine.specs.declared.recipes.Act.{Act}
+use Rattle.expand_engine.specs.declared.recipes.Said.{Said}
+use Rattle.expand_engine.specs.declared.recipes.Said.TheVariants.{Happens, Until, Finish}
 use Rattle.expand_engine.specs.Expansions.{ActLeads, ActsLead}
 use Rattle.expand_engine.specs.Walks.{ComesTo, EndsCall, Walks, steps_told}
 use Rattle.expand_engine.proofs.Walked.{Walks-one, busy_not_idle}

@@ -12,16 +12,16 @@ use Rattle.schedule_text.specs.declared.schedules.Event.TheVariants.{Begin, Step
 use Rattle.schedule_text.specs.declared.schedules.Version.{Version}
 use Rattle.schedule_text.specs.declared.schedules.Version.TheVariants.{One, Two}
 use Rattle.step_machine.specs.Machine.{World}
-use Rattle.recipe_text.specs.declared.recipes.Act.{Act}
-use Rattle.recipe_text.specs.declared.recipes.Said.{Said}
-use Rattle.recipe_text.specs.declared.recipes.Said.TheVariants.{Happens, Until, Finish}
-use Rattle.recipe_text.specs.declared.recipes.Sizes.{Sizes}
-use Rattle.recipe_text.specs.Recipes.{IsActInRange, IsRecipe, no_sizes, sizes_from}
-use Rattle.recipe_text.specs.UnrolledActs.{unrolled}
+use Rattle.expand_engine.specs.declared.recipes.Act.{Act}
+use Rattle.expand_engine.specs.declared.recipes.Said.{Said}
+use Rattle.expand_engine.specs.declared.recipes.Said.TheVariants.{Happens, Until, Finish}
+use Rattle.expand_engine.specs.declared.recipes.Sizes.{Sizes}
+use Rattle.expand_engine.specs.Recipes.{IsActInRange, IsRecipe, no_sizes, sizes_from}
+use Rattle.expand_engine.specs.UnrolledActs.{unrolled}
 use Rattle.expand_engine.specs.Expansions.{ActLeads, ActsLead, AreSizesInRange, EventsOf, IsActOf, IsVersionOf, opening_with}
 use Rattle.expand_engine.specs.Walks.{steps_told}
 use Rattle.expand_engine.proofs.Bounds.{Bounded, of_recipe}
-use Rattle.expand_engine.proofs.Sizes.{of_lines}
+use Rattle.expand_engine.proofs.ExpansionSizes.{of_lines}
 
 -- each event is in range, and there are at most so many
 record AreFew (events : List Event) (count : ℕ) : Type 0 where

@@ -19,13 +19,13 @@ use Rattle.text_io.specs.Readings.{EndsReadingAt, WereAll}
 use Rattle.history.specs.declared.text_causes.TextCause.{TextCause}
 use Rattle.text_lines.specs.Grammars.{IsFirstFault}
 use Rattle.text_lines.specs.Numerals.{IsWithin}
-use Rattle.recipe_text.specs.Recipes.{IsActInRange, IsRecipe, is_act, recipe_lines}
-use Rattle.recipe_text.specs.UnrolledActs.{unrolled}
-use Rattle.recipe_text.specs.declared.recipes.Act.{Act}
-use Rattle.recipe_text.specs.declared.recipes.Due.TheVariants.{Version as VersionDue}
-use Rattle.recipe_text.specs.declared.recipes.Said.{Said}
-use Rattle.recipe_text.specs.declared.recipes.Said.TheVariants.{Happens, Until, Finish}
-use Rattle.recipe_text.specs.declared.recipes.Sizes.{Sizes}
+use Rattle.expand_engine.specs.Recipes.{IsActInRange, IsRecipe, is_act, recipe_lines}
+use Rattle.expand_engine.specs.UnrolledActs.{unrolled}
+use Rattle.expand_engine.specs.declared.recipes.Act.{Act}
+use Rattle.expand_engine.specs.declared.recipes.Due.TheVariants.{Version as VersionDue}
+use Rattle.expand_engine.specs.declared.recipes.Said.{Said}
+use Rattle.expand_engine.specs.declared.recipes.Said.TheVariants.{Happens, Until, Finish}
+use Rattle.expand_engine.specs.declared.recipes.Sizes.{Sizes}
 use Rattle.expand_engine.specs.Walks.{ComesTo, EndsCall, FinishRefused, UntilRefused, steps_told}
 
 -- an act leads from a world to another, and stands for these events: an event for itself, steps up to a line or an end

@@ -1,2 +1,4 @@
 pub mod Walks
 pub mod Expansions
+pub mod Recipes
+pub mod UnrolledActs

@@ -2,14 +2,14 @@
 ghost use Rattle.std.specs.Prelude.{◌≡◌, ◌≢◌, ◌+◌, ◌^◌, ◌<◌, ◌≤◌, ◌++◌, ◌∷◌, [], true, All, IfOk, IfErr, IfSome, OnOk, length};
 ghost use Rattle.history.specs.declared.refusals.Refusal.TheVariants.{Memory};
 ghost use Rattle.engine_faults.specs.Faults.{IsEventFault, IsMoveRefusal};
-ghost use Rattle.recipe_text.specs.Recipes.{IsActInRange, is_act};
+ghost use Rattle.expand_engine.specs.Recipes.{IsActInRange, is_act};
 ghost use Rattle.expand_engine.specs.Expansions.{ActRefused, ActsLead, ActsRefused, DoesAct, IsActOf};
 ghost use Rattle.expand_engine.specs.Walks.{steps_told};
 
+use crate::recipes::{Act, Said};
 use crate::walks::{walk_to_end, walk_until};
 use engine_faults::Fault;
 use history::{Op, Refusal};
-use recipe_text::{Act, Said};
 use run_engine::make;
 use schedule_text::Event;
 use std::alloc::Global;

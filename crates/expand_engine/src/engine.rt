@@ -6,9 +6,9 @@ ghost use Rattle.text_io.specs.Readings.{ReachesEnd};
 ghost use Rattle.expand_engine.specs.Expansions.{BeginsExpansion, ExpansionRefused, IsExpansionOf, StopsExpansion, TellsFaultyLine, WritesExpansion};
 
 use crate::expansions::schedule_of;
+use crate::readers::Recipes;
 use engine_faults::Fault;
 use history::Refusal;
-use recipe_text::Recipes;
 use schedule_text::{Schedule, print};
 use std::alloc::Global;
 use text_io::{Sink, Source, parse_source};

@@ -2,16 +2,17 @@
 ghost use Rattle.std.specs.Prelude.{◌≡◌, ◌≤◌, true, false, All, IfOk, IfErr, length};
 ghost use Rattle.counted_ref.specs.Ref.{IsSplit};
 ghost use Rattle.engine_faults.specs.Faults.{IsEventFault};
-ghost use Rattle.recipe_text.specs.Recipes.{IsRecipe};
+ghost use Rattle.expand_engine.specs.Recipes.{IsRecipe};
 ghost use Rattle.schedule_text.specs.Texts.{IsInRange, IsTold};
 ghost use Rattle.schedule_text.specs.declared.schedules.Version.TheVariants.{One};
 ghost use Rattle.expand_engine.specs.Expansions.{AreSizesInRange, EventsOf, IsActOf, IsExpanded, IsVersionOf, RefusesAt, RefusesRecipeAt, opening_with};
 
 use crate::acts::act_all;
+use crate::recipes::{Act, Recipe, Sizes};
+use crate::unrolled_acts::acts_of;
 use engine_faults::Fault;
 use history::{Op, Refusal};
 use line_table::Section;
-use recipe_text::{Act, Recipe, Sizes, acts_of};
 use run_engine::by_bits;
 use schedule_text::{Event, Schedule, Version};
 use std::alloc::Global;

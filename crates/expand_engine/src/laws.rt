@@ -1,6 +1,6 @@
 //! Laws of what recipes stand for: functions that do nothing, whose contracts are the laws.
 ghost use Rattle.std.specs.Prelude.{◌≡◌, List};
-ghost use Rattle.recipe_text.specs.declared.recipes.Act.{Act};
+ghost use Rattle.expand_engine.specs.declared.recipes.Act.{Act};
 ghost use Rattle.run_engine.specs.Runs.{EventsLead};
 ghost use Rattle.schedule_text.specs.declared.schedules.Event.{Event};
 ghost use Rattle.step_machine.specs.Machine.{World};

@@ -1,5 +1,5 @@
 use Rattle.std.proofs.Common.{◌≡◌, ◌≤◌, All, None, length, subst}
-use Rattle.recipe_text.specs.UnrolledActs.{unrolled}
+use Rattle.expand_engine.specs.UnrolledActs.{unrolled}
 use Rattle.expand_engine.specs.Expansions.{IsActOf, IsVersionOf}
 use Rattle.expand_engine.proofs.Ranges.{acts_few, acts_in_range, schedule_in_range, sizes_in_range}
 use Rattle.expand_engine.proofs.expansions.schedule_of.Goals as goal

@@ -1,0 +1,117 @@
+//! What a line of a recipe says, where it is due.
+ghost use Rattle.std.specs.Prelude.{◌≡◌, ◌≢◌, ◌≤◌, ℕ, ◌∷◌, [], MatchResult, codes};
+ghost use Rattle.counted_ref.specs.Ref.{IsSplit};
+ghost use Rattle.text_lines.specs.Lines.{words_of};
+ghost use Rattle.text_lines.specs.Readings.{ReadsLine};
+ghost use Rattle.expand_engine.specs.Recipes.{HasRoom, IsActInRange, IsActSaid, IsDueInRange, IsSaidInRange, SaysWhere, said_words};
+
+use crate::act_lines::{act_in, opens_repeat};
+use crate::recipes::{Due, MOST_ACTS, Said};
+use history::Op;
+use schedule_text::{Event, Field, kind_in, number_of};
+use text_lines::TextCause;
+
+/// What a line says, less its comment, where this is due.
+pub fn said_in(due: Due, line: &[u8]) -> Result<Said, TextCause>
+    requires { IsDueInRange due }
+    ensures { ReadsLine (SaysWhere due line.now) (IsSaidInRange due) result }
+{
+    if line.is_empty() {
+        return nothing_in(due);
+    }
+    match due {
+        Due::Version => version_in(line),
+        Due::Queue => queue_in(line),
+        Due::Number(bits, field) => field_in(bits, field, line),
+        Due::Act(acts) => act_outside(acts, line),
+        Due::Repeated(acts, times) => act_inside(acts, times, line),
+        Due::Nothing => Err(TextCause::Form),
+    }
+}
+
+// Where a line says nothing: all but the first may.
+fn nothing_in(due: Due) -> Result<Said, TextCause>
+    ensures { ReadsLine (SaysWhere due []) (IsSaidInRange due) result }
+{
+    match due {
+        Due::Version | Due::Nothing => Err(TextCause::Form),
+        _ => Ok(Said::Nothing),
+    }
+}
+
+fn version_in(line: &[u8]) -> Result<Said, TextCause>
+    ensures { ReadsLine (SaysWhere Due.Version line.now) (IsSaidInRange Due.Version) result }
+{
+    if line == b"msq schedule 3".as_slice() {
+        Ok(Said::Version)
+    } else {
+        Err(TextCause::Form)
+    }
+}
+
+fn queue_in(line: &[u8]) -> Result<Said, TextCause>
+    requires { line.now ≢ [] }
+    ensures { ReadsLine (SaysWhere Due.Queue line.now) (IsSaidInRange Due.Queue) result }
+{
+    match kind_in(line) {
+        Ok(kind) => Ok(Said::Queue(kind)),
+        Err(cause) => Err(cause),
+    }
+}
+
+fn field_in(bits: u32, field: Field, line: &[u8]) -> Result<Said, TextCause>
+    requires split { IsSplit bits }
+    requires some { line.now ≢ [] }
+    ensures { ReadsLine (SaysWhere (Due.Number bits field) line.now)
+        (IsSaidInRange (Due.Number bits field)) result }
+{
+    match number_of(field, bits, line) {
+        Ok(value) => Ok(Said::Number(field, value)),
+        Err(cause) => Err(cause),
+    }
+}
+
+// What is said where no repeat is open.
+fn act_outside(acts: u64, line: &[u8]) -> Result<Said, TextCause>
+    requires few { acts ≤ 1000000 }
+    requires some { line.now ≢ [] }
+    ensures { ReadsLine (SaysWhere (Due.Act acts) line.now) (IsSaidInRange (Due.Act acts)) result }
+{
+    match act_in(line) {
+        Ok(said) => with_room(acts, 1, said),
+        Err(cause) => Err(cause),
+    }
+}
+
+// What is said in a repeat.
+fn act_inside(acts: u64, times: u64, line: &[u8]) -> Result<Said, TextCause>
+    requires few { acts ≤ 1000000 }
+    requires times { times ≤ 1000000 }
+    requires some { line.now ≢ [] }
+    ensures { ReadsLine (SaysWhere (Due.Repeated acts times) line.now)
+        (IsSaidInRange (Due.Repeated acts times)) result }
+{
+    if opens_repeat(line) {
+        return Err(TextCause::Form);
+    }
+    match act_in(line) {
+        Ok(said) => with_room(acts, times, said),
+        Err(cause) => Err(cause),
+    }
+}
+
+// What is said, where there is room for it.
+fn with_room(acts: u64, times: u64, said: Said) -> Result<Said, TextCause>
+    requires few { acts ≤ 1000000 }
+    requires times { times ≤ 1000000 }
+    ensures { MatchResult result (λ kept. (kept ≡ said) × HasRoom acts times said)
+        (λ cause. (cause ≡ TextCause.Range) × ¬ HasRoom acts times said) }
+{
+    // The check of the match stops unless the types of its parts are named here.
+    let _: Option<Op> = None;
+    let _: Option<Event> = None;
+    if said.is_act() && acts + times > MOST_ACTS {
+        return Err(TextCause::Range);
+    }
+    Ok(said)
+}

@@ -1,0 +1,109 @@
+//! What the lines of a recipe say, and which line is due.
+use history::Op;
+use line_table::{Kind, Line};
+use schedule_text::{Event, Field};
+
+/// How many acts a recipe has at most, each counted as often as it is done.
+pub const MOST_ACTS: u64 = 1_000_000;
+
+/// What a line of a recipe says, less its comment.
+#[derive(Clone, Copy)]
+pub enum Said {
+    /// Nothing: the line is empty, or a comment alone.
+    Nothing,
+    /// That the text is a recipe.
+    Version,
+    /// The queue.
+    Queue(Kind),
+    /// A number of the header.
+    Number(Field, u64),
+    /// An event of a schedule.
+    Happens(Event),
+    /// This actor takes steps until it stands before this line.
+    Until(u16, Line),
+    /// This actor takes steps until its call ends.
+    Finish(u16),
+    /// The acts down to the next end are done so often.
+    Repeat(u64),
+    /// The repeat, or else the recipe, ends here.
+    End,
+}
+
+impl Said {
+    ghost use Rattle.std.specs.Prelude.{◌≡◌};
+    ghost use Rattle.expand_engine.specs.Recipes.{is_act, says_nothing};
+    ghost use Rattle.expand_engine.specs.UnrolledActs.{is_end};
+
+    /// Whether this is an act: something that actors do. Takes no memory and doesn't wait.
+    pub fn is_act(&self) -> bool
+        ensures { result ≡ is_act self.now }
+    {
+        match self {
+            Said::Happens(_) | Said::Until(_, _) | Said::Finish(_) => true,
+            _ => false,
+        }
+    }
+
+    /// Whether this is nothing. Takes no memory and doesn't wait.
+    pub fn says_nothing(&self) -> bool
+        ensures { result ≡ says_nothing self.now }
+    {
+        match self {
+            Said::Nothing => true,
+            _ => false,
+        }
+    }
+
+    /// Whether this ends what is open. Takes no memory and doesn't wait.
+    pub fn is_end(&self) -> bool
+        ensures { result ≡ is_end self.now }
+    {
+        match self {
+            Said::End => true,
+            _ => false,
+        }
+    }
+}
+
+/// Which line of a recipe is due.
+#[derive(Clone, Copy)]
+pub enum Due {
+    /// The version.
+    Version,
+    /// The queue.
+    Queue,
+    /// This number of the header, where so many bits hold a node.
+    Number(u32, Field),
+    /// An act, a repeat or the recipe's end, where there are so many acts so far.
+    Act(u64),
+    /// An act or the repeat's end, where there are so many acts so far, and each act counts so often.
+    Repeated(u64, u64),
+    /// None.
+    Nothing,
+}
+
+/// An act of a recipe, and the number of its line, from 1.
+#[derive(Clone, Copy)]
+pub struct Act {
+    pub line: u64,
+    pub said: Said,
+}
+
+/// The queue of a recipe, its sizes, and how many actors there are.
+#[derive(Clone, Copy)]
+pub struct Sizes {
+    pub kind: Kind,
+    /// How many of a word's bits hold a node.
+    pub bits: u32,
+    pub nodes: u32,
+    pub limit: u64,
+    pub actors: u16,
+}
+
+/// A recipe: its text, and what each line of it says.
+#[derive(Drop)]
+pub struct Recipe {
+    pub text: Vec<u8>,
+    pub sizes: Sizes,
+    pub lines: Vec<Said>,
+}

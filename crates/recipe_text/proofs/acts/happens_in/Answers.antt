@@ -1,5 +1,0 @@
-use Rattle.recipe_text.proofs.Spoken.{happens_range}
-use Rattle.recipe_text.proofs.acts.happens_in.Goals as goal
-
-pub returns-in-Err-Range : goal.returns-in-Err-Range
-returns-in-Err-Range c = happens_range c.args.line.now c.in-Err-Range.field-0 c.in-Err-Range.field-0-is c.in-Err-Range.ensures

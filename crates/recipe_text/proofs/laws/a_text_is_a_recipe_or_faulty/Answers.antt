@@ -1,5 +1,0 @@
-use Rattle.recipe_text.proofs.OneRecipe.{not_neither_of_recipe}
-use Rattle.recipe_text.proofs.laws.a_text_is_a_recipe_or_faulty.Goals as goal
-
-pub returns : goal.returns
-returns c = not_neither_of_recipe

@@ -1,6 +1,0 @@
-use Rattle.std.proofs.Common.{◌≡◌, ◌++◌}
-use Rattle.recipe_text.specs.UnrolledActs.{repeated}
-use Rattle.recipe_text.proofs.unrolled_acts.push_repeated.Given as goal
-
-abbrev pub invariant-loop : goal.invariant-loop
-invariant-loop l = l.acts.items ≡ l.fn.acts.items ++ repeated l.counter l.body

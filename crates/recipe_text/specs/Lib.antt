@@ -1,2 +1,0 @@
-pub mod Recipes
-pub mod UnrolledActs
