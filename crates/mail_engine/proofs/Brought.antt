@@ -3,8 +3,8 @@ use Rattle.std.proofs.Common.{◌≡◌, ◌∙◌, ◌+◌, ◌-◌, ◌<◌, r
 use Rattle.std.specs.Prelude.{string_bytes}
 use Rattle.std.proofs.lemmas.List.{get_or-map, length-map}
 use Rattle.text_lines.specs.Numerals.{IsWithin}
-use Rattle.mail_text.specs.declared.letters.Outgoing.{Outgoing}
-use Rattle.mail_text.specs.MailTexts.{SaidLetter, said_letter, said_letters}
+use Rattle.mail_engine.specs.declared.letters.Outgoing.{Outgoing}
+use Rattle.mail_engine.specs.MailTexts.{SaidLetter, said_letter, said_letters}
 use Rattle.mailbox.specs.declared.threads.Task.{Task}
 use Rattle.mailbox.specs.declared.receiver.Letter.{Letter}
 use Rattle.mailbox.specs.Posts.{BringTexts, texts_in, texts_of}

@@ -6,7 +6,7 @@ use Rattle.std.proofs.lemmas.List.{length-map}
 use Rattle.history.specs.declared.operations.Taken.{Taken}
 use Rattle.history.specs.Seats.{Permit, Known}
 use Rattle.history.specs.Values.{popped, OnlyPops}
-use Rattle.mail_text.specs.MailTexts.{SaidLetter}
+use Rattle.mail_engine.specs.MailTexts.{SaidLetter}
 use Rattle.mailbox.specs.declared.receiver.Letter.{Letter}
 use Rattle.mailbox.specs.declared.receiver.Receiver.{Receiver}
 use Rattle.mailbox.specs.Posts.{Delivered, texts_of}

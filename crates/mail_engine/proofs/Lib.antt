@@ -6,3 +6,4 @@ pub mod Told
 pub mod Shares
 pub mod Brought
 pub mod Carried
+pub mod MailLines

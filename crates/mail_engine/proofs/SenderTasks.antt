@@ -4,8 +4,8 @@ use Rattle.std.proofs.lemmas.List.{get_or-map, length-map}
 use Rattle.std.specs.List.{All}
 use Rattle.text_lines.specs.Numerals.{IsWithin}
 use Rattle.history.specs.Seats.{Permit, Known}
-use Rattle.mail_text.specs.declared.letters.Outgoing.{Outgoing}
-use Rattle.mail_text.specs.MailTexts.{said_letter, said_letters, IsLetter, IsLetterInRange}
+use Rattle.mail_engine.specs.declared.letters.Outgoing.{Outgoing}
+use Rattle.mail_engine.specs.MailTexts.{said_letter, said_letters, IsLetter, IsLetterInRange}
 use Rattle.mailbox.specs.declared.office.Office.{Office}
 use Rattle.mailbox.specs.declared.sender.Sender.{Sender}
 use Rattle.mailbox.specs.declared.threads.Task.{Task}

@@ -5,7 +5,7 @@ use Rattle.std.specs.List.{All, filter}
 use Rattle.std.proofs.lemmas.Bool.{eqb-true, eqb-false}
 use Rattle.std.proofs.lemmas.List.{get_or-set_same, get_or-set_other, get_or_default}
 use Rattle.std.proofs.Math.ListN.{set}
-use Rattle.mail_text.specs.declared.letters.Outgoing.{Outgoing}
+use Rattle.mail_engine.specs.declared.letters.Outgoing.{Outgoing}
 use Rattle.mailbox.specs.declared.threads.Task.{Task}
 use Rattle.mailbox.specs.Posts.{texts_in}
 use Rattle.mail_engine.specs.Shares.{texts_from, HaveTexts, AddsText}

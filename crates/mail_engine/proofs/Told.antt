@@ -4,8 +4,8 @@ use Rattle.std.specs.List.{All}
 use Rattle.std.proofs.lemmas.List.{length-map}
 use Rattle.text_lines.specs.Numerals.{IsWithin}
 use Rattle.history.specs.Seats.{Permit, Known, IsSound}
-use Rattle.mail_text.specs.declared.letters.Outgoing.{Outgoing}
-use Rattle.mail_text.specs.MailTexts.{SaidLetter, said_letter, said_letters}
+use Rattle.mail_engine.specs.declared.letters.Outgoing.{Outgoing}
+use Rattle.mail_engine.specs.MailTexts.{SaidLetter, said_letter, said_letters}
 use Rattle.mailbox.specs.declared.receiver.Letter.{Letter}
 use Rattle.mailbox.specs.declared.receiver.Receiver.{Receiver}
 use Rattle.mailbox.specs.declared.sender.Sender.{Sender}

@@ -6,7 +6,7 @@ use Rattle.text_lines.specs.Numerals.{IsWithin}
 use Rattle.history.specs.declared.operations.Taken.{Taken}
 use Rattle.history.specs.Seats.{Permit, Known}
 use Rattle.history.specs.Values.{popped, OnlyPops}
-use Rattle.mail_text.specs.MailTexts.{SaidLetter}
+use Rattle.mail_engine.specs.MailTexts.{SaidLetter}
 use Rattle.mailbox.specs.declared.receiver.Receiver.{Receiver}
 use Rattle.mailbox.specs.Offices.{queue_in}
 use Rattle.node_arena.specs.Arenas.{Arena}

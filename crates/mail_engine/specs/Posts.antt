@@ -9,7 +9,7 @@ use Rattle.text_io.specs.Devices.{SinkState}
 use Rattle.text_io.specs.Blocks.{TakesPrefix}
 use Rattle.history.specs.declared.refusals.Refusal.{Refusal}
 use Rattle.history.specs.declared.refusals.Refusal.TheVariants.{NoNode, WornOut, Memory, BadSize, Text, Read, Write, Lost}
-use Rattle.mail_text.specs.MailTexts.{SaidLetter, mail_text, IsMailInRange, IsFirstFaultOfMail}
+use Rattle.mail_engine.specs.MailTexts.{SaidLetter, mail_text, IsMailInRange, IsFirstFaultOfMail}
 use Rattle.mailbox.specs.declared.receiver.Letter.{Letter}
 use Rattle.mailbox.specs.Posts.{texts_of}
 use Rattle.text_io.specs.Readings.{WereAll}

@@ -1,7 +1,7 @@
 -- The letters of each sender.
 use Rattle.std.specs.Prelude.{◌≡◌, ◌≢◌, ℕ, ◌+◌, ◌<◌, List, [], ◌∷◌, ◌++◌, length, map, nat_eq, get_or, string_bytes}
 use Rattle.std.specs.List.{filter}
-use Rattle.mail_text.specs.declared.letters.Outgoing.{Outgoing}
+use Rattle.mail_engine.specs.declared.letters.Outgoing.{Outgoing}
 use Rattle.mailbox.specs.declared.threads.Task.{Task}
 use Rattle.mailbox.specs.Posts.{texts_in}
 

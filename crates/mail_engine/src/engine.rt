@@ -1,7 +1,7 @@
 //! Reads the text of mail, sends its letters, and writes the letters taken.
 ghost use Rattle.std.specs.Prelude.{◌≡◌, ◌≢◌, IfErr, IfOk, OnOk};
 ghost use Rattle.text_io.specs.Blocks.{GivesUp};
-ghost use Rattle.mail_text.specs.MailTexts.{said_letters, IsMailInRange};
+ghost use Rattle.mail_engine.specs.MailTexts.{said_letters, IsMailInRange};
 ghost use Rattle.text_io.specs.Readings.{EndsReadingFor};
 ghost use Rattle.arena_queue.specs.Queues.{arena_of};
 ghost use Rattle.mailbox.specs.Offices.{queue_in};
@@ -10,13 +10,13 @@ ghost use Rattle.mail_engine.specs.Posts.{IsTextOf, ArePosted, AreTaken, WritesL
 ghost use Rattle.mail_engine.specs.Carriers.{taker_in, Carried, CarriedBy, CarriedIn, CarriedText, RingCarried};
 
 use crate::letter_texts::tell;
+use crate::letters::Mail;
 use crate::new_queues::{mail_queue, mail_ring};
 use crate::tasks::tasks_of;
 use crate::texts::MailTexts;
 use arena_queue::{Algorithm, ArenaQueue};
 use history::{Fifo, Refusal};
 use line_table::Kind;
-use mail_text::Mail;
 use mailbox::{Office, Receiver, post};
 use node_arena::MOST_COUNT;
 use nonblocking::{MsQueue, NonBlockingAlgorithm};

@@ -5,8 +5,8 @@ ghost use Rattle.text_lines.specs.Numerals.{IsWithin};
 ghost use Rattle.mailbox.specs.Posts.{letters_of};
 ghost use Rattle.mail_engine.specs.Shares.{HaveTexts, AddsText};
 
+use crate::letters::Outgoing;
 use history::{Fifo, Refusal};
-use mail_text::Outgoing;
 use mailbox::{Sender, Task};
 use std::alloc::Global;
 

@@ -1,6 +1,7 @@
 //! Texts of mail, as they are parsed.
+use crate::letters::Mail;
+use crate::readers::parse_mail;
 use history::Refusal;
-use mail_text::{Mail, parse_mail};
 use std::alloc::Global;
 use text_io::Parser;
 
@@ -9,7 +10,7 @@ pub struct MailTexts;
 
 impl Parser for MailTexts {
     ghost use Rattle.text_lines.specs.Listings.{First, ListingDue, ListingLine, listing_grammar};
-    ghost use Rattle.mail_text.specs.MailTexts.{IsMailInRange, MailHeader, SaidLetter, mail_listing, mail_text, said_letters};
+    ghost use Rattle.mail_engine.specs.MailTexts.{IsMailInRange, MailHeader, SaidLetter, mail_listing, mail_text, said_letters};
 
     type Parsed = Mail;
 

@@ -1,7 +1,7 @@
 //! What no clause says: that texts of mail are read where memory is there, and the faults of known texts.
 use crate::tests::comparisons::same;
 use history::{Refusal, TextCause};
-use mail_text::{Outgoing, parse_mail};
+use mail_engine::{Outgoing, parse_mail};
 use std::alloc::Global;
 use std::test::Fail;
 

@@ -1,7 +1,7 @@
 use Rattle.std.proofs.Common.{arith, ◌≡◌, ◌+◌, ◌-◌, ◌^◌, length, ap, ◌∙◌}
 use Rattle.std.proofs.lemmas.List.{length-map}
 use Rattle.counted_ref.specs.Ref.{count_bits}
-use Rattle.mail_text.specs.MailTexts.{said_letter, said_letters}
+use Rattle.mail_engine.specs.MailTexts.{said_letter, said_letters}
 use Rattle.node_arena.specs.NewArenas.{plan}
 use Rattle.node_arena.specs.Seats.{plan_of}
 use Rattle.arena_queue.specs.Queues.{arena_of}

@@ -1,6 +1,6 @@
 use Rattle.std.proofs.Common.{arith, ◌≡◌, ◌+◌, ◌∷◌, ◌++◌, [], length, subst, sym}
 use Rattle.std.proofs.lemmas.List.{length-map}
-use Rattle.mail_text.specs.MailTexts.{said_letter, said_letters}
+use Rattle.mail_engine.specs.MailTexts.{said_letter, said_letters}
 use Rattle.mail_engine.specs.Rows.{IsMailRing}
 use Rattle.mail_engine.proofs.Carried.{IfOk-both}
 use Rattle.mail_engine.proofs.engine.post_by_ring.Goals as goal

@@ -1,6 +1,6 @@
 use Rattle.std.proofs.Common.{◌∙◌, ap}
 use Rattle.std.proofs.lemmas.Result.{err_from_is_err_and}
-use Rattle.mail_text.specs.MailTexts.{said_letters}
+use Rattle.mail_engine.specs.MailTexts.{said_letters}
 use Rattle.mailbox.specs.Offices.{queue_in}
 use Rattle.mailbox.proofs.Plans.{queue_in-same, receiver_of-same}
 use Rattle.mail_engine.proofs.Carried.{carried}

@@ -8,7 +8,7 @@ use Rattle.text_lines.specs.Printable.{IsPrintable, IsShort}
 use Rattle.text_lines.specs.Listings.{Listing, IsFirstFaultIn}
 use Rattle.history.specs.declared.refusals.Refusal.{Refusal}
 use Rattle.listings.specs.Refusals.{IsRefusalIn}
-use Rattle.mail_text.specs.declared.letters.Outgoing.{Outgoing}
+use Rattle.mail_engine.specs.declared.letters.Outgoing.{Outgoing}
 
 -- what the first line says: how many senders there are, and how many letters follow
 pub record MailHeader : Type 0 where

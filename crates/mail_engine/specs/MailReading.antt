@@ -8,9 +8,9 @@ use Rattle.text_lines.specs.Numerals.{numeral}
 use Rattle.text_lines.specs.Printable.{IsShort}
 use Rattle.text_lines.specs.Readings.{IsWrong}
 use Rattle.text_lines.specs.Listings.{SaysItem, SaysHeader}
-use Rattle.mail_text.specs.declared.lines.ReadLetter.{ReadLetter}
-use Rattle.mail_text.specs.declared.lines.Counts.{Counts}
-use Rattle.mail_text.specs.MailTexts.{MailHeader, SaidLetter, mail_listing, IsHeaderInRange, IsLetter, IsLetterInRange}
+use Rattle.mail_engine.specs.declared.lines.ReadLetter.{ReadLetter}
+use Rattle.mail_engine.specs.declared.lines.Counts.{Counts}
+use Rattle.mail_engine.specs.MailTexts.{MailHeader, SaidLetter, mail_listing, IsHeaderInRange, IsLetter, IsLetterInRange}
 
 -- what was read of a first line
 abbrev pub header_in : Counts → MailHeader

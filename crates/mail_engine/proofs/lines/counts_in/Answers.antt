@@ -1,8 +1,8 @@
 use Rattle.std.proofs.Common.{rules}
 use Rattle.std.proofs.lemmas.Result.{err_from_is_err_and}
-use Rattle.mail_text.specs.MailTexts.{MailHeader}
-use Rattle.mail_text.proofs.MailLines.{no_letters}
-use Rattle.mail_text.proofs.lines.counts_in.Goals as goal
+use Rattle.mail_engine.specs.MailTexts.{MailHeader}
+use Rattle.mail_engine.proofs.MailLines.{no_letters}
+use Rattle.mail_engine.proofs.lines.counts_in.Goals as goal
 
 pub returns-in_err-letters : goal.returns-in_err-letters
 returns-in_err-letters c =

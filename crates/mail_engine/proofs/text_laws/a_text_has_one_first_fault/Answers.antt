@@ -1,8 +1,8 @@
 -- Each clause is a law of listings, at that of mail.
 use Rattle.text_lines.proofs.Listings.{listing-no_fault, listing-one_fault}
-use Rattle.mail_text.specs.MailTexts.{header_of, mail_listing}
-use Rattle.mail_text.proofs.MailLines.{IsListing-mail, IsSoundListing-mail}
-use Rattle.mail_text.proofs.text_laws.a_text_has_one_first_fault.Goals as goal
+use Rattle.mail_engine.specs.MailTexts.{header_of, mail_listing}
+use Rattle.mail_engine.proofs.MailLines.{IsListing-mail, IsSoundListing-mail}
+use Rattle.mail_engine.proofs.text_laws.a_text_has_one_first_fault.Goals as goal
 
 pub returns : goal.returns
 returns c = record {

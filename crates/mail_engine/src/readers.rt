@@ -1,6 +1,6 @@
 //! Mail from its text.
 ghost use Rattle.std.specs.Prelude.{◌≡◌, IfOk, IfErr};
-ghost use Rattle.mail_text.specs.MailTexts.{said_letters, mail_text, IsMailInRange, IsFirstFaultOfMail};
+ghost use Rattle.mail_engine.specs.MailTexts.{said_letters, mail_text, IsMailInRange, IsFirstFaultOfMail};
 
 use crate::letters::{Mail, Outgoing};
 use crate::lines::{Counts, counts_of, letter_of, owned};
@@ -13,8 +13,8 @@ use text_lines::TextCause;
 struct MailFormat;
 
 impl ListingFormat for MailFormat {
-    ghost use Rattle.mail_text.specs.MailTexts.{MailHeader, SaidLetter, said_letter, mail_listing};
-    ghost use Rattle.mail_text.specs.MailReading.{header_in};
+    ghost use Rattle.mail_engine.specs.MailTexts.{MailHeader, SaidLetter, said_letter, mail_listing};
+    ghost use Rattle.mail_engine.specs.MailReading.{header_in};
 
     type Header = Counts;
 

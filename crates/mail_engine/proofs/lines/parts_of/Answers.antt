@@ -1,8 +1,8 @@
 use Rattle.std.proofs.Common.{rules, arith}
 use Rattle.std.proofs.lemmas.Result.{err_from_is_err_and}
-use Rattle.mail_text.specs.MailTexts.{SaidLetter}
-use Rattle.mail_text.proofs.MailLines.{no_text}
-use Rattle.mail_text.proofs.lines.parts_of.Goals as goal
+use Rattle.mail_engine.specs.MailTexts.{SaidLetter}
+use Rattle.mail_engine.proofs.MailLines.{no_text}
+use Rattle.mail_engine.proofs.lines.parts_of.Goals as goal
 
 pub returns-in_err-printable_in : goal.returns-in_err-printable_in
 returns-in_err-printable_in c =

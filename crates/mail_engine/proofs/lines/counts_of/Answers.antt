@@ -1,6 +1,6 @@
 use Rattle.std.proofs.lemmas.Result.{err_from_is_err_and}
-use Rattle.mail_text.proofs.MailLines.{AreOfHeader-said, ReadsHeader-kept}
-use Rattle.mail_text.proofs.lines.counts_of.Goals as goal
+use Rattle.mail_engine.proofs.MailLines.{AreOfHeader-said, ReadsHeader-kept}
+use Rattle.mail_engine.proofs.lines.counts_of.Goals as goal
 
 pub returns-in_err-counts_in : goal.returns-in_err-counts_in
 returns-in_err-counts_in c =

@@ -1,7 +1,7 @@
 //! Laws of texts of mail, each the contract of a function that does nothing.
 ghost use Rattle.std.specs.Prelude.{◌≡◌, ◌≢◌, ℕ, List};
 ghost use Rattle.history.specs.declared.text_causes.TextCause.{TextCause};
-ghost use Rattle.mail_text.specs.MailTexts.{SaidLetter, mail_text, IsMailInRange, HasFirstFault};
+ghost use Rattle.mail_engine.specs.MailTexts.{SaidLetter, mail_text, IsMailInRange, HasFirstFault};
 
 /// A text is that of one number of senders and one list of letters at most.
 #[tactic(auto, using(crate::proofs::MailLines::one_mail))]

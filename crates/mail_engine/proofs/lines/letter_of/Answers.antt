@@ -1,6 +1,6 @@
 use Rattle.std.proofs.lemmas.Result.{err_from_is_err_and}
-use Rattle.mail_text.proofs.MailLines.{AreOfLetter-said, ReadsLetter-kept}
-use Rattle.mail_text.proofs.lines.letter_of.Goals as goal
+use Rattle.mail_engine.proofs.MailLines.{AreOfLetter-said, ReadsLetter-kept}
+use Rattle.mail_engine.proofs.lines.letter_of.Goals as goal
 
 pub returns-in_err-parts_of : goal.returns-in_err-parts_of
 returns-in_err-parts_of c =

@@ -2,9 +2,9 @@
 ghost use Rattle.std.specs.Prelude.{◌≡◌, ◌≤◌, ℕ, IfOk, IfErr};
 ghost use Rattle.text_lines.specs.Numerals.{IsWithin};
 ghost use Rattle.text_lines.specs.Readings.{ReadsBack};
-ghost use Rattle.mail_text.specs.MailTexts.{MailHeader, SaidLetter, said_letter};
-ghost use Rattle.mail_text.specs.MailReading.{said_of, KeepsText, KeepsHeader, KeepsLetter};
-ghost use Rattle.mail_text.specs.MailReading.{ReadsWordsOfHeader, ReadsHeader, ReadsWordsOfLetter, ReadsLetter};
+ghost use Rattle.mail_engine.specs.MailTexts.{MailHeader, SaidLetter, said_letter};
+ghost use Rattle.mail_engine.specs.MailReading.{said_of, KeepsText, KeepsHeader, KeepsLetter};
+ghost use Rattle.mail_engine.specs.MailReading.{ReadsWordsOfHeader, ReadsHeader, ReadsWordsOfLetter, ReadsLetter};
 
 use crate::letters::Outgoing;
 use listings::ItemError;

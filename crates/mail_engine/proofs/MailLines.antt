@@ -11,10 +11,10 @@ use Rattle.text_lines.specs.Listings.{listing_text, IsListing, IsSoundListing}
 use Rattle.text_lines.proofs.Numerals.{HasNo-numeral, numeral_injective}
 use Rattle.text_lines.proofs.Splits.{HasNo-tested, words_of_more, words_of_some, spaced-words_of, words_of-spaced}
 use Rattle.text_lines.proofs.Listings.{one_listing, listing-not_neither}
-use Rattle.mail_text.specs.declared.lines.ReadLetter.{ReadLetter}
-use Rattle.mail_text.specs.declared.lines.Counts.{Counts}
-use Rattle.mail_text.specs.MailTexts.{MailHeader, SaidLetter, mail_line, letter_line, header_of, mail_text, mail_listing, IsHeaderInRange, IsLetter, IsLetterInRange, IsMailInRange, HasFirstFault}
-use Rattle.mail_text.specs.MailReading.{AreOfHeader, AreOfLetter, SaysMail, SaysLetter, KeepsHeader, KeepsLetter, ReadsHeader, ReadsLetter}
+use Rattle.mail_engine.specs.declared.lines.ReadLetter.{ReadLetter}
+use Rattle.mail_engine.specs.declared.lines.Counts.{Counts}
+use Rattle.mail_engine.specs.MailTexts.{MailHeader, SaidLetter, mail_line, letter_line, header_of, mail_text, mail_listing, IsHeaderInRange, IsLetter, IsLetterInRange, IsMailInRange, HasFirstFault}
+use Rattle.mail_engine.specs.MailReading.{AreOfHeader, AreOfLetter, SaysMail, SaysLetter, KeepsHeader, KeepsLetter, ReadsHeader, ReadsLetter}
 
 -- a number has neither a space nor a line feed
 no_space-numeral : (n : ℕ) → HasNo 32 (numeral n)

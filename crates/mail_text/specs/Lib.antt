@@ -1,2 +1,0 @@
-pub mod MailTexts
-pub mod MailReading
