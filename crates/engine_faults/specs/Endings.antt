@@ -3,7 +3,7 @@ use Rattle.std.specs.Prelude.{◌≡◌, ◌⊎◌, ℕ, List, Result, Ok, Err}
 use Rattle.std.specs.Io.KnownBytes.{Appends}
 use Rattle.text_io.specs.Devices.{SinkState}
 use Rattle.text_io.specs.Blocks.{TakesPrefix, GivesUp}
-use Rattle.text_lines.specs.Lines.{HasNo, line}
+use Rattle.text_io.specs.Lines.{HasNo, line}
 use Rattle.history.specs.declared.operations.Verdict.{Verdict}
 use Rattle.history.specs.declared.operations.Verdict.TheVariants.{Yes, No}
 use Rattle.engine_faults.specs.declared.faults.Fault.{Fault}

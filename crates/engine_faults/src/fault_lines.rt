@@ -1,6 +1,6 @@
 //! What a value prints, in an array.
 ghost use Rattle.std.specs.Prelude.{◌≡◌, ◌<◌, ℕ, List, length};
-ghost use Rattle.text_lines.specs.Lines.{HasNo, line as line_saying};
+ghost use Rattle.text_io.specs.Lines.{HasNo, line as line_saying};
 
 use std::fmt;
 use std::fmt::Write;

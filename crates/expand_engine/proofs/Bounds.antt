@@ -4,7 +4,7 @@ use Rattle.std.proofs.Math.Nat.{mul-suc, suc-mul, zero-mul}
 use Rattle.std.proofs.lemmas.List.{append-nil, length-append}
 use Rattle.std.proofs.lemmas.List.Elements.{All-nil, All-cons, All-append}
 use Rattle.schedule_text.specs.declared.fields.Field.TheVariants.{Bits, Nodes, Limit, Actors}
-use Rattle.text_lines.specs.Grammars.{AreDue, state_after}
+use Rattle.text_io.specs.Grammars.{AreDue, state_after}
 use Rattle.expand_engine.specs.declared.recipes.Act.{Act}
 use Rattle.expand_engine.specs.declared.recipes.Due.{Due}
 use Rattle.expand_engine.specs.declared.recipes.Due.TheVariants.{Version as VersionDue, Queue as QueueDue, Number as NumberDue, Act as ActDue, Repeated, Nothing as NothingDue}

@@ -4,8 +4,8 @@ use Rattle.counted_ref.specs.Ref.{IsSplit}
 use Rattle.schedule_text.specs.declared.fields.Field.{Field}
 use Rattle.schedule_text.specs.declared.fields.Field.TheVariants.{Bits, Nodes, Limit, Actors, Events}
 use Rattle.schedule_text.specs.Texts.{greatest, least}
-use Rattle.text_lines.specs.Grammars.{AreDue, state_after}
-use Rattle.text_lines.specs.Numerals.{IsWithin}
+use Rattle.text_io.specs.Grammars.{AreDue, state_after}
+use Rattle.text_io.specs.Numerals.{IsWithin}
 use Rattle.expand_engine.specs.declared.recipes.Due.{Due}
 use Rattle.expand_engine.specs.declared.recipes.Due.TheVariants.{Version as VersionDue, Queue as QueueDue, Number as NumberDue, Act as ActDue, Repeated, Nothing as NothingDue}
 use Rattle.expand_engine.specs.declared.recipes.Said.{Said}

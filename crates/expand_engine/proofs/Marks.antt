@@ -2,7 +2,7 @@
 use Rattle.std.proofs.Common.{◌≡◌, ◌≢◌, ℕ, List, [], ◌∷◌, ◌++◌, Some, None, refl, ap, ◌∙◌}
 use Rattle.std.proofs.lemmas.Bool.{ne_eqb, eq-eqb}
 use Rattle.std.proofs.lemmas.List.Elements.{All-head, All-tail}
-use Rattle.text_lines.specs.Lines.{HasNo}
+use Rattle.text_io.specs.Lines.{HasNo}
 use Rattle.expand_engine.specs.Recipes.{before, spoken, spoken_of, without_space}
 
 -- where a list has no such byte, nothing stands before one

@@ -2,10 +2,10 @@
 use Rattle.std.proofs.Common.{◌≡◌, ◌≢◌, ℕ, List, [], map, false, get_or, refl, sym, ap, ap₂, ◌∙◌, arith}
 use Rattle.line_table.proofs.Names.{name_of-differs}
 use Rattle.history.specs.declared.text_causes.TextCause.{TextCause}
-use Rattle.text_lines.specs.Grammars.{IsFirstFault, IsSoundGrammar}
-use Rattle.text_lines.proofs.Numerals.{numeral_injective}
-use Rattle.text_lines.proofs.Single.{no_fault, one_fault, one_list}
-use Rattle.text_lines.proofs.Total.{not_neither}
+use Rattle.text_io.specs.Grammars.{IsFirstFault, IsSoundGrammar}
+use Rattle.text_io.proofs.Numerals.{numeral_injective}
+use Rattle.text_io.proofs.Single.{no_fault, one_fault, one_list}
+use Rattle.text_io.proofs.Total.{not_neither}
 use Rattle.schedule_text.specs.declared.fields.Field.{Field}
 use Rattle.schedule_text.specs.declared.fields.Field.TheVariants.{Bits, Nodes, Limit, Actors, Events}
 use Rattle.schedule_text.specs.declared.schedules.Event.{Event}

@@ -6,10 +6,10 @@ use Rattle.history.specs.declared.refusals.Refusal.TheVariants.{Memory, Text}
 use Rattle.text_io.specs.Prefixes.{IsRefusedBy}
 use Rattle.history.specs.declared.text_causes.TextCause.{TextCause}
 use Rattle.history.specs.declared.text_causes.TextCause.TheVariants.{End as EndCause, Form, Range, Extra}
-use Rattle.text_lines.specs.Grammars.{Begins, Says, state_after, IsFault, IsFirstFault}
-use Rattle.text_lines.specs.Lines.{HasNo, line as line_saying}
-use Rattle.text_lines.specs.Readings.{IsWrong}
-use Rattle.text_lines.proofs.Faults.{Begins-nothing, Begins-more, IsText-whole, first_fault-extra}
+use Rattle.text_io.specs.Grammars.{Begins, Says, state_after, IsFault, IsFirstFault}
+use Rattle.text_io.specs.Lines.{HasNo, line as line_saying}
+use Rattle.text_io.specs.LineReadings.{IsWrong}
+use Rattle.text_io.proofs.Faults.{Begins-nothing, Begins-more, IsText-whole, first_fault-extra}
 use Rattle.schedule_text.proofs.Joining.{state_after-append}
 use Rattle.expand_engine.specs.declared.recipes.Due.{Due}
 use Rattle.expand_engine.specs.declared.recipes.Due.TheVariants.{Version as VersionDue}

@@ -4,12 +4,12 @@ use Rattle.std.specs.Prelude.{Option, Result, Ok, Err, MatchResult}
 use Rattle.std.proofs.lemmas.List.Elements.{All-nil, All-cons}
 use Rattle.line_table.specs.Names.{name_of}
 use Rattle.line_table.specs.declared.lines.Kind.{Kind}
-use Rattle.text_lines.specs.Numerals.{numeral}
+use Rattle.text_io.specs.Numerals.{numeral}
 use Rattle.history.specs.declared.text_causes.TextCause.{TextCause}
 use Rattle.history.specs.declared.text_causes.TextCause.TheVariants.{End as EndCause, Form, Range, Extra}
-use Rattle.text_lines.specs.Lines.{HasNo, spaced, words_of}
-use Rattle.text_lines.specs.Readings.{IsWrong, Reads, ReadsLine}
-use Rattle.text_lines.proofs.Splits.{HasNo-tested, spaced-words_of, words_of-spaced}
+use Rattle.text_io.specs.Lines.{HasNo, spaced, words_of}
+use Rattle.text_io.specs.LineReadings.{IsWrong, Reads, ReadsLine}
+use Rattle.text_io.proofs.Splits.{HasNo-tested, spaced-words_of, words_of-spaced}
 use Rattle.schedule_text.specs.declared.fields.Field.{Field}
 use Rattle.schedule_text.specs.declared.schedules.Version.TheVariants.{Two}
 use Rattle.schedule_text.specs.declared.schedules.Event.{Event}

@@ -17,8 +17,8 @@ use Rattle.text_io.specs.Blocks.{TakesPrefix}
 use Rattle.text_io.specs.Devices.{SinkState, SourceState}
 use Rattle.text_io.specs.Readings.{EndsReadingAt, WereAll}
 use Rattle.history.specs.declared.text_causes.TextCause.{TextCause}
-use Rattle.text_lines.specs.Grammars.{IsFirstFault}
-use Rattle.text_lines.specs.Numerals.{IsWithin}
+use Rattle.text_io.specs.Grammars.{IsFirstFault}
+use Rattle.text_io.specs.Numerals.{IsWithin}
 use Rattle.expand_engine.specs.Recipes.{IsActInRange, IsRecipe, is_act, recipe_lines}
 use Rattle.expand_engine.specs.UnrolledActs.{unrolled}
 use Rattle.expand_engine.specs.declared.recipes.Act.{Act}

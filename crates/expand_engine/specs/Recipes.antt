@@ -9,9 +9,9 @@ use Rattle.schedule_text.specs.declared.schedules.Event.{Event}
 use Rattle.schedule_text.specs.Texts.{event_words, field_name, greatest, kind_name, least, IsActor, IsEventInRange}
 use Rattle.history.specs.declared.refusals.Refusal.{Refusal}
 use Rattle.history.specs.declared.refusals.Refusal.TheVariants.{Memory, Text}
-use Rattle.text_lines.specs.Grammars.{Grammar, IsFault, IsText}
-use Rattle.text_lines.specs.Lines.{HasNo, line as line_saying, spaced}
-use Rattle.text_lines.specs.Numerals.{numeral, IsWithin}
+use Rattle.text_io.specs.Grammars.{Grammar, IsFault, IsText}
+use Rattle.text_io.specs.Lines.{HasNo, line as line_saying, spaced}
+use Rattle.text_io.specs.Numerals.{numeral, IsWithin}
 use Rattle.expand_engine.specs.declared.recipes.Due.{Due}
 use Rattle.expand_engine.specs.declared.recipes.Due.TheVariants.{Version as VersionDue, Queue as QueueDue, Number as NumberDue, Act as ActDue, Repeated, Nothing as NothingDue}
 use Rattle.expand_engine.specs.declared.recipes.Said.{Said}

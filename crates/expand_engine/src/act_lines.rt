@@ -3,17 +3,17 @@ ghost use Rattle.std.specs.Prelude.{◌≡◌, ◌≢◌, ℕ, List, ◌∷◌, 
 ghost use Rattle.line_table.specs.Names.{name_of};
 ghost use Rattle.line_table.specs.declared.lines.Line.{Line};
 ghost use Rattle.schedule_text.specs.Texts.{IsActor};
-ghost use Rattle.text_lines.specs.Lines.{words_of};
-ghost use Rattle.text_lines.specs.Numerals.{IsWithin};
-ghost use Rattle.text_lines.specs.Readings.{Reads, ReadsBack, ReadsLine, ReadsWords};
-ghost use Rattle.text_lines.specs.WordsLeft.{number_words};
+ghost use Rattle.text_io.specs.Lines.{words_of};
+ghost use Rattle.text_io.specs.Numerals.{IsWithin};
+ghost use Rattle.text_io.specs.LineReadings.{Reads, ReadsBack, ReadsLine, ReadsWords};
+ghost use Rattle.text_io.specs.WordsLeft.{number_words};
 ghost use Rattle.expand_engine.specs.Recipes.{IsActInRange, IsActSaid, SpellsAct, SpellsEvent, said_words};
 
 use crate::recipes::{MOST_ACTS, Said};
 use history::{MOST_ACTOR, Op};
 use line_table::Line;
 use schedule_text::{Event, Version, event_in};
-use text_lines::{TextCause, Words};
+use text_io::{TextCause, Words};
 
 /// The act, the repeat or the end that a line says.
 pub fn act_in(line: &[u8]) -> Result<Said, TextCause>

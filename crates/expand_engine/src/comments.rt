@@ -1,6 +1,6 @@
 //! What a line says before its comment.
 ghost use Rattle.std.specs.Prelude.{◌≡◌, ◌++◌, ◌∷◌, MatchOption};
-ghost use Rattle.text_lines.specs.Lines.{HasNo};
+ghost use Rattle.text_io.specs.Lines.{HasNo};
 ghost use Rattle.expand_engine.specs.Recipes.{spoken, without_space};
 
 /// What a line says: what stands before its first `#`, less a space there; the whole line where it has no `#`.

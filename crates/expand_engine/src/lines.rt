@@ -1,15 +1,15 @@
 //! What a line of a recipe says, where it is due.
 ghost use Rattle.std.specs.Prelude.{◌≡◌, ◌≢◌, ◌≤◌, ℕ, ◌∷◌, [], MatchResult, codes};
 ghost use Rattle.counted_ref.specs.Ref.{IsSplit};
-ghost use Rattle.text_lines.specs.Lines.{words_of};
-ghost use Rattle.text_lines.specs.Readings.{ReadsLine};
+ghost use Rattle.text_io.specs.Lines.{words_of};
+ghost use Rattle.text_io.specs.LineReadings.{ReadsLine};
 ghost use Rattle.expand_engine.specs.Recipes.{HasRoom, IsActInRange, IsActSaid, IsDueInRange, IsSaidInRange, SaysWhere, said_words};
 
 use crate::act_lines::{act_in, opens_repeat};
 use crate::recipes::{Due, MOST_ACTS, Said};
 use history::Op;
 use schedule_text::{Event, Field, kind_in, number_of};
-use text_lines::TextCause;
+use text_io::TextCause;
 
 /// What a line says, less its comment, where this is due.
 pub fn said_in(due: Due, line: &[u8]) -> Result<Said, TextCause>

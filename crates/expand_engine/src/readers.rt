@@ -12,8 +12,7 @@ use line_table::Kind;
 use schedule_text::Event;
 use std::alloc::Global;
 use std::marker::Model;
-use text_io::Parser;
-use text_lines::{TextCause, line_at};
+use text_io::{Parser, TextCause, line_at};
 
 /// What is read of a text so far.
 #[derive(Drop)]

@@ -1,6 +1,6 @@
 //! Laws of the texts of recipes: functions that do nothing, whose contracts are the laws.
 ghost use Rattle.std.specs.Prelude.{◌≡◌, ℕ, List};
-ghost use Rattle.text_lines.specs.Grammars.{IsFirstFault};
+ghost use Rattle.text_io.specs.Grammars.{IsFirstFault};
 ghost use Rattle.history.specs.declared.text_causes.TextCause.{TextCause};
 ghost use Rattle.expand_engine.specs.Recipes.{IsRecipe, recipe_lines};
 ghost use Rattle.expand_engine.specs.declared.recipes.Due.TheVariants.{Version};

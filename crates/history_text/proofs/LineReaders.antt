@@ -1,7 +1,7 @@
 -- What the readers of lines rest on.
 use Rattle.std.proofs.Common.{◌≡◌, ℕ, List, [], ◌∷◌, sym, ap, ◌∙◌}
-use Rattle.text_lines.specs.Lines.{spaced, words_of}
-use Rattle.text_lines.proofs.Splits.{spaced-words_of}
+use Rattle.text_io.specs.Lines.{spaced, words_of}
+use Rattle.text_io.proofs.Splits.{spaced-words_of}
 use Rattle.history.specs.declared.operations.Stamped.{Stamped}
 use Rattle.history_text.specs.HistoryReading.{AreOfOperation, AreOfCount, SaysOperation, SaysCount}
 use Rattle.history_text.proofs.NoSpaces.{ink-operation, ink-count, words_of-ink}

@@ -3,11 +3,11 @@ use Rattle.std.proofs.Common.{◌≡◌, ◌≢◌, ℕ, List, [], ◌∷◌, �
 use Rattle.std.proofs.lemmas.Bool.{eq-eqb}
 use Rattle.std.proofs.lemmas.List.Elements.{All-head}
 use Rattle.history.specs.declared.text_causes.TextCause.{TextCause}
-use Rattle.text_lines.specs.Lines.{HasNo, words_of}
-use Rattle.text_lines.specs.Numerals.{numeral}
-use Rattle.text_lines.specs.Listings.{IsSoundListing}
-use Rattle.text_lines.proofs.Numerals.{numeral_injective, HasNo-numeral}
-use Rattle.text_lines.proofs.Listings.{one_listing, listing-no_fault, listing-not_neither}
+use Rattle.text_io.specs.Lines.{HasNo, words_of}
+use Rattle.text_io.specs.Numerals.{numeral}
+use Rattle.text_io.specs.Listings.{IsSoundListing}
+use Rattle.text_io.proofs.Numerals.{numeral_injective, HasNo-numeral}
+use Rattle.text_io.proofs.Listings.{one_listing, listing-no_fault, listing-not_neither}
 use Rattle.history.specs.declared.refusals.WornWord.{WornWord}
 use Rattle.history.specs.declared.refusals.WornWord.TheVariants.{Free, Next, Tail, Head}
 use Rattle.history.specs.declared.refusals.Refusal.{Refusal}

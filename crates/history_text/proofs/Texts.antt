@@ -4,10 +4,10 @@ use Rattle.std.specs.List.{flat_map}
 use Rattle.std.specs.Fmt.{decimal}
 use Rattle.std.proofs.lemmas.List.{append-nil}
 use Rattle.std.proofs.lemmas.List.Elements.{All-head, All-tail}
-use Rattle.text_lines.specs.Lines.{line, spaced}
-use Rattle.text_lines.specs.Numerals.{numeral}
-use Rattle.text_lines.specs.Listings.{IsListing, listing_text}
-use Rattle.text_lines.proofs.Numerals.{numeral_decimal}
+use Rattle.text_io.specs.Lines.{line, spaced}
+use Rattle.text_io.specs.Numerals.{numeral}
+use Rattle.text_io.specs.Listings.{IsListing, listing_text}
+use Rattle.text_io.proofs.Numerals.{numeral_decimal}
 use Rattle.history.specs.declared.refusals.Refusal.{Refusal}
 use Rattle.history.specs.declared.refusals.Refusal.TheVariants.{NoNode, WornOut, Busy, Closed}
 use Rattle.history.specs.declared.operations.Op.{Op}

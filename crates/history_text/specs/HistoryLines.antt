@@ -1,12 +1,12 @@
 -- The grammar of histories: what each line may say, in which words, and which of this is in range.
 use Rattle.std.specs.Prelude.{◌≡◌, ◌≤◌, ◌-◌, ◌^◌, ℕ, List, [], ◌∷◌, ◌++◌, Option, Some, None, true, length, codes, All}
 use Rattle.history.specs.declared.text_causes.TextCause.{TextCause}
-use Rattle.text_lines.specs.Lines.{spaced}
-use Rattle.text_lines.specs.Numerals.{numeral, IsWithin}
+use Rattle.text_io.specs.Lines.{spaced}
+use Rattle.text_io.specs.Numerals.{numeral, IsWithin}
 use Rattle.history.specs.Limits.{body_bits, actor_bits}
-use Rattle.text_lines.specs.Grammars.{Grammar}
-use Rattle.text_lines.specs.Listings.{Listing, ListingDue, ListingLine, listing_grammar, IsFirstFaultIn}
-use Rattle.listings.specs.Refusals.{IsRefusalIn}
+use Rattle.text_io.specs.Grammars.{Grammar}
+use Rattle.text_io.specs.Listings.{Listing, ListingDue, ListingLine, listing_grammar, IsFirstFaultIn}
+use Rattle.text_io.specs.ListingRefusals.{IsRefusalIn}
 use Rattle.history.specs.declared.refusals.Refusal.{Refusal}
 use Rattle.history.specs.declared.refusals.Refusal.TheVariants.{WornOut}
 use Rattle.history.specs.declared.operations.Op.{Op}

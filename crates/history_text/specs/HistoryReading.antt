@@ -1,7 +1,7 @@
 -- What the readers of the parts of an operation's line look for.
 use Rattle.std.specs.Prelude.{◌≡◌, ℕ, List, [], ◌∷◌, Option, Some}
-use Rattle.text_lines.specs.Listings.{SaysHeader, SaysItem}
-use Rattle.text_lines.specs.Numerals.{numeral}
+use Rattle.text_io.specs.Listings.{SaysHeader, SaysItem}
+use Rattle.text_io.specs.Numerals.{numeral}
 use Rattle.history.specs.declared.refusals.WornWord.{WornWord}
 use Rattle.history.specs.declared.refusals.Refusal.{Refusal}
 use Rattle.history.specs.declared.operations.Taken.{Taken}

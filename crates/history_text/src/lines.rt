@@ -1,7 +1,7 @@
 //! Reading the lines of a history.
 ghost use Rattle.std.specs.Prelude.{ℕ, Some};
-ghost use Rattle.text_lines.specs.Numerals.{IsWithin};
-ghost use Rattle.text_lines.specs.Readings.{ReadsBack, Reads, ReadsWords, ReadsLine};
+ghost use Rattle.text_io.specs.Numerals.{IsWithin};
+ghost use Rattle.text_io.specs.LineReadings.{ReadsBack, Reads, ReadsWords, ReadsLine};
 ghost use Rattle.history_text.specs.HistoryLines.{call_words, IsActor, IsBody, IsStep, IsCallInRange};
 ghost use Rattle.history_text.specs.HistoryLines.{IsStepInRange, IsReplyInRange, IsOperationInRange, IsCount};
 ghost use Rattle.history_text.specs.HistoryReading.{labelled_number, labelled_step};
@@ -9,7 +9,7 @@ ghost use Rattle.history_text.specs.HistoryReading.{AreOfOperation, SaysOperatio
 
 use crate::replies::reply_of;
 use history::{Body, MOST_ACTOR, MOST_BODY, Op, Reply, Stamped};
-use text_lines::{TextCause, Words, number_in};
+use text_io::{TextCause, Words, number_in};
 
 const MOST_OPERATIONS: u64 = 1_000_000;
 

@@ -5,9 +5,8 @@ ghost use Rattle.history_text.specs.HistoryLines.{IsHistoryInRange, IsFirstFault
 
 use crate::lines::{count_of, operation_of};
 use history::{Refusal, Stamped};
-use listings::{ItemError, ListingFormat, parse_listing};
 use std::alloc::Global;
-use text_lines::TextCause;
+use text_io::{ItemError, ListingFormat, TextCause, parse_listing};
 
 /// The format of histories.
 struct HistoryFormat;

@@ -1,11 +1,11 @@
 //! Reading a reply from the last words of a line.
 ghost use Rattle.std.specs.Prelude.{◌≡◌, MatchResult, Some};
-ghost use Rattle.text_lines.specs.Readings.{ReadsBack, Reads};
+ghost use Rattle.text_io.specs.LineReadings.{ReadsBack, Reads};
 ghost use Rattle.history_text.specs.HistoryLines.{IsActor, IsBody, IsValueInRange, IsReplyInRange};
 ghost use Rattle.history_text.specs.HistoryReading.{AreOfReply, AreOfRefusal, AreOfValue, AreOfWord, IsPlainReply};
 
 use history::{Body, MOST_ACTOR, MOST_BODY, Refusal, Reply, Taken, WornWord};
-use text_lines::{TextCause, Words};
+use text_io::{TextCause, Words};
 
 /// The reply that these words are, or none for a dash; it is left out where a number in it is out of
 /// range.

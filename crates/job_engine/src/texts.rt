@@ -8,7 +8,7 @@ use text_io::Parser;
 pub struct JobTexts;
 
 impl Parser for JobTexts {
-    ghost use Rattle.text_lines.specs.Listings.{First, ListingDue, ListingLine, listing_grammar};
+    ghost use Rattle.text_io.specs.Listings.{First, ListingDue, ListingLine, listing_grammar};
     ghost use Rattle.job_results.specs.JobTexts.{AreJobsInRange, SaidJob, jobs_listing, jobs_text};
     ghost use Rattle.job_results.specs.JobReading.{said_jobs};
     ghost use Rattle.std.specs.Prelude.{ℕ};

@@ -4,12 +4,12 @@ use Rattle.std.specs.Option.{option_zip, ok_or}
 use Rattle.std.proofs.lemmas.Bool.{eq-eqb}
 use Rattle.std.proofs.lemmas.List.Elements.{All-nil, All-cons}
 use Rattle.history.specs.declared.text_causes.TextCause.TheVariants.{Range}
-use Rattle.text_lines.specs.Lines.{HasNo, spaced, words_of}
-use Rattle.text_lines.specs.Numerals.{numeral}
-use Rattle.text_lines.specs.Printable.{IsPrintable}
-use Rattle.text_lines.specs.Readings.{ReadsBack}
-use Rattle.text_lines.proofs.Numerals.{HasNo-numeral}
-use Rattle.text_lines.proofs.Splits.{HasNo-tested, words_of_more, words_of_some, spaced-words_of, words_of-spaced}
+use Rattle.text_io.specs.Lines.{HasNo, spaced, words_of}
+use Rattle.text_io.specs.Numerals.{numeral}
+use Rattle.text_io.specs.Printable.{IsPrintable}
+use Rattle.text_io.specs.LineReadings.{ReadsBack}
+use Rattle.text_io.proofs.Numerals.{HasNo-numeral}
+use Rattle.text_io.proofs.Splits.{HasNo-tested, words_of_more, words_of_some, spaced-words_of, words_of-spaced}
 use Rattle.job_results.specs.declared.lines.ReadJob.{ReadJob}
 use Rattle.job_results.specs.JobTexts.{SaidJob, Add, Mul, Div, Len, two_numbers, job_line, IsJobInRange, IsNumber}
 use Rattle.job_results.specs.JobReading.{job_words, AreTwo, AreBoth, AreOfJob, AreOfCount, SaysJob, SaysCount, KeepsJob, ReadsJob}

@@ -2,12 +2,12 @@
 use Rattle.std.proofs.Common.{◌≡◌, ◌≢◌, ℕ, ◌≤◌, List, [], ◌∷◌, ◌++◌, length, refl, sym, ap, subst, ◌∙◌, arith, codes, inl}
 use Rattle.std.proofs.lemmas.List.Elements.{All-append, All-weaker}
 use Rattle.history.specs.declared.text_causes.TextCause.{TextCause}
-use Rattle.text_lines.specs.Lines.{HasNo, spaced, words_of}
-use Rattle.text_lines.specs.Numerals.{numeral}
-use Rattle.text_lines.specs.Listings.{listing_text, IsListing, IsSoundListing}
-use Rattle.text_lines.proofs.Numerals.{numeral_injective, HasNo-numeral}
-use Rattle.text_lines.proofs.Splits.{HasNo-tested, spaced-words_of}
-use Rattle.text_lines.proofs.Listings.{one_listing, listing-not_neither}
+use Rattle.text_io.specs.Lines.{HasNo, spaced, words_of}
+use Rattle.text_io.specs.Numerals.{numeral}
+use Rattle.text_io.specs.Listings.{listing_text, IsListing, IsSoundListing}
+use Rattle.text_io.proofs.Numerals.{numeral_injective, HasNo-numeral}
+use Rattle.text_io.proofs.Splits.{HasNo-tested, spaced-words_of}
+use Rattle.text_io.proofs.Listings.{one_listing, listing-not_neither}
 use Rattle.job_results.specs.JobTexts.{SaidJob, Add, Mul, Div, Len, two_numbers, job_line, count_line, jobs_text, jobs_listing, IsJob, IsCount, AreJobsInRange, HasFirstFault}
 use Rattle.job_results.specs.JobReading.{job_words}
 use Rattle.job_results.proofs.JobLines.{words_of-job, apart}

@@ -1,14 +1,13 @@
 //! Reading the lines of jobs.
 ghost use Rattle.std.specs.Prelude.{◌≡◌, ℕ, List, IfOk, IfErr};
-ghost use Rattle.text_lines.specs.Readings.{Reads, ReadsBack, ReadsLine};
+ghost use Rattle.text_io.specs.LineReadings.{Reads, ReadsBack, ReadsLine};
 ghost use Rattle.job_results.specs.JobTexts.{Add, Mul, Div, Len, said_job, IsCount};
 ghost use Rattle.job_results.specs.JobReading.{said_of, AreTwo, AreBoth, AreOfCount, SaysCount};
 ghost use Rattle.job_results.specs.JobReading.{KeepsText, KeepsJob, ReadsWordsOfJob, ReadsJob};
 
 use crate::jobs::Job;
-use listings::ItemError;
 use std::alloc::Global;
-use text_lines::{TextCause, Words, printable_in};
+use text_io::{ItemError, TextCause, Words, printable_in};
 
 const MOST_JOBS: u64 = 1_000_000;
 

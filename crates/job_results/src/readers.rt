@@ -6,9 +6,8 @@ ghost use Rattle.job_results.specs.JobReading.{said_jobs};
 use crate::jobs::Job;
 use crate::lines::{count_of, job_of, owned};
 use history::Refusal;
-use listings::{ItemError, ListingFormat, parse_listing};
 use std::alloc::Global;
-use text_lines::TextCause;
+use text_io::{ItemError, ListingFormat, TextCause, parse_listing};
 
 /// The format of jobs.
 struct JobFormat;

@@ -2,7 +2,7 @@
 use Rattle.std.proofs.Common.{◌≡◌, ◌∙◌, ◌+◌, ◌-◌, ◌<◌, refl, sym, ap, subst, ℕ, Bool, true, false, cond, nat_eq, List, [], ◌∷◌, length, map, get_or, arith}
 use Rattle.std.specs.Prelude.{string_bytes}
 use Rattle.std.proofs.lemmas.List.{get_or-map, length-map}
-use Rattle.text_lines.specs.Numerals.{IsWithin}
+use Rattle.text_io.specs.Numerals.{IsWithin}
 use Rattle.mail_engine.specs.declared.letters.Outgoing.{Outgoing}
 use Rattle.mail_engine.specs.MailTexts.{SaidLetter, said_letter, said_letters}
 use Rattle.mailbox.specs.declared.threads.Task.{Task}

@@ -4,13 +4,13 @@ use Rattle.std.specs.Option.{ok_or}
 use Rattle.std.proofs.lemmas.List.Elements.{All-nil, All-cons, All-append, All-weaker}
 use Rattle.history.specs.declared.text_causes.TextCause.{TextCause}
 use Rattle.history.specs.declared.text_causes.TextCause.TheVariants.{Range}
-use Rattle.text_lines.specs.Lines.{HasNo, spaced, words_of}
-use Rattle.text_lines.specs.Numerals.{numeral}
-use Rattle.text_lines.specs.Printable.{IsPrintable}
-use Rattle.text_lines.specs.Listings.{listing_text, IsListing, IsSoundListing}
-use Rattle.text_lines.proofs.Numerals.{HasNo-numeral, numeral_injective}
-use Rattle.text_lines.proofs.Splits.{HasNo-tested, words_of_more, words_of_some, spaced-words_of, words_of-spaced}
-use Rattle.text_lines.proofs.Listings.{one_listing, listing-not_neither}
+use Rattle.text_io.specs.Lines.{HasNo, spaced, words_of}
+use Rattle.text_io.specs.Numerals.{numeral}
+use Rattle.text_io.specs.Printable.{IsPrintable}
+use Rattle.text_io.specs.Listings.{listing_text, IsListing, IsSoundListing}
+use Rattle.text_io.proofs.Numerals.{HasNo-numeral, numeral_injective}
+use Rattle.text_io.proofs.Splits.{HasNo-tested, words_of_more, words_of_some, spaced-words_of, words_of-spaced}
+use Rattle.text_io.proofs.Listings.{one_listing, listing-not_neither}
 use Rattle.mail_engine.specs.declared.lines.ReadLetter.{ReadLetter}
 use Rattle.mail_engine.specs.declared.lines.Counts.{Counts}
 use Rattle.mail_engine.specs.MailTexts.{MailHeader, SaidLetter, mail_line, letter_line, header_of, mail_text, mail_listing, IsHeaderInRange, IsLetter, IsLetterInRange, IsMailInRange, HasFirstFault}

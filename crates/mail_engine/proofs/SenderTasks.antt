@@ -2,7 +2,7 @@
 use Rattle.std.proofs.Common.{◌≡◌, ◌<◌, ℕ, sym, ap, subst, List, length, map, arith}
 use Rattle.std.proofs.lemmas.List.{get_or-map, length-map}
 use Rattle.std.specs.List.{All}
-use Rattle.text_lines.specs.Numerals.{IsWithin}
+use Rattle.text_io.specs.Numerals.{IsWithin}
 use Rattle.history.specs.Seats.{Permit, Known}
 use Rattle.mail_engine.specs.declared.letters.Outgoing.{Outgoing}
 use Rattle.mail_engine.specs.MailTexts.{said_letter, said_letters, IsLetter, IsLetterInRange}

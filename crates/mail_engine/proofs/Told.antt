@@ -2,7 +2,7 @@
 use Rattle.std.proofs.Common.{◌≡◌, ◌∙◌, sym, ap, ℕ, List, length, map}
 use Rattle.std.specs.List.{All}
 use Rattle.std.proofs.lemmas.List.{length-map}
-use Rattle.text_lines.specs.Numerals.{IsWithin}
+use Rattle.text_io.specs.Numerals.{IsWithin}
 use Rattle.history.specs.Seats.{Permit, Known, IsSound}
 use Rattle.mail_engine.specs.declared.letters.Outgoing.{Outgoing}
 use Rattle.mail_engine.specs.MailTexts.{SaidLetter, said_letter, said_letters}

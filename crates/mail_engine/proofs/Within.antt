@@ -4,7 +4,7 @@ use Rattle.std.specs.Prelude.{slice_get, IsSomeAnd}
 use Rattle.std.specs.List.{All}
 use Rattle.std.proofs.lemmas.Bool.{false≢true}
 use Rattle.std.proofs.lemmas.List.Elements.{All-nil, All-cons, All-map}
-use Rattle.text_lines.specs.Numerals.{IsWithin}
+use Rattle.text_io.specs.Numerals.{IsWithin}
 use Rattle.history.specs.declared.operations.Entry.{Entry}
 use Rattle.history.specs.declared.operations.Entry.TheVariants.{Push, Pop, Shut}
 use Rattle.history.specs.declared.operations.Taken.{Taken}

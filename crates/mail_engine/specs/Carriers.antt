@@ -2,7 +2,7 @@
 use Rattle.std.specs.Prelude.{◌≡◌, ℕ, ◌+◌, List, length, nat_eq, Option}
 use Rattle.std.specs.List.{filter}
 use Rattle.line_table.specs.declared.lines.Kind.{Kind}
-use Rattle.text_lines.specs.Numerals.{IsWithin}
+use Rattle.text_io.specs.Numerals.{IsWithin}
 use Rattle.history.specs.declared.operations.Taken.{Taken}
 use Rattle.history.specs.Seats.{Permit, Known}
 use Rattle.history.specs.Values.{popped, OnlyPops}

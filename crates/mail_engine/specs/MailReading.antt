@@ -3,11 +3,11 @@ use Rattle.std.specs.Prelude.{◌≡◌, ℕ, List, [], ◌∷◌, Option, Resul
 use Rattle.std.specs.Borrow.{Bor}
 use Rattle.history.specs.declared.text_causes.TextCause.{TextCause}
 use Rattle.history.specs.declared.text_causes.TextCause.TheVariants.{Form}
-use Rattle.text_lines.specs.Lines.{words_of}
-use Rattle.text_lines.specs.Numerals.{numeral}
-use Rattle.text_lines.specs.Printable.{IsShort}
-use Rattle.text_lines.specs.Readings.{IsWrong}
-use Rattle.text_lines.specs.Listings.{SaysItem, SaysHeader}
+use Rattle.text_io.specs.Lines.{words_of}
+use Rattle.text_io.specs.Numerals.{numeral}
+use Rattle.text_io.specs.Printable.{IsShort}
+use Rattle.text_io.specs.LineReadings.{IsWrong}
+use Rattle.text_io.specs.Listings.{SaysItem, SaysHeader}
 use Rattle.mail_engine.specs.declared.lines.ReadLetter.{ReadLetter}
 use Rattle.mail_engine.specs.declared.lines.Counts.{Counts}
 use Rattle.mail_engine.specs.MailTexts.{MailHeader, SaidLetter, mail_listing, IsHeaderInRange, IsLetter, IsLetterInRange}

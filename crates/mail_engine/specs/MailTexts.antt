@@ -2,12 +2,12 @@
 use Rattle.std.specs.Prelude.{◌≤◌, ℕ, List, ◌++◌, length, codes, All, map, string_bytes}
 use Rattle.std.specs.List.{flat_map}
 use Rattle.history.specs.declared.text_causes.TextCause.{TextCause}
-use Rattle.text_lines.specs.Lines.{line}
-use Rattle.text_lines.specs.Numerals.{numeral, IsWithin}
-use Rattle.text_lines.specs.Printable.{IsPrintable, IsShort}
-use Rattle.text_lines.specs.Listings.{Listing, IsFirstFaultIn}
+use Rattle.text_io.specs.Lines.{line}
+use Rattle.text_io.specs.Numerals.{numeral, IsWithin}
+use Rattle.text_io.specs.Printable.{IsPrintable, IsShort}
+use Rattle.text_io.specs.Listings.{Listing, IsFirstFaultIn}
 use Rattle.history.specs.declared.refusals.Refusal.{Refusal}
-use Rattle.listings.specs.Refusals.{IsRefusalIn}
+use Rattle.text_io.specs.ListingRefusals.{IsRefusalIn}
 use Rattle.mail_engine.specs.declared.letters.Outgoing.{Outgoing}
 
 -- what the first line says: how many senders there are, and how many letters follow

@@ -4,7 +4,7 @@ use Rattle.std.specs.Io.KnownBytes.{Appends}
 use Rattle.std.specs.List.{All, filter, flat_map}
 use Rattle.std.specs.List.Sorted.{IsPermutation, IsNonDecreasingBy, IsStableByKey}
 use Rattle.std.specs.Ordering.{nat_cmp}
-use Rattle.text_lines.specs.Numerals.{IsWithin}
+use Rattle.text_io.specs.Numerals.{IsWithin}
 use Rattle.text_io.specs.Devices.{SinkState}
 use Rattle.text_io.specs.Blocks.{TakesPrefix}
 use Rattle.history.specs.declared.refusals.Refusal.{Refusal}

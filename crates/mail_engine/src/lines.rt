@@ -1,15 +1,14 @@
 //! Reading the lines of mail.
 ghost use Rattle.std.specs.Prelude.{◌≡◌, ◌≤◌, ℕ, IfOk, IfErr};
-ghost use Rattle.text_lines.specs.Numerals.{IsWithin};
-ghost use Rattle.text_lines.specs.Readings.{ReadsBack};
+ghost use Rattle.text_io.specs.Numerals.{IsWithin};
+ghost use Rattle.text_io.specs.LineReadings.{ReadsBack};
 ghost use Rattle.mail_engine.specs.MailTexts.{MailHeader, SaidLetter, said_letter};
 ghost use Rattle.mail_engine.specs.MailReading.{said_of, KeepsText, KeepsHeader, KeepsLetter};
 ghost use Rattle.mail_engine.specs.MailReading.{ReadsWordsOfHeader, ReadsHeader, ReadsWordsOfLetter, ReadsLetter};
 
 use crate::letters::Outgoing;
-use listings::ItemError;
 use std::alloc::Global;
-use text_lines::{TextCause, Words, printable_in};
+use text_io::{ItemError, TextCause, Words, printable_in};
 
 const MOST_SENDERS: u64 = 64;
 

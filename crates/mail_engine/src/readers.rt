@@ -5,9 +5,8 @@ ghost use Rattle.mail_engine.specs.MailTexts.{said_letters, mail_text, IsMailInR
 use crate::letters::{Mail, Outgoing};
 use crate::lines::{Counts, counts_of, letter_of, owned};
 use history::Refusal;
-use listings::{ItemError, ListingFormat, parse_listing};
 use std::alloc::Global;
-use text_lines::TextCause;
+use text_io::{ItemError, ListingFormat, TextCause, parse_listing};
 
 /// The format of mail.
 struct MailFormat;

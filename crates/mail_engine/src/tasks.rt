@@ -1,7 +1,7 @@
 //! The letters of each sender.
 ghost use Rattle.std.specs.Prelude.{◌≡◌, ◌+◌, ◌<◌, [], length, map, string_bytes, OnOk, IfOk, IfErr};
 ghost use Rattle.std.specs.List.{All};
-ghost use Rattle.text_lines.specs.Numerals.{IsWithin};
+ghost use Rattle.text_io.specs.Numerals.{IsWithin};
 ghost use Rattle.mailbox.specs.Posts.{letters_of};
 ghost use Rattle.mail_engine.specs.Shares.{HaveTexts, AddsText};
 

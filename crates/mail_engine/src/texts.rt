@@ -9,7 +9,7 @@ use text_io::Parser;
 pub struct MailTexts;
 
 impl Parser for MailTexts {
-    ghost use Rattle.text_lines.specs.Listings.{First, ListingDue, ListingLine, listing_grammar};
+    ghost use Rattle.text_io.specs.Listings.{First, ListingDue, ListingLine, listing_grammar};
     ghost use Rattle.mail_engine.specs.MailTexts.{IsMailInRange, MailHeader, SaidLetter, mail_listing, mail_text, said_letters};
 
     type Parsed = Mail;

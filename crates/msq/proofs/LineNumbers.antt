@@ -1,6 +1,6 @@
 -- Lines behind lines.
 use Rattle.std.proofs.Common.{◌≡◌, ◌+◌, ◌-◌, ◌<◌, ◌++◌, List, ℕ, suc, subst, arith}
-use Rattle.text_lines.specs.Lines.{HasNo, line}
+use Rattle.text_io.specs.Lines.{HasNo, line}
 use Rattle.msq.specs.Notes.{IsLineAt}
 
 -- a line behind the first one is one of the whole, with a number more

@@ -1,6 +1,6 @@
 -- What is noted of a text.
 use Rattle.std.specs.Prelude.{◌≡◌, ℕ, zero, suc, List, ◌++◌, ◌⊎◌}
-use Rattle.text_lines.specs.Lines.{HasNo, line}
+use Rattle.text_io.specs.Lines.{HasNo, line}
 use Rattle.msq.specs.declared.notes.Kept.{Kept}
 
 -- some bytes are what a text says in the line of this number, from 0, which a line feed or the end of the text ends

@@ -5,8 +5,7 @@ use crate::progress::Progress;
 use std::alloc::Global;
 use std::io;
 use std::rt::Runtime;
-use text_io::{Sink, Source};
-use text_lines::line_at;
+use text_io::{Sink, Source, line_at};
 
 /// How many bytes of a text are kept at most: 2^24.
 const MOST_KEPT: usize = 16_777_216;

@@ -3,8 +3,8 @@ use Rattle.std.proofs.Common.{◌≡◌, ℕ, suc, ◌+◌, List, [], ◌∷◌,
 use Rattle.std.proofs.lemmas.List.{length-map}
 use Rattle.history.specs.declared.text_causes.TextCause.{TextCause}
 use Rattle.history.specs.declared.text_causes.TextCause.TheVariants.{End, Form, Range, Extra}
-use Rattle.text_lines.specs.Lines.{line}
-use Rattle.text_lines.specs.Grammars.{Grammar, Says, AreDue, state_after, lines_of, IsFault, IsFirstFault}
+use Rattle.text_io.specs.Lines.{line}
+use Rattle.text_io.specs.Grammars.{Grammar, Says, AreDue, state_after, lines_of, IsFault, IsFirstFault}
 use Rattle.place_engine.specs.EitherGrammars.{EitherDue, Start, InOne, InOther, EitherLine, OfOne, OfOther, either_grammar}
 
 module _ {S R T Q : Type 0} (g : Grammar S R) (h : Grammar T Q) (s : S) (t : T) where

@@ -7,7 +7,7 @@ use Rattle.std.proofs.lemmas.List.{append_assoc, length-map}
 use Rattle.std.proofs.lemmas.List.Elements.{All-weaker}
 use Rattle.std.proofs.lemmas.List.Splits.{slice_split_at, slice_split_none}
 use Rattle.std.proofs.lemmas.Option.{slice_get-map}
-use Rattle.text_lines.specs.Lines.{HasNo, line}
+use Rattle.text_io.specs.Lines.{HasNo, line}
 use Rattle.recording_text.specs.RecordingReading.{bytes_of}
 use Rattle.place_engine.specs.WhyTexts.{held_line, lines_in, numbered_line, told_line}
 

@@ -8,7 +8,7 @@ use Rattle.std.proofs.lemmas.List.Sorted.{All-permutation, Contains-permutation}
 use Rattle.std.proofs.lemmas.Option.{slice_get_within, slice_get-get_or, slice_get-map}
 use Rattle.history.specs.declared.text_causes.TextCause.{TextCause}
 use Rattle.history.specs.declared.text_causes.TextCause.TheVariants.{End, Form, Range, Extra}
-use Rattle.text_lines.specs.Readings.{IsWrong}
+use Rattle.text_io.specs.LineReadings.{IsWrong}
 use Rattle.recording_text.specs.Recordings.{Recorded}
 use Rattle.recording_text.specs.RecordingLines.{Operation, Operations, IsInTime, IsOperationInRange}
 use Rattle.recording_text.specs.RecordingReading.{SaysOperation, bytes_of}

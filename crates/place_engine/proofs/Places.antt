@@ -4,9 +4,9 @@ use Rattle.std.specs.List.{AllByRecursion, flat_map}
 use Rattle.std.proofs.lemmas.List.{append_assoc}
 use Rattle.std.proofs.lemmas.List.Elements.{All-nil, All-cons, All-head, All-tail, All-append, All-weaker}
 use Rattle.std.proofs.lemmas.Option.{slice_get_within}
-use Rattle.text_lines.specs.Lines.{line, spaced}
-use Rattle.text_lines.specs.Numerals.{numeral}
-use Rattle.text_lines.specs.Grammars.{lines_of}
+use Rattle.text_io.specs.Lines.{line, spaced}
+use Rattle.text_io.specs.Numerals.{numeral}
+use Rattle.text_io.specs.Grammars.{lines_of}
 use Rattle.history.specs.declared.operations.Stamped.{Stamped}
 use Rattle.recording_text.specs.Recordings.{Recorded}
 use Rattle.recording_text.specs.RecordingLines.{Version, Count, Operation, VersionDue, CountDue, Operations, IsReadable, IsRecordingInRange}

@@ -1,8 +1,8 @@
 -- Which of two grammars a text is in, by its first byte.
 use Rattle.std.proofs.Common.{◌≡◌, ℕ, List, ◌++◌, true, false, refl, ap, ◌∙◌, Option, Some, None}
-use Rattle.text_lines.specs.Lines.{line}
-use Rattle.text_lines.specs.Grammars.{Says}
-use Rattle.text_lines.specs.Listings.{First, Header, Item}
+use Rattle.text_io.specs.Lines.{line}
+use Rattle.text_io.specs.Grammars.{Says}
+use Rattle.text_io.specs.Listings.{First, Header, Item}
 use Rattle.text_io.specs.Prefixes.{IsRefusedBy, IsRefusedReading}
 use Rattle.history.specs.declared.refusals.Refusal.{Refusal}
 use Rattle.history.specs.declared.refusals.Refusal.TheVariants.{Text, Memory}

@@ -1,6 +1,6 @@
 -- Texts in one of two grammars: their first line says in which.
 use Rattle.std.specs.Prelude.{ℕ, List, Bool, true}
-use Rattle.text_lines.specs.Grammars.{Grammar}
+use Rattle.text_io.specs.Grammars.{Grammar}
 
 -- what is due: the first line of either, or a later one of the one or the other
 pub data EitherDue (S T : Type 0) : Type 0 where

@@ -1,8 +1,8 @@
 -- The texts that `place` reads: of a history, or of a recording, which stands for one.
 use Rattle.std.specs.Prelude.{◌≡◌, ◌⊎◌, ℕ, Bool, false, nat_eq, if◌then◌else◌, List, Option, slice_get, Some, None, ⊤}
 use Rattle.std.specs.Option.{option_map_or}
-use Rattle.text_lines.specs.Grammars.{Grammar, IsFirstFault}
-use Rattle.text_lines.specs.Listings.{First}
+use Rattle.text_io.specs.Grammars.{Grammar, IsFirstFault}
+use Rattle.text_io.specs.Listings.{First}
 use Rattle.text_io.specs.Readings.{WereAll}
 use Rattle.history.specs.declared.operations.Stamped.{Stamped}
 use Rattle.history.specs.declared.refusals.Refusal.{Refusal}

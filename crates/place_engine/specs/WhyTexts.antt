@@ -2,8 +2,8 @@
 use Rattle.std.specs.Prelude.{ℕ, ◌+◌, ◌-◌, ◌==◌, ◌≤◌, length, map, nat_le, Bool, if◌then◌else◌, List, [], ◌∷◌, ◌++◌, slice_get, codes, decimal}
 use Rattle.std.specs.List.{flat_map, slice_split}
 use Rattle.std.specs.Option.{option_map_or}
-use Rattle.text_lines.specs.Lines.{line, spaced}
-use Rattle.text_lines.specs.Numerals.{numeral}
+use Rattle.text_io.specs.Lines.{line, spaced}
+use Rattle.text_io.specs.Numerals.{numeral}
 use Rattle.history.specs.declared.operations.Stamped.{Stamped}
 use Rattle.recording_text.specs.Recordings.{Recorded}
 use Rattle.recording_text.specs.RecordingLines.{operation_words, version_line}

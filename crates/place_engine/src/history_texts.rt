@@ -8,7 +8,7 @@ use text_io::Parser;
 pub struct HistoryTexts;
 
 impl Parser for HistoryTexts {
-    ghost use Rattle.text_lines.specs.Listings.{First};
+    ghost use Rattle.text_io.specs.Listings.{First};
     ghost use Rattle.history_text.specs.HistoryLines.{HistoryDue, HistoryLine, IsHistoryInRange, history_grammar};
     ghost use Rattle.history_text.specs.HistoryText.{history_text};
 

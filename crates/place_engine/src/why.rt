@@ -1,7 +1,7 @@
 //! The lines of a text that say the operations of a reason, each with its number.
 ghost use Rattle.std.specs.Prelude.{◌≡◌, ◌++◌, ◌+◌, IfOk, OnOk, codes, decimal, map};
 ghost use Rattle.std.specs.List.{flat_map};
-ghost use Rattle.text_lines.specs.Lines.{line};
+ghost use Rattle.text_io.specs.Lines.{line};
 ghost use Rattle.place_engine.specs.WhyTexts as texts;
 ghost use Rattle.place_engine.specs.WhyTexts.{held_line, lines_in, numbered_line, told_line, places_held, why_text};
 ghost use Rattle.recording_text.specs.RecordingReading.{bytes_of};
@@ -9,8 +9,7 @@ ghost use Rattle.recording_text.specs.RecordingReading.{bytes_of};
 use crate::recorded_texts::header_of;
 use placing::{Held, Reason, Span};
 use std::alloc::{AllocError, Global};
-use text_io::LineBuffer;
-use text_lines::line_at;
+use text_io::{LineBuffer, line_at};
 
 /// Puts the lines of a text that say the operations of a reason, and the texts held at the start that it names, behind other
 /// bytes.

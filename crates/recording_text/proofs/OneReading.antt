@@ -2,9 +2,9 @@
 use Rattle.std.proofs.Common.{◌≡◌, ◌≢◌, ℕ, zero, suc, ◌-◌, ◌≤◌, List, [], ◌∷◌, length, All, true, false, refl, sym, ap, ◌∙◌, arith, subst, append-nil}
 use Rattle.std.proofs.lemmas.List.Elements.{All-head, All-tail}
 use Rattle.history.specs.declared.text_causes.TextCause.{TextCause}
-use Rattle.text_lines.specs.Grammars.{AreDue, state_after, lines_of, IsText}
-use Rattle.text_lines.proofs.Single.{one_list}
-use Rattle.text_lines.proofs.Total.{not_neither}
+use Rattle.text_io.specs.Grammars.{AreDue, state_after, lines_of, IsText}
+use Rattle.text_io.proofs.Single.{one_list}
+use Rattle.text_io.proofs.Total.{not_neither}
 use Rattle.recording_text.specs.Recordings.{Recorded}
 use Rattle.recording_text.specs.RecordingLines.{RecordingLine, Version, Count, Operation, VersionDue, Operations, is_line_due, IsReadable}
 use Rattle.recording_text.specs.RecordingLines.{IsRecordingInRange, HasFirstFault, recording_grammar, recording_lines, recording_text}

@@ -5,12 +5,12 @@ use Rattle.std.proofs.lemmas.Bool.{cases_lt, agree_below_at}
 use Rattle.std.proofs.lemmas.List.Elements.{All-nil, All-append, All-weaker}
 use Rattle.history.specs.declared.text_causes.TextCause.{TextCause}
 use Rattle.history.specs.declared.text_causes.TextCause.TheVariants.{End, Form, Range, Extra}
-use Rattle.text_lines.specs.Lines.{spaced, words_of}
-use Rattle.text_lines.specs.Numerals.{numeral}
-use Rattle.text_lines.specs.Readings.{IsWrong}
-use Rattle.text_lines.specs.Grammars.{Says, IsSoundGrammar}
-use Rattle.text_lines.proofs.Numerals.{numeral_injective}
-use Rattle.text_lines.proofs.Splits.{spaced-words_of}
+use Rattle.text_io.specs.Lines.{spaced, words_of}
+use Rattle.text_io.specs.Numerals.{numeral}
+use Rattle.text_io.specs.LineReadings.{IsWrong}
+use Rattle.text_io.specs.Grammars.{Says, IsSoundGrammar}
+use Rattle.text_io.proofs.Numerals.{numeral_injective}
+use Rattle.text_io.proofs.Splits.{spaced-words_of}
 use Rattle.history_text.specs.HistoryLines.{step_word}
 use Rattle.history_text.proofs.NoSpaces.{IsInk, ink-tested, ink-numeral, more, one, ink-step, ink-labelled, words_of-ink, HasNo-spaced}
 use Rattle.history_text.proofs.OneReading.{apart, one-step}

@@ -5,11 +5,11 @@ use Rattle.std.proofs.lemmas.List.{map-append, length-map}
 use Rattle.std.proofs.lemmas.List.Elements.{All-nil, All-cons}
 use Rattle.history.specs.declared.text_causes.TextCause.{TextCause}
 use Rattle.history.specs.declared.text_causes.TextCause.TheVariants.{End, Form, Extra}
-use Rattle.text_lines.specs.Lines.{HasNo, line, spaced}
-use Rattle.text_lines.specs.Numerals.{numeral}
-use Rattle.text_lines.specs.Readings.{IsWrong}
-use Rattle.text_lines.specs.Grammars.{AreDue, state_after, lines_of, Begins, IsText}
-use Rattle.text_lines.proofs.Faults.{Begins-nothing, Begins-more, IsText-whole, first_fault-end, first_fault-line, first_fault-extra}
+use Rattle.text_io.specs.Lines.{HasNo, line, spaced}
+use Rattle.text_io.specs.Numerals.{numeral}
+use Rattle.text_io.specs.LineReadings.{IsWrong}
+use Rattle.text_io.specs.Grammars.{AreDue, state_after, lines_of, Begins, IsText}
+use Rattle.text_io.proofs.Faults.{Begins-nothing, Begins-more, IsText-whole, first_fault-end, first_fault-line, first_fault-extra}
 use Rattle.history.specs.declared.refusals.Refusal.{Refusal}
 use Rattle.history.specs.declared.refusals.Refusal.TheVariants.{Memory, Text}
 use Rattle.history.specs.declared.operations.Stamped.{Stamped}

@@ -2,10 +2,10 @@
 use Rattle.std.specs.Prelude.{◌<◌, ◌≤◌, ◌-◌, ℕ, zero, suc, List, [], ◌∷◌, ◌++◌, Option, Some, None, IfSome, Bool, true, false, IsTrue, ◌||◌, nat_eq, length, codes, map, All}
 use Rattle.std.specs.Char.{is_ascii_alphanumeric}
 use Rattle.history.specs.declared.text_causes.TextCause.{TextCause}
-use Rattle.text_lines.specs.Lines.{spaced}
-use Rattle.text_lines.specs.Numerals.{numeral}
-use Rattle.text_lines.specs.Printable.{IsShort}
-use Rattle.text_lines.specs.Grammars.{Grammar, IsFirstFault, lines_of}
+use Rattle.text_io.specs.Lines.{spaced}
+use Rattle.text_io.specs.Numerals.{numeral}
+use Rattle.text_io.specs.Printable.{IsShort}
+use Rattle.text_io.specs.Grammars.{Grammar, IsFirstFault, lines_of}
 use Rattle.history.specs.declared.refusals.Refusal.{Refusal}
 use Rattle.history.specs.declared.refusals.Refusal.TheVariants.{Memory, Text}
 use Rattle.history_text.specs.HistoryLines.{step_word, IsStep, IsStepInRange}

@@ -4,9 +4,9 @@ use Rattle.std.specs.Borrow.{Bor}
 use Rattle.std.specs.HashSet.{HashSet}
 use Rattle.history.specs.declared.text_causes.TextCause.{TextCause}
 use Rattle.history.specs.declared.text_causes.TextCause.TheVariants.{Form}
-use Rattle.text_lines.specs.Lines.{line, spaced}
-use Rattle.text_lines.specs.Numerals.{numeral}
-use Rattle.text_lines.specs.Readings.{IsWrong}
+use Rattle.text_io.specs.Lines.{line, spaced}
+use Rattle.text_io.specs.Numerals.{numeral}
+use Rattle.text_io.specs.LineReadings.{IsWrong}
 use Rattle.history.specs.declared.refusals.Refusal.{Refusal}
 use Rattle.history.specs.declared.refusals.Refusal.TheVariants.{Text, Memory}
 use Rattle.history.specs.declared.operations.Stamped.{Stamped}

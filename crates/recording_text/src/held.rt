@@ -12,7 +12,7 @@ use crate::replies::ReadReply;
 use history::{Op, Refusal, Reply, Stamped};
 use indexmap::IndexSet;
 use std::alloc::Global;
-use text_lines::TextCause;
+use text_io::TextCause;
 
 /// The history of a recording of a queue that holds texts at the start, the front first: that of the longer recording, which first
 /// pushes them, at the numbers from 1 on, and then has each operation so many numbers later.

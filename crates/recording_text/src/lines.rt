@@ -1,7 +1,7 @@
 //! Reading the lines of a recording.
 ghost use Rattle.std.specs.Prelude.{◌≡◌, ◌≢◌, ◌∷◌, All, IfErr, MatchBool, OnOk};
-ghost use Rattle.text_lines.specs.Numerals.{IsWithin};
-ghost use Rattle.text_lines.specs.Readings.{ReadsBack, Reads, ReadsLine};
+ghost use Rattle.text_io.specs.Numerals.{IsWithin};
+ghost use Rattle.text_io.specs.LineReadings.{ReadsBack, Reads, ReadsLine};
 ghost use Rattle.history_text.specs.HistoryLines.{IsStep, IsStepInRange};
 ghost use Rattle.recording_text.specs.Recordings.{Recorded};
 ghost use Rattle.recording_text.specs.RecordingLines as lines;
@@ -13,7 +13,7 @@ ghost use Rattle.recording_text.specs.RecordingReading.{AreOfCount, SaysCount, I
 
 use crate::replies::{ReadReply, reply_of};
 use history_text::step_of;
-use text_lines::{TextCause, Words};
+use text_io::{TextCause, Words};
 
 const MOST_OPERATIONS: u64 = 1_000_000;
 

@@ -8,9 +8,8 @@ use crate::lines::{count_of, expect_version, operation_of};
 use crate::numbers::numbered;
 use history::{Op, Refusal, Reply, Stamped};
 use indexmap::IndexSet;
-use listings::due_line;
 use std::alloc::Global;
-use text_lines::TextCause;
+use text_io::{TextCause, due_line};
 
 /// The history that the recording of a text stands for, in the order of its lines: each operation is the actor 1's, and
 /// each text of a value is a number, by the order in which the texts first occur.

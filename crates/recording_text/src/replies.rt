@@ -2,7 +2,7 @@
 ghost use Rattle.recording_text.specs.RecordingReading.{ReadsTold, ReadsPlainTold, KeepsValue};
 
 use crate::lines::text_of;
-use text_lines::{TextCause, Words};
+use text_io::{TextCause, Words};
 
 /// What a call was told, as its line says it: a text still lies in the line.
 #[derive(Clone, Copy)]

@@ -7,7 +7,7 @@ use Rattle.history.specs.declared.operations.Stamped.{Stamped}
 use Rattle.history.specs.declared.refusals.Refusal.{Refusal}
 use Rattle.history.specs.declared.refusals.Refusal.TheVariants.{BadSize, IdleActor, NotHere, NoSuchActor, Text, Write}
 use Rattle.line_table.specs.declared.lines.Line.{Line}
-use Rattle.text_lines.specs.Grammars.{IsFirstFault}
+use Rattle.text_io.specs.Grammars.{IsFirstFault}
 use Rattle.history.specs.declared.text_causes.TextCause.{TextCause}
 use Rattle.step_machine.specs.declared.actors.Move.{Move}
 use Rattle.step_machine.specs.declared.actors.Move.TheVariants.{Step}

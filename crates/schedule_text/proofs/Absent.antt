@@ -1,6 +1,6 @@
 -- Words that are no event's.
 use Rattle.std.proofs.Common.{◌≡◌, ◌≢◌, ℕ, List, [], ◌++◌, length, get_or, drop, codes, sym, ap, ◌∙◌, arith}
-use Rattle.text_lines.specs.WordsLeft.{number_words}
+use Rattle.text_io.specs.WordsLeft.{number_words}
 use Rattle.schedule_text.specs.declared.schedules.Event.{Event}
 use Rattle.schedule_text.specs.declared.schedules.Event.TheVariants.{Begin, Step, Steps, Give}
 use Rattle.schedule_text.specs.declared.schedules.Version.{Version}

@@ -5,7 +5,7 @@ use Rattle.history.specs.declared.operations.Op.TheVariants.{Enq, Deq, Shut}
 use Rattle.line_table.specs.declared.lines.Kind.{Kind}
 use Rattle.line_table.specs.declared.lines.Kind.TheVariants.{TwoLock, NonBlocking}
 use Rattle.line_table.proofs.Names.{name_of-differs}
-use Rattle.text_lines.proofs.Numerals.{numeral_injective}
+use Rattle.text_io.proofs.Numerals.{numeral_injective}
 use Rattle.schedule_text.specs.declared.schedules.Event.{Event}
 use Rattle.schedule_text.specs.declared.schedules.Event.TheVariants.{Begin, Step, Steps, Give}
 use Rattle.schedule_text.specs.declared.fields.Field.{Field}

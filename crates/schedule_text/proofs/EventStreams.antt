@@ -7,8 +7,8 @@ use Rattle.std.proofs.lemmas.List.Elements.{All-nil, All-cons, All-append}
 use Rattle.std.specs.Io.KnownBytes.{Consumes, IsAtEnd}
 use Rattle.history.specs.declared.refusals.Refusal.{Refusal}
 use Rattle.history.specs.declared.refusals.Refusal.TheVariants.{Memory, Text, Read}
-use Rattle.text_lines.specs.Grammars.{AreDue, state_after, lines_of}
-use Rattle.text_lines.specs.Lines.{line, spaced}
+use Rattle.text_io.specs.Grammars.{AreDue, state_after, lines_of}
+use Rattle.text_io.specs.Lines.{line, spaced}
 use Rattle.schedule_text.specs.declared.readers.Header.{Header}
 use Rattle.schedule_text.specs.declared.schedules.Event.{Event}
 use Rattle.schedule_text.specs.EventStreams.{EventStream, IsRefused, IsStarted, GaveEvent, GaveAll, IsNext, IsRefusedNext, IsRefusedReading, lines_given, HasRead, HasReadAll, schedule_with}

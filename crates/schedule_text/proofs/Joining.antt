@@ -8,9 +8,9 @@ use Rattle.history.specs.declared.refusals.Refusal.{Refusal}
 use Rattle.history.specs.declared.refusals.Refusal.TheVariants.{Memory, Text}
 use Rattle.history.specs.declared.text_causes.TextCause.{TextCause}
 use Rattle.history.specs.declared.text_causes.TextCause.TheVariants.{Extra}
-use Rattle.text_lines.proofs.Faults.{Begins-more, first_fault-extra}
-use Rattle.text_lines.specs.Grammars.{Grammar, AreDue, state_after, lines_of, Begins, IsFirstFault}
-use Rattle.text_lines.specs.Lines.{line}
+use Rattle.text_io.proofs.Faults.{Begins-more, first_fault-extra}
+use Rattle.text_io.specs.Grammars.{Grammar, AreDue, state_after, lines_of, Begins, IsFirstFault}
+use Rattle.text_io.specs.Lines.{line}
 use Rattle.schedule_text.specs.declared.schedules.Event.{Event}
 use Rattle.schedule_text.specs.declared.schedules.Version.{Version}
 use Rattle.schedule_text.specs.declared.schedules.Version.TheVariants.{One, Two}

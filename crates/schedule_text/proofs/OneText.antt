@@ -7,9 +7,9 @@ use Rattle.std.proofs.lemmas.List.Elements.{All-nil, All-cons, All-append, All-h
 use Rattle.history.specs.declared.refusals.Refusal.{Refusal}
 use Rattle.history.specs.declared.refusals.Refusal.TheVariants.{Memory, Text}
 use Rattle.history.specs.declared.text_causes.TextCause.{TextCause}
-use Rattle.text_lines.specs.Grammars.{Grammar, AreDue, state_after, lines_of, IsText, IsFirstFault, IsSoundGrammar}
-use Rattle.text_lines.specs.Lines.{HasNo, spaced}
-use Rattle.text_lines.proofs.Single.{one_list, no_fault, one_fault}
+use Rattle.text_io.specs.Grammars.{Grammar, AreDue, state_after, lines_of, IsText, IsFirstFault, IsSoundGrammar}
+use Rattle.text_io.specs.Lines.{HasNo, spaced}
+use Rattle.text_io.proofs.Single.{one_list, no_fault, one_fault}
 use Rattle.schedule_text.specs.declared.schedules.Event.{Event}
 use Rattle.schedule_text.specs.declared.schedules.Version.{Version}
 use Rattle.schedule_text.specs.declared.schedules.Version.TheVariants.{One, Two}

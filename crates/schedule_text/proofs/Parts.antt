@@ -2,7 +2,7 @@
 use Rattle.std.proofs.Common.{◌≡◌, ℕ, List, [], ◌∷◌, ◌++◌, length, map, refl, sym, ap, ◌∙◌, append_assoc}
 use Rattle.std.specs.List.{flat_map}
 use Rattle.std.proofs.lemmas.List.Concat.{flat_map-append}
-use Rattle.text_lines.specs.Grammars.{lines_of}
+use Rattle.text_io.specs.Grammars.{lines_of}
 use Rattle.schedule_text.specs.declared.schedules.Event.{Event}
 use Rattle.schedule_text.specs.Schedules.{Schedule}
 use Rattle.schedule_text.specs.Texts.{Said, version, queue, happens, bits_said, sizes_said, header_by, schedule_lines, header_text, event_text, schedule_text}

@@ -5,9 +5,9 @@ use Rattle.std.proofs.lemmas.List.{append-nil}
 use Rattle.std.proofs.lemmas.List.Elements.{All-nil, All-cons}
 use Rattle.line_table.specs.declared.lines.Kind.{Kind}
 use Rattle.history.specs.declared.text_causes.TextCause.{TextCause}
-use Rattle.text_lines.specs.Grammars.{AreDue, state_after, lines_of, IsText, IsFirstFault}
-use Rattle.text_lines.specs.Numerals.{IsWithin}
-use Rattle.text_lines.proofs.Total.{not_neither}
+use Rattle.text_io.specs.Grammars.{AreDue, state_after, lines_of, IsText, IsFirstFault}
+use Rattle.text_io.specs.Numerals.{IsWithin}
+use Rattle.text_io.proofs.Total.{not_neither}
 use Rattle.schedule_text.specs.declared.fields.Field.{Field}
 use Rattle.schedule_text.specs.declared.fields.Field.TheVariants.{Bits, Nodes, Limit, Actors, Events}
 use Rattle.schedule_text.specs.declared.schedules.Version.{Version}

@@ -6,10 +6,10 @@ use Rattle.history.specs.declared.refusals.Refusal.TheVariants.{Text}
 use Rattle.line_table.specs.declared.lines.Kind.{Kind}
 use Rattle.history.specs.declared.text_causes.TextCause.{TextCause}
 use Rattle.history.specs.declared.text_causes.TextCause.TheVariants.{End, Form, Range, Extra}
-use Rattle.text_lines.specs.Grammars.{Says}
-use Rattle.text_lines.specs.Lines.{HasNo, line, spaced, words_of}
-use Rattle.text_lines.specs.Readings.{IsWrong}
-use Rattle.text_lines.proofs.Faults.{Begins-nothing, first_fault-end, first_fault-line}
+use Rattle.text_io.specs.Grammars.{Says}
+use Rattle.text_io.specs.Lines.{HasNo, line, spaced, words_of}
+use Rattle.text_io.specs.LineReadings.{IsWrong}
+use Rattle.text_io.proofs.Faults.{Begins-nothing, first_fault-end, first_fault-line}
 use Rattle.schedule_text.specs.declared.fields.Field.{Field}
 use Rattle.schedule_text.specs.declared.schedules.Version.{Version}
 use Rattle.schedule_text.specs.Texts.{Said, version, queue, number, happens, Due, version_due, queue_due, number_due, events_left, bits_of}

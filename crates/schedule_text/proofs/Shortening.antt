@@ -4,10 +4,10 @@ use Rattle.std.specs.List.{onto_first, AllZip}
 use Rattle.std.proofs.lemmas.Bool.{cases_lt, cases_eq, ne_eqb, eq-eqb}
 use Rattle.std.proofs.lemmas.List.Elements.{All-cons, All-head, All-tail}
 use Rattle.std.proofs.lemmas.List.Splits.{slice_split-cons_yes, slice_split-cons_no}
-use Rattle.text_lines.specs.Lines.{words_of}
-use Rattle.text_lines.specs.Numerals.{numeral, IsPlain}
-use Rattle.text_lines.proofs.Numerals.{IsPlain-numeral}
-use Rattle.text_lines.proofs.Digits.{plain_or_number}
+use Rattle.text_io.specs.Lines.{words_of}
+use Rattle.text_io.specs.Numerals.{numeral, IsPlain}
+use Rattle.text_io.proofs.Numerals.{IsPlain-numeral}
+use Rattle.text_io.proofs.Digits.{plain_or_number}
 use Rattle.schedule_text.specs.ShortLines.{IsDigit, Shortens, nothing, space, early, digit, other}
 
 -- more bytes of a line

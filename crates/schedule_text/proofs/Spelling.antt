@@ -10,10 +10,10 @@ use Rattle.line_table.specs.declared.lines.Kind.{Kind}
 use Rattle.line_table.specs.declared.lines.Kind.TheVariants.{TwoLock, NonBlocking}
 use Rattle.line_table.specs.declared.lines.Line.{Line}
 use Rattle.line_table.specs.declared.lines.Line.TheVariants.{N1}
-use Rattle.text_lines.specs.Lines.{HasNo, spaced, words_of}
-use Rattle.text_lines.specs.Numerals.{numeral}
-use Rattle.text_lines.proofs.Splits.{HasNo-tested, words_of-spaced, spaced-words_of}
-use Rattle.text_lines.proofs.Numerals.{HasNo-numeral}
+use Rattle.text_io.specs.Lines.{HasNo, spaced, words_of}
+use Rattle.text_io.specs.Numerals.{numeral}
+use Rattle.text_io.proofs.Splits.{HasNo-tested, words_of-spaced, spaced-words_of}
+use Rattle.text_io.proofs.Numerals.{HasNo-numeral}
 use Rattle.schedule_text.specs.declared.schedules.Event.{Event}
 use Rattle.schedule_text.specs.declared.schedules.Event.TheVariants.{Begin, Step, Steps, Give}
 use Rattle.schedule_text.specs.declared.fields.Field.{Field}

@@ -5,10 +5,10 @@ use Rattle.std.proofs.lemmas.List.{append-nil}
 use Rattle.std.specs.Io.KnownBytes.{Consumes, IsAtEnd}
 use Rattle.history.specs.declared.text_causes.TextCause.{TextCause}
 use Rattle.history.specs.declared.text_causes.TextCause.TheVariants.{End, Form, Range, Extra}
-use Rattle.text_lines.specs.Grammars.{Says, state_after, lines_of}
-use Rattle.text_lines.specs.Lines.{HasNo, line, spaced, words_of}
-use Rattle.text_lines.specs.Readings.{IsWrong}
-use Rattle.text_lines.proofs.Faults.{Begins-nothing}
+use Rattle.text_io.specs.Grammars.{Says, state_after, lines_of}
+use Rattle.text_io.specs.Lines.{HasNo, line, spaced, words_of}
+use Rattle.text_io.specs.LineReadings.{IsWrong}
+use Rattle.text_io.proofs.Faults.{Begins-nothing}
 use Rattle.history.specs.declared.refusals.Refusal.{Refusal}
 use Rattle.history.specs.declared.refusals.Refusal.TheVariants.{Text, Read}
 use Rattle.line_table.specs.declared.lines.Kind.{Kind}

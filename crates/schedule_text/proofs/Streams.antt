@@ -4,7 +4,7 @@ use Rattle.std.proofs.Common.{MatchOption, refl, sym, ap, subst, ◌∙◌, arit
 use Rattle.std.proofs.lemmas.List.{append-nil, drop-take}
 use Rattle.std.proofs.lemmas.List.Elements.{All-nil, All-cons, All-append}
 use Rattle.std.specs.Io.KnownBytes.{Consumes, IsAtEnd, prepend_known}
-use Rattle.text_lines.specs.Lines.{HasNo}
+use Rattle.text_io.specs.Lines.{HasNo}
 use Rattle.schedule_text.specs.ShortLines.{Held, IsHeld}
 use Rattle.text_io.specs.Devices.{SourceState}
 use Rattle.text_io.specs.Readings.{HasEnded}

@@ -8,12 +8,12 @@ use Rattle.history.specs.declared.operations.Op.TheVariants.{Enq, Deq, Shut}
 use Rattle.line_table.specs.Names.{name_of}
 use Rattle.history.specs.declared.text_causes.TextCause.{TextCause}
 use Rattle.history.specs.declared.text_causes.TextCause.TheVariants.{End, Form, Range, Extra}
-use Rattle.text_lines.specs.Grammars.{Says}
-use Rattle.text_lines.specs.Lines.{spaced, words_of}
-use Rattle.text_lines.specs.Numerals.{numeral}
-use Rattle.text_lines.specs.Readings.{IsWrong}
-use Rattle.text_lines.proofs.Splits.{spaced-words_of}
-use Rattle.text_lines.proofs.Numerals.{IsPlain-numeral, numeral_decimal}
+use Rattle.text_io.specs.Grammars.{Says}
+use Rattle.text_io.specs.Lines.{spaced, words_of}
+use Rattle.text_io.specs.Numerals.{numeral}
+use Rattle.text_io.specs.LineReadings.{IsWrong}
+use Rattle.text_io.proofs.Splits.{spaced-words_of}
+use Rattle.text_io.proofs.Numerals.{IsPlain-numeral, numeral_decimal}
 use Rattle.schedule_text.specs.declared.schedules.Event.{Event}
 use Rattle.schedule_text.specs.declared.schedules.Event.TheVariants.{Begin, Step, Steps, Give}
 use Rattle.schedule_text.specs.declared.fields.Field.{Field}

@@ -3,8 +3,8 @@ use Rattle.std.proofs.Common.{◌≡◌, ℕ, ◌+◌, ◌<◌, List, [], ◌∷
 use Rattle.std.specs.Io.KnownBytes.{Consumes, prepend_known}
 use Rattle.history.specs.declared.text_causes.TextCause.{TextCause}
 use Rattle.history.specs.declared.text_causes.TextCause.TheVariants.{End}
-use Rattle.text_lines.specs.Lines.{HasNo, line, words_of}
-use Rattle.text_lines.specs.Readings.{IsWrong}
+use Rattle.text_io.specs.Lines.{HasNo, line, words_of}
+use Rattle.text_io.specs.LineReadings.{IsWrong}
 use Rattle.history.specs.declared.refusals.Refusal.TheVariants.{Text}
 use Rattle.schedule_text.specs.declared.schedules.Event.{Event}
 use Rattle.schedule_text.specs.declared.schedules.Version.{Version}

@@ -2,9 +2,9 @@
 use Rattle.std.specs.Prelude.{◌≡◌, ℕ, ◌+◌, ◌≤◌, List, [], ◌∷◌, ◌++◌}
 use Rattle.history.specs.declared.refusals.Refusal.{Refusal}
 use Rattle.history.specs.declared.refusals.Refusal.TheVariants.{Memory, Text}
-use Rattle.text_lines.specs.Grammars.{IsFirstFault}
-use Rattle.text_lines.specs.Lines.{line, spaced}
-use Rattle.text_lines.specs.Numerals.{IsWithin}
+use Rattle.text_io.specs.Grammars.{IsFirstFault}
+use Rattle.text_io.specs.Lines.{line, spaced}
+use Rattle.text_io.specs.Numerals.{IsWithin}
 use Rattle.schedule_text.specs.declared.fields.Field.TheVariants.{Nodes, Limit}
 use Rattle.schedule_text.specs.declared.readers.Header.{Header}
 use Rattle.schedule_text.specs.declared.readers.Sizes.{Sizes}

@@ -5,8 +5,8 @@ use Rattle.history.specs.declared.refusals.Refusal.{Refusal}
 use Rattle.history.specs.declared.refusals.Refusal.TheVariants.{Text, Read}
 use Rattle.history.specs.declared.text_causes.TextCause.{TextCause}
 use Rattle.history.specs.declared.text_causes.TextCause.TheVariants.{End}
-use Rattle.text_lines.specs.Grammars.{AreDue, lines_of, IsFault, IsFirstFault}
-use Rattle.text_lines.specs.Lines.{line, spaced}
+use Rattle.text_io.specs.Grammars.{AreDue, lines_of, IsFault, IsFirstFault}
+use Rattle.text_io.specs.Lines.{line, spaced}
 use Rattle.schedule_text.specs.Texts.{Said, Due, bits_of, said_words, IsSaidInRange, MaySay, schedule_lines}
 use Rattle.text_io.specs.Devices.{SourceState}
 

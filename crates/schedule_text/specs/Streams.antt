@@ -4,7 +4,7 @@ use Rattle.std.specs.Io.KnownBytes.{Consumes, IsAtEnd, prepend_known}
 use Rattle.history.specs.declared.refusals.Refusal.{Refusal}
 use Rattle.history.specs.declared.refusals.Refusal.TheVariants.{Read}
 use Rattle.text_io.specs.Devices.{SourceState}
-use Rattle.text_lines.specs.Lines.{HasNo, line}
+use Rattle.text_io.specs.Lines.{HasNo, line}
 use Rattle.schedule_text.specs.ShortLines.{Held, IsHeld}
 
 -- a source with these bytes read ahead: they are left before its own

@@ -9,9 +9,9 @@ use Rattle.line_table.specs.declared.lines.Section.{Section}
 use Rattle.line_table.specs.declared.lines.Section.TheVariants.{Shut, LockedShut}
 use Rattle.line_table.specs.declared.lines.Kind.{Kind}
 use Rattle.line_table.specs.declared.lines.Kind.TheVariants.{TwoLock, NonBlocking}
-use Rattle.text_lines.specs.Grammars.{Grammar, lines_of}
-use Rattle.text_lines.specs.Lines.{line, spaced}
-use Rattle.text_lines.specs.Numerals.{numeral, IsWithin}
+use Rattle.text_io.specs.Grammars.{Grammar, lines_of}
+use Rattle.text_io.specs.Lines.{line, spaced}
+use Rattle.text_io.specs.Numerals.{numeral, IsWithin}
 use Rattle.history.specs.Limits.{body_bits, actor_bits}
 use Rattle.schedule_text.specs.declared.schedules.Event.{Event}
 use Rattle.schedule_text.specs.declared.schedules.Event.TheVariants.{Begin, Step, Steps, Give}

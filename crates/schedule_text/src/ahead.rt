@@ -2,14 +2,13 @@
 ghost use Rattle.std.specs.Prelude.{◌≡◌, ◌+◌, ◌≤◌, ◌<◌, ◌++◌, ◌∷◌, [], length, IfOk, IfSome, MatchOption, OnOk, drop, take};
 ghost use Rattle.std.specs.Io.KnownBytes.{Consumes};
 ghost use Rattle.text_io.specs.Readings.{HasEnded, ReachesEnd};
-ghost use Rattle.text_lines.specs.Lines.{HasNo, line};
+ghost use Rattle.text_io.specs.Lines.{HasNo, line};
 ghost use Rattle.schedule_text.specs.Streams.{stream, GaveByte, GaveLine, EndedInLine, IsOver, HasFailed, WasRead};
 
 use crate::held::HeldLine;
 use history::Refusal;
 use std::marker::Model;
-use text_io::Source;
-use text_lines::line_at;
+use text_io::{Source, line_at};
 
 /// How many bytes are read ahead at most.
 const AHEAD: usize = 4096;

@@ -12,8 +12,7 @@ use crate::schedules::Event;
 use crate::source_lines::{due_from, header_from};
 use history::Refusal;
 use std::marker::Model;
-use text_io::Source;
-use text_lines::TextCause;
+use text_io::{Source, TextCause};
 
 /// What further calls of an `EventStream` answer.
 #[derive(Clone, Copy, Debug, PartialEq, Eq)]

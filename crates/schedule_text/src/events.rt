@@ -1,9 +1,9 @@
 //! The event of a schedule's line.
 ghost use Rattle.std.specs.Prelude.{◌≡◌, ◌≢◌, ℕ, [], ◌∷◌, IfSome, IsNone, MatchResult, codes};
-ghost use Rattle.text_lines.specs.Lines.{words_of};
-ghost use Rattle.text_lines.specs.Readings.{ReadsBack, Reads, ReadsLine, ReadsWords};
-ghost use Rattle.text_lines.specs.Numerals.{IsWithin};
-ghost use Rattle.text_lines.specs.WordsLeft.{number_words};
+ghost use Rattle.text_io.specs.Lines.{words_of};
+ghost use Rattle.text_io.specs.LineReadings.{ReadsBack, Reads, ReadsLine, ReadsWords};
+ghost use Rattle.text_io.specs.Numerals.{IsWithin};
+ghost use Rattle.text_io.specs.WordsLeft.{number_words};
 ghost use Rattle.line_table.specs.Names.{name_of};
 ghost use Rattle.history.specs.declared.operations.Op.{Op};
 ghost use Rattle.schedule_text.specs.declared.schedules.Version.{Version};
@@ -13,7 +13,7 @@ ghost use Rattle.schedule_text.specs.Texts.{call_words, IsActor, IsBegun, IsCall
 use crate::schedules::{Event, Version};
 use history::{Body, MOST_ACTOR, MOST_BODY, Op};
 use line_table::{Line, Section};
-use text_lines::{TextCause, Words};
+use text_io::{TextCause, Words};
 
 const MOST_STEPS: u64 = 1_000_000;
 

@@ -1,15 +1,15 @@
 //! The lines of a schedule's header.
 ghost use Rattle.std.specs.Prelude.{◌≡◌, ◌≢◌, ◌≤◌, MatchOption, length};
 ghost use Rattle.line_table.specs.declared.lines.Kind.{Kind};
-ghost use Rattle.text_lines.specs.Lines.{words_of};
-ghost use Rattle.text_lines.specs.Readings.{ReadsLine};
+ghost use Rattle.text_io.specs.Lines.{words_of};
+ghost use Rattle.text_io.specs.LineReadings.{ReadsLine};
 ghost use Rattle.counted_ref.specs.Ref.{IsSplit};
 ghost use Rattle.schedule_text.specs.Texts.{queue, number, kind_name, said_words, field_name, least, greatest, IsSaidInRange};
 
 use counted_ref::{most_count, most_node};
 use history::MOST_ACTOR;
 use line_table::Kind;
-use text_lines::{TextCause, Words};
+use text_io::{TextCause, Words};
 
 /// A number of the header.
 #[derive(Clone, Copy)]

@@ -1,6 +1,6 @@
 //! Laws of the texts of schedules: functions that do nothing, whose contracts are the laws.
 ghost use Rattle.std.specs.Prelude.{◌≡◌, ◌≢◌, ℕ, List};
-ghost use Rattle.text_lines.specs.Grammars.{IsFirstFault};
+ghost use Rattle.text_io.specs.Grammars.{IsFirstFault};
 ghost use Rattle.history.specs.declared.text_causes.TextCause.{TextCause};
 ghost use Rattle.schedule_text.specs.Schedules.{Schedule, IsBitsOf};
 ghost use Rattle.schedule_text.specs.Texts.{version_due, schedule_lines, schedule_text, IsInRange};

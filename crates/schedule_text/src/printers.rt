@@ -2,9 +2,9 @@
 ghost use Rattle.std.specs.Prelude.{◌≡◌, ◌+◌, ◌≤◌, ◌++◌, ◌∷◌, [], length};
 ghost use Rattle.std.specs.List.{flat_map};
 ghost use Rattle.text_io.specs.Blocks.{Writes};
-ghost use Rattle.text_lines.specs.Grammars.{lines_of};
-ghost use Rattle.text_lines.specs.Lines.{spaced};
-ghost use Rattle.text_lines.specs.Numerals.{numeral};
+ghost use Rattle.text_io.specs.Grammars.{lines_of};
+ghost use Rattle.text_io.specs.Lines.{spaced};
+ghost use Rattle.text_io.specs.Numerals.{numeral};
 ghost use Rattle.schedule_text.specs.Readers.{sizes_in};
 ghost use Rattle.schedule_text.specs.Texts.{version as says_version, queue, number, bits_said, schedule_lines, kind_name, version_name, call_words};
 ghost use Rattle.schedule_text.specs.Texts.{event_words, event_text, header_text, schedule_text};

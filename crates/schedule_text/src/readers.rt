@@ -1,7 +1,7 @@
 //! The schedule that a text is.
 ghost use Rattle.std.specs.Prelude.{◌≡◌, ◌≢◌, ℕ, ◌+◌, ◌-◌, ◌<◌, ◌≤◌, ◌++◌, ◌∷◌, [], All, IfOk, IfErr, MatchOption, MatchResult, OnOk, length, map};
-ghost use Rattle.text_lines.specs.Grammars.{Begins};
-ghost use Rattle.text_lines.specs.Lines.{HasNo, line, spaced};
+ghost use Rattle.text_io.specs.Grammars.{Begins};
+ghost use Rattle.text_io.specs.Lines.{HasNo, line, spaced};
 ghost use Rattle.schedule_text.specs.declared.fields.Field.TheVariants.{Nodes};
 ghost use Rattle.schedule_text.specs.Readers.{AddsEvent, AreSizesInRange, IsFront, IsHeaderInRange, IsRefusedAfter, IsRefusedText, said_in, sizes_in};
 ghost use Rattle.schedule_text.specs.Schedules.{Schedule, IsBitsOf, header_lines};
@@ -15,7 +15,7 @@ use crate::schedules::{Event, Schedule, Version};
 use history::{Op, Refusal};
 use line_table::Kind;
 use std::alloc::Global;
-use text_lines::{TextCause, line_at};
+use text_io::{TextCause, line_at};
 
 /// What the header of a schedule says.
 #[derive(Drop)]

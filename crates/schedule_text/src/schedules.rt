@@ -14,7 +14,7 @@ pub enum Version {
 
 impl Version {
     ghost use Rattle.std.specs.Prelude.{◌≡◌};
-    ghost use Rattle.text_lines.specs.Numerals.{IsWithin};
+    ghost use Rattle.text_io.specs.Numerals.{IsWithin};
     ghost use Rattle.schedule_text.specs.Schedules.{header_lines, tells_shuts};
 
     /// How many lines stand before the events. Takes no memory and doesn't wait.

@@ -16,8 +16,7 @@ use crate::readers::{FIRST_BITS, Header, Sizes, version_of};
 use crate::schedules::{Event, Version};
 use history::Refusal;
 use line_table::Kind;
-use text_io::Source;
-use text_lines::TextCause;
+use text_io::{Source, TextCause};
 
 // What is held of the line behind so many, which is due.
 fn held_line<R: Source>(ahead: &mut Ahead, reader: &mut R, before: u64) -> Result<HeldLine, Refusal>

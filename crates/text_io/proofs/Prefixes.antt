@@ -2,8 +2,8 @@
 use Rattle.std.proofs.Common.{◌≡◌, ◌≢◌, ℕ, List, [], ◌∷◌, ◌++◌, refl, ap, ◌∙◌, append_assoc, subst}
 use Rattle.history.specs.declared.text_causes.TextCause.{TextCause}
 use Rattle.history.specs.declared.text_causes.TextCause.TheVariants.{End, Form, Range, Extra}
-use Rattle.text_lines.specs.Lines.{line}
-use Rattle.text_lines.specs.Grammars.{Grammar, state_after, lines_of, IsWrongLine, IsFault, IsFirstFault}
+use Rattle.text_io.specs.Lines.{line}
+use Rattle.text_io.specs.Grammars.{Grammar, state_after, lines_of, IsWrongLine, IsFault, IsFirstFault}
 use Rattle.history.specs.declared.refusals.Refusal.{Refusal}
 use Rattle.history.specs.declared.refusals.Refusal.TheVariants.{Text}
 use Rattle.text_io.specs.Prefixes.{IsRefusedBy, IsLastingFault}

@@ -5,3 +5,12 @@ pub mod Writers
 pub mod Blocks
 pub mod Readings
 pub mod Prefixes
+pub mod Lines
+pub mod Numerals
+pub mod LineReadings
+pub mod Grammars
+pub mod WordsLeft
+pub mod Listings
+pub mod Printable
+pub mod ListingItems
+pub mod ListingRefusals

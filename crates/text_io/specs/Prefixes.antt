@@ -1,7 +1,7 @@
 -- What a text is refused by, of which a prefix or all is read.
 use Rattle.std.specs.Prelude.{ℕ, List, ◌++◌, Option, Some, None, ⊤}
 use Rattle.history.specs.declared.text_causes.TextCause.{TextCause}
-use Rattle.text_lines.specs.Grammars.{Grammar, IsFirstFault}
+use Rattle.text_io.specs.Grammars.{Grammar, IsFirstFault}
 use Rattle.history.specs.declared.refusals.Refusal.{Refusal}
 use Rattle.history.specs.declared.refusals.Refusal.TheVariants.{Memory, Text, Read}
 

@@ -1,6 +1,6 @@
 //! What a kind of text is parsed to, by its grammar.
 ghost use Rattle.std.specs.Prelude.{◌≡◌, List, ℕ, IfOk, IfErr};
-ghost use Rattle.text_lines.specs.Grammars.{Grammar};
+ghost use Rattle.text_io.specs.Grammars.{Grammar};
 ghost use Rattle.text_io.specs.Prefixes.{IsRefusedBy};
 
 use history::Refusal;

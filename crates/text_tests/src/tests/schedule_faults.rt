@@ -4,7 +4,7 @@ use history::Refusal;
 use schedule_text::parse;
 use std::alloc::{AllocError, Global};
 use std::test::Fail;
-use text_lines::TextCause;
+use text_io::TextCause;
 
 /// The lines of a text of version 1.
 pub const LINES: [&str; 10] = [

@@ -7,8 +7,7 @@ use schedule_text::{Event, EventStream, print, read_schedule};
 use std::alloc::Global;
 use std::process::Abort;
 use std::test::Fail;
-use text_io::{Script, Trouble};
-use text_lines::TextCause;
+use text_io::{Script, TextCause, Trouble};
 
 const PIECES: [usize; 3] = [1, 7, 4096];
 

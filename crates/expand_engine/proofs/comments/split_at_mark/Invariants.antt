@@ -1,5 +1,5 @@
 use Rattle.std.proofs.Common.{take}
-use Rattle.text_lines.specs.Lines.{HasNo}
+use Rattle.text_io.specs.Lines.{HasNo}
 use Rattle.expand_engine.proofs.comments.split_at_mark.Given as goal
 
 abbrev pub invariant-loop-at : goal.invariant-loop-at

@@ -1,5 +1,5 @@
 -- The first clause is a law of listings, at that of histories, and the lemma is the second one.
-use Rattle.text_lines.proofs.Listings.{listing-one_fault}
+use Rattle.text_io.proofs.Listings.{listing-one_fault}
 use Rattle.history_text.specs.HistoryLines.{history_listing}
 use Rattle.history_text.proofs.OneReading.{IsSoundListing-history, no_fault_of_history}
 use Rattle.history_text.proofs.laws.a_text_has_one_first_fault.Goals as goal

@@ -1,6 +1,6 @@
 use Rattle.std.proofs.lemmas.Result.{err_from_is_err_and}
-use Rattle.text_lines.specs.Lines.{words_of}
-use Rattle.text_lines.proofs.ReadingBack.{ReadsLine-kept}
+use Rattle.text_io.specs.Lines.{words_of}
+use Rattle.text_io.proofs.ReadingBack.{ReadsLine-kept}
 use Rattle.history_text.specs.HistoryReading.{AreOfCount, SaysCount}
 use Rattle.history_text.specs.HistoryLines.{IsCount}
 use Rattle.history_text.proofs.LineReaders.{SaysCount-from_words, AreOfCount-said}

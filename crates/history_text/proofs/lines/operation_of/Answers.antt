@@ -1,6 +1,6 @@
 use Rattle.std.proofs.lemmas.Result.{err_from_is_err_and}
-use Rattle.text_lines.specs.Lines.{words_of}
-use Rattle.text_lines.proofs.ReadingBack.{ReadsLine-kept}
+use Rattle.text_io.specs.Lines.{words_of}
+use Rattle.text_io.proofs.ReadingBack.{ReadsLine-kept}
 use Rattle.history_text.specs.HistoryReading.{AreOfOperation, SaysOperation}
 use Rattle.history_text.specs.HistoryLines.{IsOperationInRange}
 use Rattle.history_text.proofs.LineReaders.{SaysOperation-from_words, AreOfOperation-said}

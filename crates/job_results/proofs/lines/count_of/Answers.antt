@@ -1,6 +1,6 @@
 use Rattle.std.proofs.lemmas.Result.{err_from_is_err_and}
-use Rattle.text_lines.specs.Lines.{words_of}
-use Rattle.text_lines.proofs.ReadingBack.{ReadsLine-kept}
+use Rattle.text_io.specs.Lines.{words_of}
+use Rattle.text_io.proofs.ReadingBack.{ReadsLine-kept}
 use Rattle.job_results.specs.JobTexts.{IsCount}
 use Rattle.job_results.specs.JobReading.{AreOfCount, SaysCount}
 use Rattle.job_results.proofs.JobLines.{SaysCount-from_words, AreOfCount-said}

@@ -1,6 +1,6 @@
 -- Each clause is a law of listings, at that of jobs.
 use Rattle.std.proofs.Common.{length}
-use Rattle.text_lines.proofs.Listings.{listing-no_fault, listing-one_fault}
+use Rattle.text_io.proofs.Listings.{listing-no_fault, listing-one_fault}
 use Rattle.job_results.specs.JobTexts.{jobs_listing}
 use Rattle.job_results.proofs.OneJobText.{IsListing-jobs, IsSoundListing-jobs}
 use Rattle.job_results.proofs.text_laws.a_text_has_one_first_fault.Goals as goal

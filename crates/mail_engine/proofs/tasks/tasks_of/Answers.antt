@@ -2,7 +2,7 @@ use Rattle.std.proofs.Common.{arith, ◌≡◌, ◌∙◌, ◌+◌, ◌-◌, [],
 use Rattle.std.proofs.lemmas.List.{length-map}
 use Rattle.std.proofs.lemmas.Grind.{common_steps}
 use Rattle.std.specs.List.{All}
-use Rattle.text_lines.specs.Numerals.{IsWithin}
+use Rattle.text_io.specs.Numerals.{IsWithin}
 use Rattle.mail_engine.specs.declared.letters.Outgoing.{Outgoing}
 use Rattle.mail_engine.proofs.Shares.{HaveBut, have_none, have_more, have_all}
 use Rattle.mail_engine.proofs.tasks.tasks_of.Goals as goal

@@ -1,6 +1,6 @@
 use Rattle.std.proofs.Common.{◌≡◌, ◌+◌, map, length}
 use Rattle.std.specs.List.{All}
-use Rattle.text_lines.specs.Numerals.{IsWithin}
+use Rattle.text_io.specs.Numerals.{IsWithin}
 use Rattle.mailbox.specs.Posts.{letters_of}
 use Rattle.mail_engine.proofs.Shares.{HaveBut}
 use Rattle.mail_engine.proofs.tasks.tasks_of.Given as goal

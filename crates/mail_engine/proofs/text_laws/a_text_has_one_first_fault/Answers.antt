@@ -1,5 +1,5 @@
 -- Each clause is a law of listings, at that of mail.
-use Rattle.text_lines.proofs.Listings.{listing-no_fault, listing-one_fault}
+use Rattle.text_io.proofs.Listings.{listing-no_fault, listing-one_fault}
 use Rattle.mail_engine.specs.MailTexts.{header_of, mail_listing}
 use Rattle.mail_engine.proofs.MailLines.{IsListing-mail, IsSoundListing-mail}
 use Rattle.mail_engine.proofs.text_laws.a_text_has_one_first_fault.Goals as goal

@@ -1,5 +1,5 @@
 -- Each clause is a law of grammars, at that of recordings.
-use Rattle.text_lines.proofs.Single.{no_fault, one_fault}
+use Rattle.text_io.proofs.Single.{no_fault, one_fault}
 use Rattle.recording_text.specs.RecordingLines.{VersionDue, recording_grammar, recording_lines, recording_text}
 use Rattle.recording_text.proofs.OneReading.{IsText-recording}
 use Rattle.recording_text.proofs.Spelling.{IsSoundGrammar-recording}

@@ -1,6 +1,6 @@
 use Rattle.std.proofs.lemmas.Result.{err_from_is_err_and}
-use Rattle.text_lines.specs.Lines.{words_of}
-use Rattle.text_lines.proofs.ReadingBack.{ReadsLine-kept}
+use Rattle.text_io.specs.Lines.{words_of}
+use Rattle.text_io.proofs.ReadingBack.{ReadsLine-kept}
 use Rattle.recording_text.specs.RecordingReading.{AreOfCount, SaysCount, IsCount}
 use Rattle.recording_text.proofs.Spelling.{SaysCount-from_words, AreOfCount-said}
 use Rattle.recording_text.proofs.lines.count_of.Goals as goal

@@ -2,7 +2,7 @@ use Rattle.std.proofs.Common.{◌≡◌, arith, sym, ◌∙◌, subst}
 use Rattle.std.proofs.lemmas.Bool.{eqb-true}
 use Rattle.std.proofs.lemmas.List.{nil_from_length}
 use Rattle.std.proofs.lemmas.Result.{err_from_is_err_and}
-use Rattle.listings.proofs.Steps.{not_empty}
+use Rattle.text_io.proofs.ListingSteps.{not_empty}
 use Rattle.recording_text.specs.RecordingReading.{known_by}
 use Rattle.recording_text.proofs.Steps.{HasRead, HasRead-more, HasRead-room, fault-end, fault-operation, fault-extra, whole-recording}
 use Rattle.recording_text.proofs.readers.parse_behind.Goals as goal

@@ -1,4 +1,4 @@
-use Rattle.text_lines.proofs.Numerals.{numeral_decimal}
+use Rattle.text_io.proofs.Numerals.{numeral_decimal}
 use Rattle.schedule_text.proofs.printers.push_numeral.Goals as goal
 
 pub returns-clause-digits : goal.returns-clause-digits

@@ -1,5 +1,5 @@
 use Rattle.std.proofs.Common.{◌≡◌, All, length, map}
-use Rattle.text_lines.specs.Grammars.{Begins}
+use Rattle.text_io.specs.Grammars.{Begins}
 use Rattle.schedule_text.specs.Texts.{happens, events_left, schedule_lines, IsEventOf}
 use Rattle.schedule_text.proofs.readers.events_of.Given as goal
 

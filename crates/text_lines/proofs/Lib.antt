@@ -1,8 +1,0 @@
-pub mod Numerals
-pub mod Splits
-pub mod Digits
-pub mod Faults
-pub mod ReadingBack
-pub mod Single
-pub mod Total
-pub mod Listings

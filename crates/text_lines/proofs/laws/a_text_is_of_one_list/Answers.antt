@@ -1,6 +1,0 @@
--- The lemma is the law.
-use Rattle.text_lines.proofs.Single.{one_list}
-use Rattle.text_lines.proofs.laws.a_text_is_of_one_list.Goals as goal
-
-pub returns : goal.returns
-returns g c = λ s rs qs text sound. one_list g.G.LineGrammar.grammar sound s rs qs text

@@ -1,6 +1,0 @@
-use Rattle.std.proofs.Common.{take}
-use Rattle.text_lines.specs.Lines.{HasNo}
-use Rattle.text_lines.proofs.line_splits.split_once.Given as goal
-
-abbrev pub invariant-loop-at : goal.invariant-loop-at
-invariant-loop-at l = HasNo l.byte (take l.at l.text)
