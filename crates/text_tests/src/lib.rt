@@ -1,4 +1,5 @@
-//! Tests of references, line names, devices, verdicts, tables and texts: what no clause says, by calls.
+//! Tests of references, line names, devices, verdicts, tables, texts and the engines below the program: what
+//! no clause says, by calls.
 #![tactic(auto)]
 
 #[cfg(test)]

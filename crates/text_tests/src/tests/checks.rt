@@ -1,5 +1,5 @@
 use crate::tests::comparisons::same;
-use crate::tests::schedules::{FIRST_HISTORY, FIRST_TABLE, RUNS};
+use crate::tests::known_runs::{FIRST_HISTORY, FIRST_TABLE, RUNS};
 use crate::tests::trials::{
     Engine, answers, does, does_by_any_piece, tells_each_end, writes_a_prefix, writes_nothing,
 };

@@ -1,22 +1,9 @@
-use crate::tests::schedules::RUNS;
+use crate::tests::known_runs::RUNS;
+use crate::tests::schedule_faults::{LINES, text_with};
 use crate::tests::trials::{
     Engine, does, does_by_any_piece, tells_each_end, writes_a_prefix, writes_nothing,
 };
-use std::alloc::{AllocError, Global};
 use std::test::Fail;
-
-const LINES: [&str; 10] = [
-    "msq schedule 1",
-    "queue nonblocking",
-    "nodes 3",
-    "limit 100",
-    "actors 2",
-    "events 4",
-    "begin 1 enq 5",
-    "steps 1 10",
-    "begin 2 deq",
-    "steps 2 9",
-];
 
 const LINES_OF_TWO: [&str; 11] = [
     "msq schedule 2",
@@ -52,24 +39,6 @@ begin 1 enq 7
 steps 1 8
 give 1
 ";
-
-// These lines, with another one in the place of one of them, from 1.
-fn text_with(
-    alloc: Global,
-    lines: &[&str],
-    number: u64,
-    other: &str,
-) -> Result<Vec<u8>, AllocError> {
-    let mut text = Vec::new(alloc);
-    let mut at = 0u64;
-    for line in lines {
-        at = at.saturating_add(1);
-        let line = if at == number { other } else { line };
-        text.extend_from_slice(line.as_bytes())?;
-        text.push(b'\n')?;
-    }
-    Ok(text)
-}
 
 #[test]
 fn writes_each_history_whatever_the_pieces(rt: HostRuntime) -> Result<(), Fail> {

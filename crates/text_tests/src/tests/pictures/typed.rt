@@ -1,8 +1,8 @@
 //! Pictures that were worked out by hand, of each form of row; what a view leaves out; and faults.
 use crate::tests::comparisons::same;
+use crate::tests::known_runs::{FIRST, SHUT, STOPS};
 use crate::tests::pictures::WHOLE;
 use crate::tests::pictures::meanings::{LEGEND_PICTURE, MEANINGS};
-use crate::tests::schedules::{FIRST, SHUT, STOPS};
 use crate::tests::trials::{Engine, does_by_any_piece, writes_nothing};
 use crate::tests::written::{
     answered, changed, tells_a_fault, tells_a_writer_that_fails, text_fault,
