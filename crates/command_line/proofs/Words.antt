@@ -5,7 +5,7 @@ use Rattle.std.specs.Prelude.{Result, Ok, Err}
 use Rattle.std.specs.Str.Parse.{ParsesUnsigned}
 use Rattle.clap.specs.Matches.{ReadsOne}
 use Rattle.line_table.specs.declared.lines.Kind.TheVariants.{NonBlocking}
-use Rattle.queue_kinds.specs.declared.kinds.QueueKind.TheVariants.{Linked}
+use Rattle.line_table.specs.declared.kinds.QueueKind.TheVariants.{Linked}
 use Rattle.clap.specs.Words.{App, Row, Text, fault_of, first_of, is_simple, is_simple_and_free, subcommand_of}
 use Rattle.clap.proofs.OnLiterals.{clap_on_literals}
 use Rattle.command_line.specs.declared.commands.Colours.TheVariants.{Auto}

@@ -10,8 +10,8 @@ use Rattle.clap.specs.declared.error.kind.ErrorKind.{ErrorKind}
 use Rattle.clap.specs.declared.error.kind.ErrorKind.TheVariants.{DisplayHelp, DisplayVersion, OutOfMemory}
 use Rattle.counted_ref.specs.Ref.{reserved_node}
 use Rattle.line_table.specs.declared.lines.Kind.TheVariants.{TwoLock, NonBlocking}
-use Rattle.queue_kinds.specs.declared.kinds.QueueKind.{QueueKind}
-use Rattle.queue_kinds.specs.declared.kinds.QueueKind.TheVariants.{Linked, Ring}
+use Rattle.line_table.specs.declared.kinds.QueueKind.{QueueKind}
+use Rattle.line_table.specs.declared.kinds.QueueKind.TheVariants.{Linked, Ring}
 use Rattle.command_line.specs.declared.commands.Colours.{Colours}
 use Rattle.command_line.specs.declared.commands.Colours.TheVariants.{Auto, Always, Never}
 use Rattle.command_line.specs.declared.commands.Command.{Command}

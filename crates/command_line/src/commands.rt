@@ -14,7 +14,7 @@ use crate::show_options::show_command;
 use clap::builder::ValueParser;
 use clap::error::ErrorKind;
 use clap::{Arg, ArgAction, ArgMatches};
-use queue_kinds::QueueKind;
+use line_table::QueueKind;
 use std::alloc::{AllocError, Global};
 
 /// The version, which the header, the crate for cargo and CHANGELOG.md tell too.

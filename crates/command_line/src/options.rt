@@ -5,8 +5,7 @@ ghost use Rattle.command_line.specs.Commands.{colours_by, colours_named, kind_by
 
 use crate::commands::{Colours, Crew, ShowOptions};
 use clap::ArgMatches;
-use line_table::Kind;
-use queue_kinds::QueueKind;
+use line_table::{Kind, QueueKind};
 
 /// How many workers there are where the words don't say it.
 const USUAL_WORKERS: u32 = 4;

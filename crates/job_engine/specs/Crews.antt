@@ -16,8 +16,8 @@ use Rattle.ring_queue.specs.declared.seats.Seat.{Seat}
 use Rattle.ring_queue.specs.NewRings.{IsMade}
 use Rattle.either_queue.specs.declared.either.EitherQueue.{EitherQueue}
 use Rattle.either_queue.specs.declared.either.EitherQueue.TheVariants.{First, Second}
-use Rattle.queue_kinds.specs.declared.kinds.QueueKind.{QueueKind}
-use Rattle.queue_kinds.specs.declared.kinds.QueueKind.TheVariants.{Linked, Ring}
+use Rattle.line_table.specs.declared.kinds.QueueKind.{QueueKind}
+use Rattle.line_table.specs.declared.kinds.QueueKind.TheVariants.{Linked, Ring}
 use Rattle.dispatcher.specs.Workers.{IsTaker, IsGiver}
 
 -- the same role for each worker, and one more for who hands out the jobs

@@ -16,8 +16,8 @@ use Rattle.arena_queue.specs.Queues.{arena_of}
 use Rattle.mail_engine.specs.declared.engine.Carrier.{Carrier}
 use Rattle.mail_engine.specs.declared.engine.Carrier.TheVariants.{TwoLock, NonBlocking, Ring as OverRing}
 use Rattle.mail_engine.specs.Rows.{mail_plan, IsMailRing}
-use Rattle.queue_kinds.specs.declared.kinds.QueueKind.{QueueKind}
-use Rattle.queue_kinds.specs.declared.kinds.QueueKind.TheVariants.{Linked, Ring}
+use Rattle.line_table.specs.declared.kinds.QueueKind.{QueueKind}
+use Rattle.line_table.specs.declared.kinds.QueueKind.TheVariants.{Linked, Ring}
 use Rattle.ring_queue.specs.declared.queue.RingQueue.{RingQueue}
 use Rattle.ring_queue.specs.declared.seats.Seat.{Seat as RingSeat}
 use Rattle.ring_queue.specs.Queues.{IsNumberSeat, permits_in}

@@ -1,11 +1,10 @@
 //! Letters of a mailbox over each queue.
 use history::Refusal;
-use line_table::Kind;
+use line_table::{Kind, QueueKind};
 use mail_engine::{mail_queue, mail_ring};
 use node_arena::{MOST_COUNT, MOST_NODE};
 use nonblocking::NonBlockingAlgorithm;
 use numbered_letters::{Came, Load, posted};
-use queue_kinds::QueueKind;
 use std::alloc::Global;
 use std::rt::Clock;
 use std::sync::Wait;

@@ -1,9 +1,8 @@
 //! Texts of mail that are posted over each queue, from any source to any sink.
 use super::comparisons::same;
 use history::Refusal;
-use line_table::Kind;
+use line_table::{Kind, QueueKind};
 use mail_engine::post_text;
-use queue_kinds::QueueKind;
 use std::alloc::Global;
 use std::process::Abort;
 use std::sync::Wait;

@@ -1,7 +1,6 @@
 use crate::tests::comparisons::same;
 use command_line::{Colours, Command, Task, read_words};
-use line_table::Kind;
-use queue_kinds::QueueKind;
+use line_table::{Kind, QueueKind};
 use std::alloc::{AllocError, Global};
 use std::process::Abort;
 use std::test::Fail;

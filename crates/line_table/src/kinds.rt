@@ -1,5 +1,5 @@
 //! Which queue.
-use line_table::Kind;
+use crate::lines::Kind;
 
 /// Which queue jobs or letters go over.
 #[derive(Clone, Copy, Debug, PartialEq, Eq)]
