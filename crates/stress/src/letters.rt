@@ -4,12 +4,12 @@ use line_table::{Kind, QueueKind};
 use mail_engine::{mail_queue, mail_ring};
 use node_arena::{MOST_COUNT, MOST_NODE};
 use nonblocking::NonBlockingAlgorithm;
-use numbered_letters::{Came, Load, posted};
 use std::alloc::Global;
 use std::rt::Clock;
 use std::sync::Wait;
 use std::thread::Threads;
 use two_lock::TwoLockAlgorithm;
+use worker_tests::{Came, Load, posted};
 
 // A node for each letter and each sender, and two more; the most there may be, where there are more. A ring is full of as many
 // values.

@@ -1,4 +1,0 @@
-use Rattle.dispatch_tests.proofs.tests.turns.turns_are_pops.Given as goal
-
-abbrev pub invariant-loop-turns : goal.invariant-loop-turns
-invariant-loop-turns g l = g.Q.Fifo.is_seat l.queue.queue l.seat

@@ -1,5 +1,0 @@
-//! Tests of workers on queues on running atomics, by their calls: what no clause says.
-#![tactic(auto)]
-
-#[cfg(test)]
-mod tests;
