@@ -1,4 +1,4 @@
-//! Tests of queues on running atomics, by their calls: what no clause says.
+//! Tests of queues of numbers and of values, of handles and of offices, by their calls: what no clause says.
 #![tactic(auto)]
 
 #[cfg(test)]

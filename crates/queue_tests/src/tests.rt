@@ -1,17 +1,22 @@
-//! Runs of queues, with the answers of runs worked out by hand.
-mod both_runs;
+//! Runs of queues of numbers and of values, with the answers of runs worked out by hand.
 mod calls;
 mod comparisons;
 mod drains;
+mod files;
 mod kept_nodes;
 mod looks;
-mod nonblocking_runs;
+mod memory;
+mod mocks;
+mod offices;
+mod queues;
+mod ring_batches;
 mod rings;
 mod runs;
 mod seats;
 mod sleepers;
 mod slots;
-mod splits;
 mod threads;
-mod two_lock_runs;
+mod values;
 mod waits;
+mod words;
+mod worn;

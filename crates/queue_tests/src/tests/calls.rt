@@ -1,47 +1,101 @@
-//! Calls by a seat that may make them, with small bodies.
-use history::{Body, Fifo, Refusal, Taken};
+//! Calls with their answers, which one thread makes by several seats.
+use super::comparisons::same;
+use super::values::{Numbered, Value};
+use carriers::Carrier;
+use history::Refusal;
+use std::alloc::Global;
+use std::process::Abort;
+use std::test::Fail;
 
-/// How many turns each call has.
-const TURNS: u32 = 3;
+/// How many turns each call has where it isn't said.
+pub const TURNS: u32 = 3;
 
-/// Pushes a small body. A seat that may not push answers `BadSize`, which no queue does.
-pub fn push<Q: Fifo>(queue: &Q, seat: &mut Q::Seat, body: u64) -> Result<(), Refusal>
-    requires { Q.is_seat queue.now seat.old }
-    ensures { Q.is_seat queue.now seat.new }
-{
-    let Some(body) = Body::new(body) else {
-        return Err(Refusal::BadSize);
-    };
-    if !queue.may_push(seat) {
-        return Err(Refusal::BadSize);
-    }
-    queue.try_push(seat, body, TURNS)
+/// A call, with what it answers.
+#[derive(Clone, Copy, Debug, PartialEq, Eq)]
+pub enum Told {
+    /// A push of this number is done.
+    Push(u64),
+    /// It is refused, and the value comes back.
+    Back(u64, Refusal),
+    /// A pop takes the value of this seat with this number.
+    Pop(u16, u64),
+    /// It finds the queue empty.
+    Empty,
+    /// It is refused.
+    NoPop(Refusal),
+    /// A shut is done.
+    Shut,
+    /// It is refused.
+    NoShut(Refusal),
 }
 
-/// The value at the front, as its pusher and its body. A seat that may not pop answers `BadSize`, which no queue does.
-pub fn pop<Q: Fifo>(queue: &Q, seat: &mut Q::Seat) -> Result<Option<(u16, u64)>, Refusal>
-    requires { Q.is_seat queue.now seat.old }
-    ensures { Q.is_seat queue.now seat.new }
-{
-    if !queue.may_pop(seat) {
-        return Err(Refusal::BadSize);
-    }
-    let taken = queue.try_pop(seat, TURNS)?;
-    Ok(taken.map(parts))
+/// What the call of this name answers, which the seat makes if it may. Else it is refused `BadSize`, which no
+/// queue does.
+pub fn told<C: Carrier<Item: Value>>(
+    alloc: Global,
+    queue: &C,
+    seat: &mut C::Seat,
+    call: Told,
+    turns: u32,
+) -> Result<Told, Refusal> {
+    let (may_push, may_pop) = (queue.may_push(seat), queue.may_pop(seat));
+    Ok(match call {
+        Told::Push(number) | Told::Back(number, _) => {
+            let value = C::Item::made(alloc, number)?;
+            if !may_push {
+                return Ok(Told::Back(value.number(), Refusal::BadSize));
+            }
+            match queue.try_push(seat, value, turns) {
+                Ok(()) => Told::Push(C::Item::made(alloc, number)?.number()),
+                Err(unpushed) => Told::Back(unpushed.value.number(), unpushed.refusal),
+            }
+        }
+        Told::Pop(..) | Told::Empty | Told::NoPop(_) if !may_pop => Told::NoPop(Refusal::BadSize),
+        Told::Pop(..) | Told::Empty | Told::NoPop(_) => match queue.try_pop(seat, turns) {
+            Ok(Some(item)) => Told::Pop(item.from, item.value.number()),
+            Ok(None) => Told::Empty,
+            Err(refusal) => Told::NoPop(refusal),
+        },
+        Told::Shut | Told::NoShut(_) if !may_push => Told::NoShut(Refusal::BadSize),
+        Told::Shut | Told::NoShut(_) => match queue.try_shut(seat, turns) {
+            Ok(()) => Told::Shut,
+            Err(refusal) => Told::NoShut(refusal),
+        },
+    })
 }
 
-/// Shuts the queue. A seat that may not push answers `BadSize`, which no queue does.
-pub fn shut<Q: Fifo>(queue: &Q, seat: &mut Q::Seat) -> Result<(), Refusal>
-    requires { Q.is_seat queue.now seat.old }
-    ensures { Q.is_seat queue.now seat.new }
-{
-    if !queue.may_push(seat) {
-        return Err(Refusal::BadSize);
-    }
-    queue.try_shut(seat, TURNS)
+// The same call with the number that a value of this type tells.
+fn wanted<V: Value>(alloc: Global, call: Told) -> Result<Told, Refusal> {
+    Ok(match call {
+        Told::Push(number) => Told::Push(V::made(alloc, number)?.number()),
+        Told::Back(number, refusal) => Told::Back(V::made(alloc, number)?.number(), refusal),
+        Told::Pop(from, number) => Told::Pop(from, V::made(alloc, number)?.number()),
+        call => call,
+    })
 }
 
-/// The pusher and the body of a value.
-pub fn parts(value: Taken) -> (u16, u64) {
-    (value.from, value.body.number())
+/// Makes these calls, each by the seat of this number and in so many turns; each answers as it says.
+pub fn go_in<C: Carrier<Item: Value>>(
+    rt: &(impl AllocGlobal + Abort),
+    queue: &C,
+    seats: &mut [C::Seat],
+    turns: u32,
+    calls: &[(usize, Told)],
+) -> Result<(), Fail> {
+    for (number, call) in calls {
+        let found = told(rt.alloc(), queue, &mut seats[*number - 1], *call, turns)?;
+        let wanted = wanted::<C::Item>(rt.alloc(), *call)?;
+        same(rt, found, wanted, (*number, *call));
+    }
+    Ok(())
+}
+
+/// The same in a few turns.
+pub fn go<C: Carrier<Item: Value>>(
+    rt: &(impl AllocGlobal + Abort),
+    queue: &C,
+    seats: &mut [C::Seat],
+    calls: &[(usize, Told)],
+) -> Result<(), Fail> {
+    go_in(rt, queue, seats, TURNS, calls)
 }

@@ -1,5 +1,5 @@
-//! One comparison for all tests: each function with an `assert_eq!` of its own would cost seconds of a proof.
-use std::fmt::{Debug, Display};
+//! One comparison for all tests.
+use std::fmt::Debug;
 use std::process::Abort;
 
 /// Both values are the same. Else the test ends, and shows both with what was tried.
@@ -7,7 +7,7 @@ pub fn same<T: PartialEq + Debug + Drop>(
     rt: &impl Abort,
     found: T,
     wanted: T,
-    tried: impl Display + Drop,
+    tried: impl Debug + Drop,
 ) {
-    assert_eq!(rt; found, wanted, "{tried}");
+    assert_eq!(rt; found, wanted, "{tried:?}");
 }

@@ -1,89 +1,153 @@
 //! What a seat sees of its queue without taking anything.
-ghost use Rattle.std.specs.List.{All};
-ghost use Rattle.arena_queue.specs.Queues.{IsQueueSeat};
-
+use super::calls::Told::{Back, Empty, Pop, Push, Shut};
+use super::calls::{Told, go};
 use super::comparisons::same;
-use super::runs::{AMPLE_COUNT, Told, goes, last};
-use arena_queue::{Algorithm, ArenaQueue};
-use history::Refusal;
-use node_arena::{Emptiness, Role, Seat};
+use super::queues::{AMPLE, Made};
+use carriers::{Carrier, Numbers};
+use history::Refusal::Closed;
+use node_arena::{Emptiness, Role};
 use nonblocking::MsQueue;
+use ring_queue::{RingEmptiness, RingQueue};
+use ring_values::RingValues;
 use std::process::Abort;
 use std::test::Fail;
 use two_lock::TwoLockQueue;
 
-/// Calls of one seat on four nodes, each with how long the queue then is, and what a seat finds that looks whether it is
-/// empty.
-const SEEN: [(Told, u64, Emptiness); 10] = [
-    (Told::Pop(Ok(None)), 0, Emptiness::Empty),
-    (Told::Push(1, Ok(())), 1, Emptiness::Holds),
-    (Told::Push(2, Ok(())), 2, Emptiness::Holds),
-    (Told::Pop(Ok(Some((1, 1)))), 1, Emptiness::Holds),
-    (Told::Push(3, Ok(())), 2, Emptiness::Holds),
-    (Told::Pop(Ok(Some((1, 2)))), 1, Emptiness::Holds),
-    (Told::Pop(Ok(Some((1, 3)))), 0, Emptiness::Empty),
-    (Told::Push(4, Ok(())), 1, Emptiness::Holds),
-    (Told::Shut(Ok(())), 1, Emptiness::Holds),
-    (Told::Pop(Ok(Some((1, 4)))), 0, Emptiness::ShutEmpty),
-];
+/// Whether a queue is empty, and both bounds of its length, where it tells them.
+type Seen = (RingEmptiness, Option<(u64, u64)>);
 
-/// With the greatest count 1: Tail is raised once, to the node of the first push, and stays there at the second one, whose
-/// node stands behind it.
-const BEHIND_TAIL: [(Told, u64); 3] = [
-    (Told::Push(1, Ok(())), 1),
-    (Told::Push(2, Ok(())), 2),
-    (Told::Pop(Ok(Some((1, 1)))), 1),
-];
+/// A queue that is looked at.
+trait Looked: Made {
+    /// What a seat sees of it.
+    fn look(&self, seat: &mut Self::Seat) -> Seen;
+}
 
-// A seat makes these calls, and sees what is said after each.
-fn finds_so<A: Algorithm<24>>(
-    rt: &impl Abort,
-    queue: &ArenaQueue<A>,
-    mut seats: Vec<Seat>,
-) -> Result<(), Fail>
-    requires { All (IsQueueSeat queue.now) seats.items }
-{
-    let mut seat = last(queue, &mut seats)?;
-    for (call, _, found) in &SEEN {
-        goes(rt, queue, &mut seat, &[*call]);
-        same(rt, queue.emptiness(&mut seat), *found, "");
+// What `emptiness` of an `ArenaQueue` tells, as that of a ring does.
+fn as_ring(found: Emptiness) -> RingEmptiness {
+    match found {
+        Emptiness::Empty => RingEmptiness::Empty,
+        Emptiness::Holds => RingEmptiness::Holds,
+        Emptiness::ShutEmpty => RingEmptiness::ShutEmpty,
+        Emptiness::Moved => RingEmptiness::Moved,
+    }
+}
+
+impl Looked for Numbers<TwoLockQueue> {
+    // It doesn't tell how long it is.
+    fn look(&self, seat: &mut Self::Seat) -> Seen {
+        (as_ring(self.queue().emptiness(seat)), None)
+    }
+}
+
+impl Looked for Numbers<MsQueue> {
+    fn look(&self, seat: &mut Self::Seat) -> Seen {
+        let found = as_ring(self.queue().emptiness(seat));
+        let len = self.queue().len(seat);
+        (found, Some((len.least, len.most)))
+    }
+}
+
+impl Looked for Numbers<RingQueue> {
+    fn look(&self, seat: &mut Self::Seat) -> Seen {
+        let found = self.queue().emptiness(seat);
+        let len = self.queue().len(seat);
+        (found, Some((len.least, len.most)))
+    }
+}
+
+impl Looked for RingValues<u64> {
+    fn look(&self, seat: &mut Self::Seat) -> Seen {
+        let found = self.emptiness(seat);
+        let len = self.len(seat);
+        (found, Some((len.least, len.most)))
+    }
+}
+
+// A seat makes a call, and both see this then.
+fn is_seen<C: Looked, R: AllocGlobal + Abort>(
+    rt: &R,
+    queue: &C,
+    seats: &mut [C::Seat],
+    call: (usize, Told),
+    (found, length): (RingEmptiness, u64),
+) -> Result<(), Fail> {
+    go(rt, queue, seats, &[call])?;
+    for seat in seats {
+        let seen = queue.look(seat);
+        let bounds = seen.1.map(|_| (length, length));
+        same(rt, seen, (found, bounds), call);
     }
     Ok(())
 }
 
-// A seat sees this length, as both bounds.
-fn is_so_long(rt: &impl Abort, queue: &MsQueue, seat: &mut Seat, length: u64)
-    requires { IsQueueSeat queue.now seat.old }
-    ensures { IsQueueSeat queue.now seat.new }
-{
-    let len = queue.len(seat);
-    same(rt, (len.least, len.most), (length, length), "");
+fn tells<C: Looked, R: AllocGlobal + Abort>(rt: &R) -> Result<(), Fail> {
+    let (none, some, end) = (
+        RingEmptiness::Empty,
+        RingEmptiness::Holds,
+        RingEmptiness::ShutEmpty,
+    );
+    let (queue, mut seats) = C::made(rt.alloc(), 8, AMPLE, &[Role::Both; 2])?;
+    let seats = &mut seats[..];
+    is_seen(rt, &queue, seats, (2, Empty), (none, 0))?;
+    is_seen(rt, &queue, seats, (1, Push(1)), (some, 1))?;
+    is_seen(rt, &queue, seats, (2, Push(2)), (some, 2))?;
+    is_seen(rt, &queue, seats, (1, Pop(1, 1)), (some, 1))?;
+    is_seen(rt, &queue, seats, (1, Pop(2, 2)), (none, 0))?;
+    for number in 1..=7 {
+        is_seen(rt, &queue, seats, (1, Push(number)), (some, number))?;
+    }
+    is_seen(rt, &queue, seats, (2, Pop(1, 1)), (some, 6))?;
+    is_seen(rt, &queue, seats, (2, Shut), (some, 6))?;
+    is_seen(rt, &queue, seats, (1, Back(8, Closed)), (some, 6))?;
+    for number in 2..=6 {
+        is_seen(rt, &queue, seats, (2, Pop(1, number)), (some, 7 - number))?;
+    }
+    is_seen(rt, &queue, seats, (2, Pop(1, 7)), (end, 0))?;
+    is_seen(rt, &queue, seats, (1, Back(8, Closed)), (end, 0))
 }
 
-/// A seat sees whether its queue is empty, and whether it is then shut.
+/// A seat that nobody disturbs sees whether its queue is empty, and whether it is then shut; and its length,
+/// unless it is a two-lock queue. A push behind the shut claims no place, and a look takes no value.
 #[test]
-fn a_seat_sees_whether_its_queue_is_empty(rt: HostRuntime) -> Result<(), Fail> {
-    let (queue, seats) = TwoLockQueue::new(rt.alloc(), 4, AMPLE_COUNT, &[Role::Both])?;
-    finds_so(&rt, &queue, seats)?;
-    let (queue, seats) = MsQueue::new(rt.alloc(), 4, AMPLE_COUNT, &[Role::Both])?;
-    finds_so(&rt, &queue, seats)
+fn a_look_tells_what_is_there(rt: HostRuntime) -> Result<(), Fail> {
+    tells::<Numbers<TwoLockQueue>, _>(&rt)?;
+    tells::<Numbers<MsQueue>, _>(&rt)?;
+    tells::<Numbers<RingQueue>, _>(&rt)?;
+    tells::<RingValues<u64>, _>(&rt)
 }
 
-/// A seat that nobody disturbs sees the length of its queue, also where Tail is behind.
+/// With the greatest count 1 Tail is raised once, to the node of the first push, and stays there at the
+/// second one, whose node stands behind it: a seat sees both.
 #[test]
-fn a_seat_sees_how_long_its_queue_is(rt: HostRuntime) -> Result<(), Fail> {
-    let (queue, mut seats) = MsQueue::new(rt.alloc(), 4, AMPLE_COUNT, &[Role::Both])?;
-    let mut seat = last(&queue, &mut seats)?;
-    is_so_long(&rt, &queue, &mut seat, 0);
-    for (call, length, _) in &SEEN {
-        goes(&rt, &queue, &mut seat, &[*call]);
-        is_so_long(&rt, &queue, &mut seat, *length);
+fn a_look_goes_on_behind_tail(rt: HostRuntime) -> Result<(), Fail> {
+    let (queue, mut seats) = Numbers::<MsQueue>::made(rt.alloc(), 3, 1, &[Role::Both])?;
+    let some = RingEmptiness::Holds;
+    is_seen(&rt, &queue, &mut seats, (1, Push(1)), (some, 1))?;
+    is_seen(&rt, &queue, &mut seats, (1, Push(2)), (some, 2))?;
+    is_seen(&rt, &queue, &mut seats, (1, Pop(1, 1)), (some, 1))
+}
+
+/// A ring of values tells how many pushes are left: 16 places of 116 are its first lap. A push behind the
+/// shut takes none.
+#[test]
+fn a_look_tells_how_many_pushes_are_left(rt: HostRuntime) -> Result<(), Fail> {
+    let (queue, mut seats) = RingValues::<u64>::made(rt.alloc(), 8, 116, &[Role::Both; 2])?;
+    same(&rt, queue.left(&mut seats[0]), 100, "a new one");
+    for number in 0..7 {
+        go(&rt, &queue, &mut seats, &[(1, Push(number))])?;
     }
-    let (queue, mut seats) = MsQueue::new(rt.alloc(), 4, 1, &[Role::Both])?;
-    let mut seat = last(&queue, &mut seats)?;
-    for (call, length) in &BEHIND_TAIL {
-        goes(&rt, &queue, &mut seat, &[*call]);
-        is_so_long(&rt, &queue, &mut seat, *length);
-    }
+    same(&rt, queue.left(&mut seats[1]), 93, "seven pushes");
+    go(
+        &rt,
+        &queue,
+        &mut seats,
+        &[(2, Pop(1, 0)), (2, Shut), (1, Back(7, Closed))],
+    )?;
+    same(
+        &rt,
+        (queue.left(&mut seats[0]), queue.left(&mut seats[1])),
+        (93, 93),
+        "shut",
+    );
     Ok(())
 }

@@ -1,349 +1,270 @@
-//! Runs of any queue: what its calls answer, and what it leaves.
-ghost use Rattle.std.specs.Prelude.{IfOk};
-ghost use Rattle.std.specs.List.{All};
-ghost use Rattle.history.specs.Ends.{AsksAny};
-
-use super::calls::{parts, pop, push, shut};
+//! Runs of one thread that each queue makes alike, by one seat and by several.
+use super::calls::Told::{Back, Empty, NoPop, NoShut, Pop, Push, Shut};
+use super::calls::{Told, go};
 use super::comparisons::same;
-use super::threads::{MOST, Run, met};
-use arena_queue::{Algorithm, ArenaQueueOf};
-use history::{Close, Fifo, Refusal};
-use std::alloc::Global;
+use super::queues::{AMPLE, Left, Made};
+use super::values::{Numbered, Row, Value};
+use carriers::Numbers;
+use history::Refusal::{self, BadSize, Closed, NoNode};
+use node_arena::Role;
+use nonblocking::{MsQueue, MsQueueOf};
+use ring_queue::RingQueue;
+use ring_values::RingValues;
 use std::process::Abort;
-use std::sync::Wait;
 use std::test::Fail;
-use std::thread::Threads;
-
-/// The greatest count that a queue can have.
-pub const GREATEST_COUNT: u64 = 1_099_511_627_775;
-
-/// A greatest count that no short run gets near.
-pub const AMPLE_COUNT: u64 = 100;
+use two_lock::{TwoLockQueue, TwoLockQueueOf};
+use value_queue::{MsValueQueue, TwoLockValueQueue};
 
 /// How often one seat pushes and pops alone.
-pub const ROUNDS: u64 = 10_000;
+const ROUNDS: u64 = 10_000;
 
-/// A greatest count that so many rounds don't reach, on few nodes.
-pub const ROUNDS_COUNT: u64 = 100_000;
+/// With room for two values: a third one comes back, and so does each behind the shut.
+const FULL: [(usize, Told); 11] = [
+    (1, Push(1)),
+    (1, Push(0)),
+    (1, Back(3, NoNode)),
+    (1, Pop(1, 1)),
+    (1, Push(4)),
+    (1, Pop(1, 0)),
+    (1, Pop(1, 4)),
+    (1, Empty),
+    (1, Shut),
+    (1, Back(5, Closed)),
+    (1, NoPop(Closed)),
+];
 
-/// A call, with what it answers.
-#[derive(Clone, Copy, Debug, PartialEq, Eq)]
-pub enum Told {
-    Push(u64, Result<(), Refusal>),
-    Pop(Result<Option<(u16, u64)>, Refusal>),
-    Shut(Result<(), Refusal>),
+/// Seats 1 and 2 push, and seat 3 pops: no push and no shut follows the shut, all values are popped, and then
+/// it is shut and empty.
+const SHUT: [(usize, Told); 17] = [
+    (3, Empty),
+    (1, Push(7)),
+    (1, Push(8)),
+    (2, Push(9)),
+    (1, Shut),
+    (2, NoShut(Closed)),
+    (1, NoShut(Closed)),
+    (1, Back(1, Closed)),
+    (1, Back(2, Closed)),
+    (2, Back(3, Closed)),
+    (3, Pop(1, 7)),
+    (3, Pop(1, 8)),
+    (3, Pop(2, 9)),
+    (3, NoPop(Closed)),
+    (3, NoPop(Closed)),
+    (1, NoShut(Closed)),
+    (2, Back(4, Closed)),
+];
+
+/// With room for one value: a push that finds no node is refused so, shut or not.
+const FULL_AND_SHUT: [(usize, Told); 5] = [
+    (1, Push(1)),
+    (1, Shut),
+    (1, Back(2, NoNode)),
+    (1, Pop(1, 1)),
+    (1, Back(2, Closed)),
+];
+
+// Runs a story over each kind of queue.
+macro_rules! over_each {
+    ($story:ident, $rt:expr) => {{
+        $story::<Numbers<TwoLockQueue>, _>($rt)?;
+        $story::<Numbers<MsQueue>, _>($rt)?;
+        $story::<Numbers<RingQueue>, _>($rt)?;
+        $story::<TwoLockValueQueue<String>, _>($rt)?;
+        $story::<TwoLockValueQueue<()>, _>($rt)?;
+        $story::<TwoLockValueQueue<Row>, _>($rt)?;
+        $story::<MsValueQueue<String>, _>($rt)?;
+        $story::<MsValueQueue<()>, _>($rt)?;
+        $story::<MsValueQueue<Row>, _>($rt)?;
+        $story::<RingValues<String>, _>($rt)?;
+        $story::<RingValues<()>, _>($rt)?;
+        $story::<RingValues<Row>, _>($rt)
+    }};
 }
 
-const CLOSED: Refusal = Refusal::Closed;
-
-/// On two nodes, of which one is always in the queue: room for one value.
-pub const ROOM_FOR_ONE: [Told; 2] = [Told::Push(1, Ok(())), Told::Push(2, Err(Refusal::NoNode))];
-
-/// Two pushes, and a pop of the first value.
-const TWO_PUSHED_ONE_POPPED: [Told; 3] = [
-    Told::Push(1, Ok(())),
-    Told::Push(2, Ok(())),
-    Told::Pop(Ok(Some((1, 1)))),
-];
-
-/// A queue with two values is shut: no push and no shut follows, both values are popped, and then it is shut and empty.
-const SHUT_BEHIND_TWO: [Told; 9] = [
-    Told::Push(1, Ok(())),
-    Told::Push(2, Ok(())),
-    Told::Shut(Ok(())),
-    Told::Push(3, Err(CLOSED)),
-    Told::Shut(Err(CLOSED)),
-    Told::Pop(Ok(Some((1, 1)))),
-    Told::Pop(Ok(Some((1, 2)))),
-    Told::Pop(Err(CLOSED)),
-    Told::Pop(Err(CLOSED)),
-];
-
-/// What a seat that gives is told, on three nodes.
-pub const GIVES_AND_SHUTS: [Told; 4] = [
-    Told::Push(5, Ok(())),
-    Told::Shut(Ok(())),
-    Told::Push(6, Err(CLOSED)),
-    Told::Shut(Err(CLOSED)),
-];
-
-/// What one that takes is told then.
-pub const TAKES_TO_THE_END: [Told; 2] = [Told::Pop(Ok(Some((1, 5)))), Told::Pop(Err(CLOSED))];
-
-/// On two nodes a push that finds no node is refused so, shut or not.
-const FULL_AND_SHUT: [Told; 5] = [
-    Told::Push(1, Ok(())),
-    Told::Shut(Ok(())),
-    Told::Push(2, Err(Refusal::NoNode)),
-    Told::Pop(Ok(Some((1, 1)))),
-    Told::Push(2, Err(CLOSED)),
-];
-
-/// What a closed queue leaves: how many values were taken, the next two of those left, whether it is whole, and whether it
-/// was shut.
-#[derive(Clone, Copy, Debug, PartialEq, Eq)]
-pub struct Left {
-    pub taken: u64,
-    pub first: Option<(u16, u64)>,
-    pub second: Option<(u16, u64)>,
-    pub whole: bool,
-    pub was_shut: bool,
+fn is_full<C: Made, R: AllocGlobal + Abort>(rt: &R) -> Result<(), Fail> {
+    let (queue, mut seats) = C::made(rt.alloc(), 2, AMPLE, &[Role::Both])?;
+    go(rt, &queue, &mut seats, &FULL)
 }
 
-/// The last of these seats, taken from them.
-pub fn last<Q: Fifo>(queue: &Q, seats: &mut Vec<Q::Seat>) -> Result<Q::Seat, Refusal>
-    requires { All (Q.is_seat queue.now) seats.old.items }
-    ensures { IfOk result (λ s. Q.is_seat queue.now s × All (Q.is_seat queue.now) seats.new.items) }
-{
-    let _ = queue;
-    match seats.pop() {
-        Some(seat) => Ok(seat),
-        None => Err(Refusal::BadSize),
-    }
+/// A queue takes as many values as it has room for, numbers, texts, of which one is empty, values of no size
+/// and large ones; each comes out as it went in, or comes back.
+#[test]
+fn a_full_queue_refuses(rt: HostRuntime) -> Result<(), Fail> {
+    over_each!(is_full, &rt)
 }
 
-/// Makes these calls by one seat; each answers as it says.
-pub fn goes<Q: Fifo>(rt: &impl Abort, queue: &Q, seat: &mut Q::Seat, calls: &[Told])
-    requires { Q.is_seat queue.now seat.old }
-    ensures { Q.is_seat queue.now seat.new }
-{
-    for call in calls {
-        let found = match *call {
-            Told::Push(body, _) => Told::Push(body, push(queue, seat, body)),
-            Told::Pop(_) => Told::Pop(pop(queue, seat)),
-            Told::Shut(_) => Told::Shut(shut(queue, seat)),
+fn is_shut<C: Made, R: AllocGlobal + Abort>(rt: &R) -> Result<(), Fail> {
+    let roles = [Role::Giver, Role::Giver, Role::Taker];
+    let (queue, mut seats) = C::made(rt.alloc(), 8, AMPLE, &roles)?;
+    go(rt, &queue, &mut seats, &SHUT)?;
+    let wanted = Left {
+        taken: 3,
+        first: [None; 4],
+        whole: true,
+        was_shut: true,
+    };
+    same(rt, queue.leaves(rt.alloc(), seats)?, wanted, "");
+    Ok(())
+}
+
+/// Each reply before and behind a shut: of a seat that shut it, of another one that pushes, and of one that
+/// pops; and what is left.
+#[test]
+fn a_shut_stops_pushes_and_then_pops(rt: HostRuntime) -> Result<(), Fail> {
+    over_each!(is_shut, &rt)
+}
+
+fn has_roles<C: Made, R: AllocGlobal + Abort>(rt: &R) -> Result<(), Fail> {
+    let (queue, mut seats) = C::made(rt.alloc(), 8, AMPLE, &[Role::Giver, Role::Taker])?;
+    let calls = [
+        (2, Back(1, BadSize)),
+        (1, NoPop(BadSize)),
+        (2, NoShut(BadSize)),
+    ];
+    go(rt, &queue, &mut seats, &calls)
+}
+
+/// A seat that pops alone pushes nothing, and one that pushes alone pops nothing.
+#[test]
+fn seats_call_by_their_roles(rt: HostRuntime) -> Result<(), Fail> {
+    over_each!(has_roles, &rt)
+}
+
+// Some values go through, and three are left, in a ring across its end. Then the second seat, which pushes
+// and pops too, shuts it or not.
+fn leaves<C: Made, R: AllocGlobal + Abort>(rt: &R) -> Result<(), Fail> {
+    let alloc = rt.alloc();
+    let seen = |number| -> Result<u64, Refusal> { Ok(C::Item::made(alloc, number)?.number()) };
+    for is_shut in [false, true] {
+        let (queue, mut seats) = C::made(rt.alloc(), 4, AMPLE, &[Role::Both; 2])?;
+        for number in 0..6 {
+            let calls = [(1, Push(number)), (2, Pop(1, number))];
+            go(rt, &queue, &mut seats, &calls)?;
+        }
+        go(
+            rt,
+            &queue,
+            &mut seats,
+            &[(1, Push(6)), (2, Push(0)), (1, Push(8))],
+        )?;
+        if is_shut {
+            go(rt, &queue, &mut seats, &[(2, Shut), (1, Back(9, Closed))])?;
+        }
+        let first = [
+            Some((1, seen(6)?)),
+            Some((2, seen(0)?)),
+            Some((1, seen(8)?)),
+            None,
+        ];
+        let wanted = Left {
+            taken: 6,
+            first,
+            whole: true,
+            was_shut: is_shut,
         };
-        same(rt, found, *call, "");
+        same(rt, queue.leaves(rt.alloc(), seats)?, wanted, is_shut);
     }
-}
-
-// Ends a queue with this seat alone handed in.
-fn closed<Q: Close + Drop>(alloc: Global, queue: Q, seat: Q::Seat) -> Result<Left, Refusal>
-    requires seat { Q.is_seat queue seat }
-    requires asked { AsksAny Q.asks queue }
-{
-    let mut seats = Vec::new(alloc);
-    let Ok(()) = seats.push(seat) else {
-        return Err(Refusal::Memory);
-    };
-    let (mut rest, _end) = queue.close(alloc, seats)?;
-    Ok(Left {
-        taken: rest.taken(),
-        first: rest.next().map(parts),
-        second: rest.next().map(parts),
-        whole: rest.whole(),
-        was_shut: rest.was_shut(),
-    })
-}
-
-/// Ends a queue with this seat alone handed in; it leaves what is said.
-pub fn leaves<Q: Close + Drop>(
-    rt: &impl Abort,
-    alloc: Global,
-    queue: Q,
-    seat: Q::Seat,
-    wanted: Left,
-) -> Result<(), Fail>
-    requires seat { Q.is_seat queue seat }
-    requires asked { AsksAny Q.asks queue }
-{
-    let found = closed(alloc, queue, seat)?;
-    same(rt, found, wanted, "");
     Ok(())
 }
 
-/// The first value pushed comes first, and the second one is left. The queue has four nodes and one seat, which may push
-/// and pop.
-pub fn values_come_in_their_order<Q: Close + Drop>(
-    rt: &impl Abort,
-    alloc: Global,
-    queue: Q,
-    mut seats: Vec<Q::Seat>,
-) -> Result<(), Fail>
-    requires seats { All (Q.is_seat queue) seats.items }
-    requires asked { AsksAny Q.asks queue }
-{
-    let mut seat = last(&queue, &mut seats)?;
-    goes(rt, &queue, &mut seat, &TWO_PUSHED_ONE_POPPED);
-    let wanted = Left {
-        taken: 1,
-        first: Some((1, 2)),
-        second: None,
-        whole: true,
-        was_shut: false,
-    };
-    leaves(rt, alloc, queue, seat, wanted)
+/// What is left of a closed queue comes in order, with who pushed each; a push behind the shut leaves
+/// nothing.
+#[test]
+fn what_is_left_comes_in_order(rt: HostRuntime) -> Result<(), Fail> {
+    over_each!(leaves, &rt)
 }
 
-/// Seat 1 pushes and seat 2 makes no call: the rest is whole where seat 1 is handed in, and not where seat 2 is. The queue
-/// has these two seats.
-pub fn a_rest_is_whole_by_its_pusher<Q: Close + Drop>(
-    rt: &impl Abort,
-    alloc: Global,
-    queue: Q,
-    mut seats: Vec<Q::Seat>,
-    by_pusher: bool,
-) -> Result<(), Fail>
-    requires seats { All (Q.is_seat queue) seats.items }
-    requires asked { AsksAny Q.asks queue }
-{
-    let second = last(&queue, &mut seats)?;
-    let mut first = last(&queue, &mut seats)?;
-    goes(rt, &queue, &mut first, &[Told::Push(1, Ok(()))]);
-    let handed = if by_pusher { first } else { second };
+// Seat 1 makes this call and seat 2 none; one of them is handed in.
+fn is_whole_by<C: Made, R: AllocGlobal + Abort>(
+    rt: &R,
+    call: Told,
+    by_first: bool,
+) -> Result<(), Fail> {
+    let (queue, mut seats) = C::made(rt.alloc(), 3, AMPLE, &[Role::Both, Role::Both])?;
+    go(rt, &queue, &mut seats, &[(1, call)])?;
+    let second = seats.pop();
+    let seats = if by_first {
+        seats
+    } else {
+        vec![in rt.alloc(); second.unwrap()]?
+    };
+    let pushed = if call == Push(1) { Some((1, 1)) } else { None };
     let wanted = Left {
         taken: 0,
-        first: Some((1, 1)),
-        second: None,
-        whole: by_pusher,
-        was_shut: false,
+        first: [pushed, None, None, None],
+        whole: by_first,
+        was_shut: call == Shut,
     };
-    leaves(rt, alloc, queue, handed, wanted)
-}
-
-/// A queue that is shut behind two values answers so: no push and no shut follows, both values are popped, and then it is
-/// shut and empty. The queue has four nodes and one seat, which may push and pop.
-pub fn a_shut_queue_is_emptied<Q: Close + Drop>(
-    rt: &impl Abort,
-    alloc: Global,
-    queue: Q,
-    mut seats: Vec<Q::Seat>,
-) -> Result<(), Fail>
-    requires seats { All (Q.is_seat queue) seats.items }
-    requires asked { AsksAny Q.asks queue }
-{
-    let mut seat = last(&queue, &mut seats)?;
-    goes(rt, &queue, &mut seat, &SHUT_BEHIND_TWO);
-    let wanted = Left {
-        taken: 2,
-        first: None,
-        second: None,
-        whole: true,
-        was_shut: true,
-    };
-    leaves(rt, alloc, queue, seat, wanted)
-}
-
-/// A push that finds no node is refused so also where the queue is shut; once a node is free, it is refused Closed. The
-/// queue has two nodes and one seat, which may push and pop.
-pub fn a_full_queue_is_shut<Q: Fifo>(
-    rt: &impl Abort,
-    queue: &Q,
-    mut seats: Vec<Q::Seat>,
-) -> Result<(), Fail>
-    requires { All (Q.is_seat queue.now) seats.items }
-{
-    let mut seat = last(queue, &mut seats)?;
-    goes(rt, queue, &mut seat, &FULL_AND_SHUT);
+    same(
+        rt,
+        queue.leaves(rt.alloc(), seats)?,
+        wanted,
+        (call, by_first),
+    );
     Ok(())
 }
 
-/// Seat 1 shuts the queue and seat 2 makes no call: the rest is whole where seat 1 is handed in, and not where seat 2 is.
-/// The queue has these two seats.
-pub fn a_rest_is_whole_by_who_shut<Q: Close + Drop>(
-    rt: &impl Abort,
-    alloc: Global,
-    queue: Q,
-    mut seats: Vec<Q::Seat>,
-    by_who_shut: bool,
-) -> Result<(), Fail>
-    requires seats { All (Q.is_seat queue) seats.items }
-    requires asked { AsksAny Q.asks queue }
-{
-    let second = last(&queue, &mut seats)?;
-    let mut first = last(&queue, &mut seats)?;
-    goes(rt, &queue, &mut first, &[Told::Shut(Ok(()))]);
-    let handed = if by_who_shut { first } else { second };
-    let wanted = Left {
-        taken: 0,
-        first: None,
-        second: None,
-        whole: by_who_shut,
-        was_shut: true,
-    };
-    leaves(rt, alloc, queue, handed, wanted)
-}
-
-/// The words of an arena of three nodes.
-pub fn words_of<A: Algorithm<B>, const B: u32>(queue: &ArenaQueueOf<A, B>) -> [Option<u64>; 12] {
-    let mut words = [None; 12];
-    for index in 0..12 {
-        words[index] = queue.peek(index);
+fn is_whole<C: Made, R: AllocGlobal + Abort>(rt: &R) -> Result<(), Fail> {
+    for call in [Push(1), Shut] {
+        is_whole_by::<C, R>(rt, call, true)?;
+        is_whole_by::<C, R>(rt, call, false)?;
     }
-    words
+    Ok(())
 }
 
-/// One seat alone is never Busy, and pops what it just pushed.
-pub fn one_seat_pops_what_it_pushed<Q: Close + Drop>(
-    rt: &impl Abort,
-    alloc: Global,
-    queue: Q,
-    mut seats: Vec<Q::Seat>,
-) -> Result<(), Fail>
-    requires seats { All (Q.is_seat queue) seats.items }
-    requires asked { AsksAny Q.asks queue }
-{
-    let mut seat = last(&queue, &mut seats)?;
+/// Seat 1 pushes, or shuts the queue, and seat 2 makes no call: the rest is whole where seat 1 is handed in,
+/// and not where seat 2 is.
+#[test]
+fn whole_where_who_did_it_is_handed_in(rt: HostRuntime) -> Result<(), Fail> {
+    is_whole::<Numbers<TwoLockQueue>, _>(&rt)?;
+    is_whole::<Numbers<MsQueue>, _>(&rt)?;
+    is_whole::<MsValueQueue<String>, _>(&rt)?;
+    is_whole::<TwoLockValueQueue<String>, _>(&rt)
+}
+
+fn lacks_a_node<C: Made, R: AllocGlobal + Abort>(rt: &R) -> Result<(), Fail> {
+    let (queue, mut seats) = C::made(rt.alloc(), 1, AMPLE, &[Role::Both])?;
+    go(rt, &queue, &mut seats, &FULL_AND_SHUT)
+}
+
+/// On a shut queue a push that gets no node is refused so; once a node is free, it is refused Closed.
+#[test]
+fn no_node_on_a_shut_queue(rt: HostRuntime) -> Result<(), Fail> {
+    lacks_a_node::<Numbers<TwoLockQueue>, _>(&rt)?;
+    lacks_a_node::<Numbers<MsQueue>, _>(&rt)
+}
+
+fn is_alone<C: Made, R: AllocGlobal + Abort>(rt: &R, room: u32) -> Result<(), Fail> {
+    let (queue, mut seats) = C::made(rt.alloc(), room, AMPLE, &[Role::Both])?;
     for number in 1..=ROUNDS {
-        let calls = [Told::Push(number, Ok(())), Told::Pop(Ok(Some((1, number))))];
-        goes(rt, &queue, &mut seat, &calls);
+        go(
+            rt,
+            &queue,
+            &mut seats,
+            &[(1, Push(number)), (1, Pop(1, number))],
+        )?;
     }
     let wanted = Left {
         taken: ROUNDS,
-        first: None,
-        second: None,
+        first: [None; 4],
         whole: true,
         was_shut: false,
     };
-    leaves(rt, alloc, queue, seat, wanted)
-}
-
-/// Two threads push and pop: no pop finds the queue empty, each value is popped once, and the bodies of each pusher rise.
-/// The rest is whole where both seats are handed in, and not where one alone is.
-pub fn two_threads_pop_each_value_once<R: Threads + Wait + Sync + Abort, Q: Close + Sync + Drop>(
-    rt: &R,
-    alloc: Global,
-    queue: Q,
-    seats: Vec<Q::Seat>,
-    with_both: bool,
-) -> Result<(), Fail>
-    requires seats { All (Q.is_seat queue) seats.items }
-    requires asked { AsksAny Q.asks queue }
-{
-    let run = met(rt, alloc, queue, seats, with_both)?;
-    let wanted = Run {
-        in_order: true,
-        each_once: true,
-        taken: 2 * MOST,
-        empty: true,
-        whole: with_both,
-    };
-    same(rt, run, wanted, "");
+    same(rt, queue.leaves(rt.alloc(), seats)?, wanted, "");
     Ok(())
 }
 
-/// What a queue leaves that is closed with one value, or why it wasn't made or closed.
-pub fn closed_with_one<Q: Close + Drop>(
-    alloc: Global,
-    queue: Q,
-    mut seats: Vec<Q::Seat>,
-) -> Result<Left, Refusal>
-    requires seats { All (Q.is_seat queue) seats.items }
-    requires asked { AsksAny Q.asks queue }
-{
-    let mut seat = last(&queue, &mut seats)?;
-    push(&queue, &mut seat, 7)?;
-    closed(alloc, queue, seat)
-}
-
-/// It leaves one value, of seat 1.
-pub fn left_one(rt: &impl Abort, found: Result<Left, Refusal>) {
-    let wanted = Left {
-        taken: 0,
-        first: Some((1, 7)),
-        second: None,
-        whole: true,
-        was_shut: false,
-    };
-    same(rt, found, Ok(wanted), "");
+/// One seat alone is never Busy, and pops what it just pushed: ten thousand times over, so that each node and
+/// each slot is used again.
+#[test]
+fn one_seat_alone_is_never_busy(rt: HostRuntime) -> Result<(), Fail> {
+    is_alone::<Numbers<TwoLockQueueOf<16>>, _>(&rt, 2)?;
+    is_alone::<Numbers<TwoLockQueueOf<24>>, _>(&rt, 2)?;
+    is_alone::<Numbers<TwoLockQueueOf<32>>, _>(&rt, 2)?;
+    is_alone::<Numbers<MsQueueOf<16>>, _>(&rt, 2)?;
+    is_alone::<Numbers<MsQueueOf<24>>, _>(&rt, 2)?;
+    is_alone::<Numbers<MsQueueOf<32>>, _>(&rt, 2)?;
+    is_alone::<MsValueQueue<u64>, _>(&rt, 1)?;
+    is_alone::<RingValues<String>, _>(&rt, 2)
 }

@@ -1,6 +1,7 @@
-//! Calls that sleep until another thread wakes them, over both queues.
+//! Calls that sleep until another thread wakes them, over queues of numbers and of values.
 mod clones;
-mod common;
-mod handles;
-mod random;
+mod drawn;
+mod ends;
+pub mod sides;
+pub mod stories;
 mod wake_ups;

@@ -2,4 +2,3 @@
 mod calls;
 mod drops;
 mod leftovers;
-mod queues;

@@ -1,10 +1,4 @@
 //! Leased seats: that a dropped lease gives its seat back, and that a pool with a lease isn't closed.
-ghost use Rattle.std.specs.Prelude.{◌≡◌, length, IfOk};
-ghost use Rattle.history.specs.Ends.{IsAskedOf};
-ghost use Rattle.ring_queue.specs.Queues.{permits_in};
-ghost use Rattle.ring_queue.specs.Seats.{known_of};
-ghost use Rattle.seat_pool.specs.Pools.{store_of, queue_in, numbers_of};
-
 use any_queue::PickedQueue;
 use history::{Body, Close, Refusal, Taken};
 use line_table::Kind;
@@ -23,10 +17,7 @@ fn pool_of(alloc: Global, kind: Kind) -> Result<SeatPool<PickedQueue>, Refusal> 
 }
 
 // The same over a ring.
-fn ring_pool_of(alloc: Global) -> Result<SeatPool<RingQueue>, Refusal>
-    ensures { IfOk result (λ pool. length (numbers_of known_of (store_of pool))
-        ≡ length (permits_in (queue_in (store_of pool)))) }
-{
+fn ring_pool_of(alloc: Global) -> Result<SeatPool<RingQueue>, Refusal> {
     let roles = [RingRole::Giver, RingRole::Taker];
     let (queue, seats) = RingQueue::new(alloc, 8, 1 << 40, &roles)?;
     SeatPool::new(alloc, queue, seats)
@@ -54,9 +45,11 @@ fn body_of(number: u64) -> Result<Body, Refusal> {
 // refused behind its shut; what is left in the pool once both are given back.
 type Told = (usize, Option<Taken>, Option<Refusal>, Option<Taken>);
 
-fn told<R: Wait, Q: Close + Drop>(rt: &R, alloc: Global, pool: SeatPool<Q>) -> Result<Told, Refusal>
-    requires { IsAskedOf Q.asks (queue_in (store_of pool)) (numbers_of Q.known (store_of pool)) }
-{
+fn told<R: Wait, Q: Close + Drop>(
+    rt: &R,
+    alloc: Global,
+    pool: SeatPool<Q>,
+) -> Result<Told, Refusal> {
     let (Some(mut giver), Some(mut taker)) = (pool.lease(Part::Giver), pool.lease(Part::Taker))
     else {
         return Err(Refusal::Lost);

@@ -1,5 +1,7 @@
 //! A handle whose seat is leased gives further ones, and the queue ends as the last of them is dropped.
-use super::common::{AMPLE_COUNT, EACH, PAUSE, got};
+use super::sides::{AMPLE, Opened, ReceivesInTime};
+use super::stories::{EACH, PAUSE, hands_over, millis};
+use crate::tests::values::Numbered;
 use blocking_queue::BlockingQueue;
 use history::{Body, Fifo, Refusal};
 use node_arena::Role;
@@ -10,8 +12,8 @@ use std::alloc::Global;
 use std::process::Abort;
 use std::sync::{Arc, Wait};
 use std::test::Fail;
-use std::thread::{Threads, join};
-use std::time::{Clock, Duration};
+use std::thread::Threads;
+use std::time::Clock;
 use two_lock::TwoLockQueue;
 
 /// A seat that pushes for each closer, three for senders, and three that pop.
@@ -63,14 +65,18 @@ fn opened<Q: Fifo + Send + Sync + Drop>(
 }
 
 // The body of the next value that this receiver takes; none where none comes in time.
-fn next_body<R: Wait + Clock, Q: Fifo + Drop>(
+fn next_body<R: Wait + Clock, V: ReceivesInTime>(
     rt: &R,
-    receiver: &mut Handle<Q>,
+    receiver: &mut V,
 ) -> Result<Option<u64>, Refusal> {
-    got(receiver.recv_timeout(rt, Duration::from_millis(PAUSE)))
+    Ok(
+        receiver
+            .recv_in(rt, millis(PAUSE))?
+            .map(|(_, value)| value.number()),
+    )
 }
 
-fn ends_by_the_last_clone<R: Abort + Wait + Clock, Q: Fifo + Send + Sync + Drop>(
+fn ends_by_the_last_clone<R: Abort + Wait + Clock, Q: Fifo<Seat: Sync> + Send + Sync + Drop>(
     rt: &R,
     alloc: Global,
     queue: Q,
@@ -128,31 +134,6 @@ fn runs_out_of_seats<R: Abort, Q: Fifo + Send + Sync + Drop>(
     Ok(())
 }
 
-// Sends so many bodies by a handle, and drops it.
-fn sends_and_goes<R: Wait, Q: Fifo + Drop>(rt: &R, mut handle: Handle<Q>) -> u64 {
-    let mut sent = 0u64;
-    for number in 0..EACH {
-        if let Some(body) = Body::new(number) {
-            if handle.send(rt, body).is_ok() {
-                sent = sent.wrapping_add(1);
-            }
-        }
-    }
-    sent
-}
-
-// How many values come by this handle, until the queue is shut and empty.
-fn count_all<R: Wait, Q: Fifo + Drop>(rt: &R, mut handle: Handle<Q>) -> u64 {
-    let mut count = 0u64;
-    for _ in rt.forever() {
-        match handle.recv_or_end(rt) {
-            Ok(Some(_)) => count = count.wrapping_add(1),
-            _ => break,
-        }
-    }
-    count
-}
-
 fn ends_on_threads<
     R: Abort + Threads + Wait + Clock + Sync,
     Q: Fifo<Seat: Sync> + Sync + Send + Drop,
@@ -162,40 +143,34 @@ fn ends_on_threads<
         return Err(Refusal::BadSize.into());
     };
     assert_eq!(rt; (sender.handles(), receiver.handles()), (2, 2));
-    let ((one, two), (first, last)) = join(
-        rt,
-        || join(rt, || count_all(rt, receiver), || count_all(rt, second)),
-        || join(
-            rt,
-            || sends_and_goes(rt, sender),
-            || sends_and_goes(rt, other),
-        ),
-    );
-    assert_eq!(rt; (first, last), (EACH, EACH));
-    assert_eq!(rt; one.wrapping_add(two), 2 * EACH);
-    Ok(())
+    let opened = Opened {
+        senders: (sender, other),
+        receivers: (receiver, second),
+        rest: (),
+    };
+    hands_over(rt, alloc, opened, EACH)
 }
 
 #[test]
 fn the_last_clone_ends_it(rt: HostRuntime) -> Result<(), Fail> {
-    let (queue, seats) = MsQueue::new(rt.alloc(), 16, AMPLE_COUNT, &EIGHT)?;
+    let (queue, seats) = MsQueue::new(rt.alloc(), 16, AMPLE, &EIGHT)?;
     ends_by_the_last_clone(&rt, rt.alloc(), queue, seats)?;
-    let (queue, seats) = TwoLockQueue::new(rt.alloc(), 16, AMPLE_COUNT, &EIGHT)?;
+    let (queue, seats) = TwoLockQueue::new(rt.alloc(), 16, AMPLE, &EIGHT)?;
     ends_by_the_last_clone(&rt, rt.alloc(), queue, seats)
 }
 
 #[test]
 fn there_are_as_many_clones_as_seats(rt: HostRuntime) -> Result<(), Fail> {
-    let (queue, seats) = MsQueue::new(rt.alloc(), 16, AMPLE_COUNT, &EIGHT)?;
+    let (queue, seats) = MsQueue::new(rt.alloc(), 16, AMPLE, &EIGHT)?;
     runs_out_of_seats(&rt, rt.alloc(), queue, seats)?;
-    let (queue, seats) = TwoLockQueue::new(rt.alloc(), 16, AMPLE_COUNT, &EIGHT)?;
+    let (queue, seats) = TwoLockQueue::new(rt.alloc(), 16, AMPLE, &EIGHT)?;
     runs_out_of_seats(&rt, rt.alloc(), queue, seats)
 }
 
 #[test]
 fn clones_in_threads_end_it(rt: HostRuntime) -> Result<(), Fail> {
-    let (queue, seats) = MsQueue::new(rt.alloc(), 16, AMPLE_COUNT, &EIGHT)?;
+    let (queue, seats) = MsQueue::new(rt.alloc(), 16, AMPLE, &EIGHT)?;
     ends_on_threads(&rt, rt.alloc(), queue, seats)?;
-    let (queue, seats) = TwoLockQueue::new(rt.alloc(), 16, AMPLE_COUNT, &EIGHT)?;
+    let (queue, seats) = TwoLockQueue::new(rt.alloc(), 16, AMPLE, &EIGHT)?;
     ends_on_threads(&rt, rt.alloc(), queue, seats)
 }

@@ -1,6 +1,0 @@
-//! Offices of letters, in one thread and in four.
-mod common;
-mod ends;
-mod rests;
-mod rings;
-mod threads;

@@ -1,0 +1,149 @@
+//! Each queue that tests make and close: queues of numbers, as queues of values, and queues of values.
+use super::values::{Numbered, Value};
+use arena_queue::{Algorithm, ArenaQueueOf};
+use carriers::{Carrier, CloseCarrier, Numbers, RestOf};
+use history::{Close, Refusal, Rest};
+use node_arena::Role;
+use ring_queue::{RingQueue, Role as RingRole};
+use ring_values::RingValues;
+use std::alloc::Global;
+use value_queue::QueueOf;
+
+/// A greatest count, or a last place, that no run with this one gets near.
+pub const AMPLE: u64 = 1_000_000;
+
+/// What a closed queue leaves: how many values were taken, the first ones of those left, each with its pusher
+/// and its number, whether it is whole, and whether it was shut.
+#[derive(Clone, Copy, Debug, PartialEq, Eq)]
+pub struct Left {
+    pub taken: u64,
+    pub first: [Option<(u16, u64)>; 4],
+    pub whole: bool,
+    pub was_shut: bool,
+}
+
+/// A queue that is made, and closed.
+pub trait Made: Carrier<Item: Value> + Drop + Sized {
+    /// A queue with room for so many values, if no seat keeps a node; with this greatest count, or last
+    /// place, and a seat for each role.
+    fn made(
+        alloc: Global,
+        room: u32,
+        limit: u64,
+        roles: &[Role],
+    ) -> Result<(Self, Vec<Self::Seat>), Refusal>;
+
+    /// What the queue leaves that is closed with these seats.
+    fn leaves(self, alloc: Global, seats: Vec<Self::Seat>) -> Result<Left, Refusal>;
+}
+
+// What this rest of a queue of numbers has.
+fn left_in(mut rest: Rest) -> Left {
+    let mut first = [None; 4];
+    for place in 0..4 {
+        first[place] = rest.next().map(|taken| (taken.from, taken.body.number()));
+    }
+    Left {
+        taken: rest.taken(),
+        first,
+        whole: rest.whole(),
+        was_shut: rest.was_shut(),
+    }
+}
+
+// The same of a queue of values.
+fn left_of<T: Numbered>(mut rest: RestOf<T>) -> Left {
+    let mut first = [None; 4];
+    for place in 0..4 {
+        first[place] = rest.next().map(|item| (item.from, item.value.number()));
+    }
+    Left {
+        taken: rest.taken(),
+        first,
+        whole: rest.whole(),
+        was_shut: rest.was_shut(),
+    }
+}
+
+impl<A: Algorithm<B>, const B: u32> Made for Numbers<ArenaQueueOf<A, B>> {
+    // One node is always in the queue.
+    fn made(
+        alloc: Global,
+        room: u32,
+        limit: u64,
+        roles: &[Role],
+    ) -> Result<(Self, Vec<Self::Seat>), Refusal> {
+        let (queue, seats) = ArenaQueueOf::<A, B>::new(alloc, room + 1, limit, roles)?;
+        Ok((Numbers::new(queue), seats))
+    }
+
+    fn leaves(self, alloc: Global, seats: Vec<Self::Seat>) -> Result<Left, Refusal> {
+        let (rest, _end) = self.into_queue().close(alloc, seats)?;
+        Ok(left_in(rest))
+    }
+}
+
+impl<T: Value, A: Algorithm<B>, const B: u32> Made for QueueOf<T, A, B> {
+    fn made(
+        alloc: Global,
+        room: u32,
+        limit: u64,
+        roles: &[Role],
+    ) -> Result<(Self, Vec<Self::Seat>), Refusal> {
+        QueueOf::<T, A, B>::new(alloc, room + 1, limit, roles)
+    }
+
+    fn leaves(self, alloc: Global, seats: Vec<Self::Seat>) -> Result<Left, Refusal> {
+        let (rest, _end) = self.close(alloc, seats)?;
+        Ok(left_of(rest))
+    }
+}
+
+/// The same roles, of seats of a ring.
+pub fn ring_roles(alloc: Global, roles: &[Role]) -> Result<Vec<RingRole>, Refusal> {
+    let mut rings = Vec::new(alloc);
+    for role in roles {
+        let role = match role {
+            Role::Giver => RingRole::Giver,
+            Role::Taker => RingRole::Taker,
+            Role::Both => RingRole::Both,
+        };
+        if rings.push(role).is_err() {
+            return Err(Refusal::Memory);
+        }
+    }
+    Ok(rings)
+}
+
+impl Made for Numbers<RingQueue> {
+    fn made(
+        alloc: Global,
+        room: u32,
+        limit: u64,
+        roles: &[Role],
+    ) -> Result<(Self, Vec<Self::Seat>), Refusal> {
+        let (queue, seats) = RingQueue::new(alloc, room, limit, &ring_roles(alloc, roles)?)?;
+        Ok((Numbers::new(queue), seats))
+    }
+
+    fn leaves(self, alloc: Global, seats: Vec<Self::Seat>) -> Result<Left, Refusal> {
+        let (rest, _end) = self.into_queue().close(alloc, seats)?;
+        Ok(left_in(rest))
+    }
+}
+
+impl<T: Value> Made for RingValues<T> {
+    fn made(
+        alloc: Global,
+        room: u32,
+        limit: u64,
+        roles: &[Role],
+    ) -> Result<(Self, Vec<Self::Seat>), Refusal> {
+        RingValues::<T>::new(alloc, room, limit, &ring_roles(alloc, roles)?)
+    }
+
+    fn leaves(self, alloc: Global, seats: Vec<Self::Seat>) -> Result<Left, Refusal> {
+        let (rest, _end) = self.close(alloc, seats)?;
+        Ok(left_of(rest))
+    }
+}
