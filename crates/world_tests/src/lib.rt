@@ -1,4 +1,4 @@
-//! Tests of worlds: worked runs as calls, with their histories and words, and what the calls refuse.
+//! Tests of worlds: worked runs with a shut, the words, where nodes are, and what the calls answer.
 #![tactic(auto)]
 
 #[cfg(test)]

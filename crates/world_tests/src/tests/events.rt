@@ -30,8 +30,6 @@ pub enum Event {
     Steps(u16, u32),
     /// An actor gives up.
     Give(u16),
-    /// A move is refused.
-    Refused(Act, Refusal),
     /// A move is made by `step_in`, which tells this.
     Told(Act, Telling),
     /// What Free, Head and Tail name.

@@ -18,16 +18,10 @@ pub enum Answer {
     Refused(Refusal),
 }
 
-/// An operation of an actor, with the number of its first step.
+/// An operation of an actor that is complete: its first and its last number, and the one at which it took
+/// effect; and what it answered.
 #[derive(Clone, Copy, Debug)]
-pub enum Shown {
-    /// It took no effect yet.
-    Started(u16, Call, u64),
-    /// It took effect at this number, and isn't complete.
-    Effective(u16, Call, u64, u64),
-    /// It is complete: its first and its last number, and the one at which it took effect.
-    Complete(u16, Call, (u64, u64, u64), Answer),
-}
+pub struct Complete(pub u16, pub Call, pub (u64, u64, u64), pub Answer);
 
 /// A word of a world.
 #[derive(Clone, Copy, Debug)]
@@ -92,23 +86,14 @@ pub fn reply(answer: Answer) -> Reply {
 }
 
 /// The operation as it stands in a history.
-pub fn stamped(shown: Shown) -> Stamped {
-    let (actor, call, first) = match shown {
-        Shown::Started(actor, call, first) => (actor, call, first),
-        Shown::Effective(actor, call, first, _) => (actor, call, first),
-        Shown::Complete(actor, call, (first, _, _), _) => (actor, call, first),
-    };
-    let (last, at, answer) = match shown {
-        Shown::Started(..) => (None, None, None),
-        Shown::Effective(_, _, _, at) => (None, Some(at), None),
-        Shown::Complete(_, _, (_, last, at), answer) => (Some(last), Some(at), Some(reply(answer))),
-    };
+pub fn stamped(shown: Complete) -> Stamped {
+    let Complete(actor, call, (first, last, at), answer) = shown;
     Stamped {
         actor,
         op: op(call),
         first,
-        last,
-        at,
-        reply: answer,
+        last: Some(last),
+        at: Some(at),
+        reply: Some(reply(answer)),
     }
 }

@@ -2,8 +2,7 @@
 use super::comparisons::same;
 use super::expected::Answer::{Done, Value};
 use super::expected::Call::{Deq, Enq};
-use super::expected::Shown::Complete;
-use super::expected::stamped;
+use super::expected::{Complete, stamped};
 use super::moves::{begin, steps};
 use super::trials::{Sizes, world_of};
 use history::{Refusal, Stamped, Verdict, check};

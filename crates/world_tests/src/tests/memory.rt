@@ -1,8 +1,7 @@
 //! Refused memory: the call says so, changes nothing, and succeeds once there is memory.
 use super::expected::Answer::{Done, Value};
 use super::expected::Call::{self, Deq, Enq};
-use super::expected::Shown::{self, Complete};
-use super::expected::op;
+use super::expected::{Complete, op};
 use super::moves::steps;
 use super::trials::{NON_BLOCKING, are, world_of};
 use history::{Refusal, Stamped};
@@ -39,7 +38,7 @@ fn begin(rt: &impl Abort, world: &mut World, actor: u16, call: Call) -> Result<(
 /// An actor, its call, and how many steps that takes.
 const CALLS: [(u16, Call, u32); 3] = [(1, Enq(5), 10), (1, Enq(6), 10), (2, Deq, 9)];
 
-const EXPECTED: [Shown; 3] = [
+const EXPECTED: [Complete; 3] = [
     Complete(1, Enq(5), (1, 10, 9), Done),
     Complete(1, Enq(6), (11, 20, 19), Done),
     Complete(2, Deq, (21, 29, 26), Value(1, 5)),

@@ -29,15 +29,6 @@ pub fn steps<const B: u32>(world: &mut WorldOf<B>, actor: u16, count: u32) -> Re
     Ok(())
 }
 
-/// A move by its own call.
-pub fn play<const B: u32>(world: &mut WorldOf<B>, act: Act) -> Result<(), Refusal> {
-    match act {
-        Act::Begin(actor, call) => begin(world, actor, call),
-        Act::Step(actor) => step(world, actor),
-        Act::Give(actor) => give(world, actor),
-    }
-}
-
 /// A move, for the call for all moves.
 pub fn move_of(act: Act) -> Move {
     match act {

@@ -1,15 +1,12 @@
-//! Worked runs in which a queue is shut.
+//! Worked runs in which a queue is shut, besides those of examples/: `shut`, `overtaken_push` and
+//! `overtaken_shut`.
 use super::events::Act;
-use super::events::Event::{
-    At, Begin, Closed, Give, Head, Next, Pocket, Refused, Steps, Tail, Told,
-};
-use super::events::Telling::{Ended, Went};
+use super::events::Event::{At, Begin, Closed, Give, Head, Next, Pocket, Steps, Tail, Told};
+use super::events::Telling::{Ended, Refused as NotMade, Went};
 use super::expected::Answer::{self, Done, Value};
 use super::expected::Call::{Deq, Enq, Shut};
-use super::expected::Shown::Complete;
-use super::expected::Word::{self, Number, Reference};
+use super::expected::Complete;
 use super::trials::{NON_BLOCKING, Run, Sizes, TWO_LOCK, all_go_in_each_split};
-use super::words::tell_in_each_split;
 use history::{Refusal, WornWord};
 use line_table::{Kind, Line};
 use std::test::Fail;
@@ -27,75 +24,7 @@ const WORN: Sizes = Sizes {
     actors: 1,
 };
 
-const RUNS: [Run; 13] = [
-    // A push after the shut is refused, and keeps its node; a pop takes what is left, the next one is refused.
-    Run {
-        name: "push_shut_push_pop_pop",
-        sizes: NON_BLOCKING,
-        events: &[
-            Begin(1, Enq(5)),
-            Steps(1, 10),
-            Begin(2, Shut),
-            Steps(2, 4),
-            Begin(1, Enq(6)),
-            Steps(1, 8),
-            Begin(2, Deq),
-            Steps(2, 9),
-            Begin(2, Deq),
-            Steps(2, 4),
-            Closed(2, 1),
-            Pocket(1, Some(Held { node: 3, mark: 0 })),
-        ],
-        expected: &[
-            Complete(1, Enq(5), (1, 10, 9), Done),
-            Complete(2, Shut, (11, 14, 14), Done),
-            Complete(1, Enq(6), (15, 22, 22), CLOSED),
-            Complete(2, Deq, (23, 31, 28), Value(1, 5)),
-            Complete(2, Deq, (32, 35, 35), CLOSED),
-        ],
-    },
-    // The link is lost to the shut.
-    Run {
-        name: "shut_before_the_link",
-        sizes: NON_BLOCKING,
-        events: &[
-            Begin(1, Enq(7)),
-            Steps(1, 8),
-            Begin(2, Shut),
-            Steps(2, 4),
-            Told(Act::Step(1), Went(Line::E9)),
-            Told(Act::Step(1), Went(Line::E5)),
-            Told(Act::Step(1), Went(Line::E6)),
-            Told(Act::Step(1), Ended(Line::E7, CLOSED)),
-            Pocket(1, Some(Held { node: 2, mark: 0 })),
-        ],
-        expected: &[
-            Complete(1, Enq(7), (1, 16, 16), CLOSED),
-            Complete(2, Shut, (9, 12, 12), Done),
-        ],
-    },
-    Run {
-        name: "shut_waits_for_the_lock",
-        sizes: TWO_LOCK,
-        events: &[
-            Begin(1, Enq(5)),
-            Steps(1, 7),
-            Begin(2, Shut),
-            Told(Act::Step(2), Went(Line::S6)),
-            At(2, Some(Line::S6)),
-            Steps(1, 3),
-            Steps(2, 4),
-            Begin(1, Enq(6)),
-            Steps(1, 9),
-            Closed(2, 0),
-            Pocket(1, Some(Held { node: 3, mark: 0 })),
-        ],
-        expected: &[
-            Complete(1, Enq(5), (1, 11, 9), Done),
-            Complete(2, Shut, (8, 15, 14), Done),
-            Complete(1, Enq(6), (16, 24, 24), CLOSED),
-        ],
-    },
+const RUNS: [Run; 10] = [
     // Tail is worn out, and the closed end is looked at before it.
     Run {
         name: "pop_of_a_shut_queue_whose_tail_is_worn",
@@ -256,7 +185,7 @@ const RUNS: [Run; 13] = [
             At(1, Some(Line::S1)),
             Pocket(1, Some(Held { node: 2, mark: 0 })),
             Steps(1, 1),
-            Refused(Act::Give(1), Refusal::NotHere),
+            Told(Act::Give(1), NotMade(Refusal::NotHere)),
             Steps(1, 3),
             Pocket(1, Some(Held { node: 2, mark: 0 })),
         ],
@@ -306,31 +235,4 @@ const RUNS: [Run; 13] = [
 #[test]
 fn queues_are_shut(rt: HostRuntime) -> Result<(), Fail> {
     all_go_in_each_split(&rt, rt.alloc(), &RUNS)
-}
-
-/// The shared words after the first run.
-const WORDS: [Word; 12] = [
-    Number(3),
-    Reference(65_537, 16_777_217, 4_294_967_297),
-    Reference(65_538, 16_777_218, 4_294_967_298),
-    Reference(65_538, 16_777_218, 4_294_967_298),
-    Number(0),
-    Number(0),
-    Reference(65_536, 16_777_216, 4_294_967_296),
-    Number(0),
-    Reference(131_071, 33_554_431, 8_589_934_591),
-    Number(281_474_976_710_661),
-    Number(0),
-    Number(281_474_976_710_662),
-];
-
-#[test]
-fn a_closed_end_stands_in_the_last_next(rt: HostRuntime) -> Result<(), Fail> {
-    let Run {
-        name,
-        sizes,
-        events,
-        ..
-    } = RUNS[0];
-    tell_in_each_split(&rt, rt.alloc(), &[(name, sizes, events, &WORDS)])
 }

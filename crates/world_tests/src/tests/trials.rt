@@ -3,8 +3,8 @@ ghost use Rattle.counted_ref.specs.Ref.{IsSplit};
 
 use super::comparisons::same;
 use super::events::{Event, Telling};
-use super::expected::{Shown, Word, closed_end, reply, stamped, taken, word_in};
-use super::moves::{begin, give, move_of, play, steps};
+use super::expected::{Complete, Word, closed_end, reply, stamped, taken, word_in};
+use super::moves::{begin, give, move_of, steps};
 use super::queries::{line_of, next_of, parts, place_of, pocket_of, value_of};
 use history::{Refusal, Stamped, Verdict, check};
 use line_table::Kind;
@@ -44,7 +44,7 @@ pub struct Run {
     pub name: &'static str,
     pub sizes: Sizes,
     pub events: &'static [Event],
-    pub expected: &'static [Shown],
+    pub expected: &'static [Complete],
 }
 
 /// A new world of these sizes. Each call of its own of `WorldOf::new` would cost seconds of a proof.
@@ -91,7 +91,7 @@ pub fn all_go_in_each_split(rt: &impl Abort, alloc: Global, runs: &[Run]) -> Res
 }
 
 /// A history is this list.
-pub fn are(rt: &impl Abort, name: &str, history: &[Stamped], expected: &[Shown]) {
+pub fn are(rt: &impl Abort, name: &str, history: &[Stamped], expected: &[Complete]) {
     same(rt, history.len(), expected.len(), (name, history));
     for (found, shown) in history.iter().zip(expected) {
         same(rt, *found, stamped(*shown), name);
@@ -124,7 +124,12 @@ impl<const B: u32> TrialOf<B> {
     }
 
     /// Its history is this list, and is one of a queue by the verdict.
-    pub fn shows(&self, rt: &impl Abort, alloc: Global, expected: &[Shown]) -> Result<(), Refusal> {
+    pub fn shows(
+        &self,
+        rt: &impl Abort,
+        alloc: Global,
+        expected: &[Complete],
+    ) -> Result<(), Refusal> {
         let history = self.world.history(alloc)?;
         are(rt, self.name, &history, expected);
         same(rt, check(alloc, &history)?, Verdict::Yes, self.name);
@@ -148,7 +153,6 @@ impl<const B: u32> TrialOf<B> {
             Event::Begin(actor, call) => same(rt, begin(world, actor, call), Ok(()), tried),
             Event::Steps(actor, count) => same(rt, steps(world, actor, count), Ok(()), tried),
             Event::Give(actor) => same(rt, give(world, actor), Ok(()), tried),
-            Event::Refused(act, refusal) => same(rt, play(world, act), Err(refusal), tried),
             Event::Told(act, telling) => {
                 same(rt, step_in(world, move_of(act)), answer_of(telling), tried);
             }
@@ -179,11 +183,7 @@ impl<const B: u32> TrialOf<B> {
             Event::Value(node, from, number) => {
                 same(rt, value_of(world, node), Some(taken(from, number)), tried);
             }
-            Event::Begin(..)
-            | Event::Steps(..)
-            | Event::Give(_)
-            | Event::Refused(..)
-            | Event::Told(..) => (),
+            Event::Begin(..) | Event::Steps(..) | Event::Give(_) | Event::Told(..) => (),
         }
     }
 }

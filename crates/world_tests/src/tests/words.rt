@@ -2,7 +2,7 @@
 ghost use Rattle.counted_ref.specs.Ref.{IsSplit};
 
 use super::events::Event::{self, Begin, Steps};
-use super::expected::Call::{Deq, Enq};
+use super::expected::Call::{Deq, Enq, Shut};
 use super::expected::Word::{self, Number, Reference};
 use super::trials::{NON_BLOCKING, Sizes, TWO_LOCK, TrialOf};
 use history::Refusal;
@@ -57,10 +57,39 @@ const OF_NON_BLOCKING: [Word; 12] = [
     Number(0),
 ];
 
-/// What is tried: what a world is made of, what it goes through, and all its words then.
-pub type Row = (&'static str, Sizes, &'static [Event], &'static [Word]);
+const SHUT: [Event; 10] = [
+    Begin(1, Enq(5)),
+    Steps(1, 10),
+    Begin(2, Shut),
+    Steps(2, 4),
+    Begin(1, Enq(6)),
+    Steps(1, 8),
+    Begin(2, Deq),
+    Steps(2, 9),
+    Begin(2, Deq),
+    Steps(2, 4),
+];
 
-const WORDS: [Row; 3] = [
+/// The closed end stands in the last `next`.
+const OF_SHUT: [Word; 12] = [
+    Number(3),
+    Reference(65_537, 16_777_217, 4_294_967_297),
+    Reference(65_538, 16_777_218, 4_294_967_298),
+    Reference(65_538, 16_777_218, 4_294_967_298),
+    Number(0),
+    Number(0),
+    Reference(65_536, 16_777_216, 4_294_967_296),
+    Number(0),
+    Reference(131_071, 33_554_431, 8_589_934_591),
+    Number(281_474_976_710_661),
+    Number(0),
+    Number(281_474_976_710_662),
+];
+
+/// What is tried: what a world is made of, what it goes through, and all its words then.
+type Row = (&'static str, Sizes, &'static [Event], &'static [Word]);
+
+const WORDS: [Row; 4] = [
     ("two-lock, at first", TWO_LOCK, &[], &AT_FIRST),
     ("two-lock", TWO_LOCK, &PUSH_AND_POP, &OF_TWO_LOCK),
     (
@@ -69,6 +98,7 @@ const WORDS: [Row; 3] = [
         &PUSH_AND_POP,
         &OF_NON_BLOCKING,
     ),
+    ("non-blocking, shut", NON_BLOCKING, &SHUT, &OF_SHUT),
 ];
 
 fn worlds_tell<const B: u32>(rt: &impl Abort, alloc: Global, rows: &[Row]) -> Result<(), Refusal>
@@ -82,15 +112,12 @@ fn worlds_tell<const B: u32>(rt: &impl Abort, alloc: Global, rows: &[Row]) -> Re
     Ok(())
 }
 
-/// Each of these worlds has these words with the fewest bits for the number of a node, with the usual ones and with the most.
-pub fn tell_in_each_split(rt: &impl Abort, alloc: Global, rows: &[Row]) -> Result<(), Fail> {
-    worlds_tell::<16>(rt, alloc, rows)?;
-    worlds_tell::<24>(rt, alloc, rows)?;
-    worlds_tell::<32>(rt, alloc, rows)?;
-    Ok(())
-}
-
+/// Each of these worlds has these words with the fewest bits for the number of a node, with the usual ones
+/// and with the most.
 #[test]
 fn a_world_tells_its_words(rt: HostRuntime) -> Result<(), Fail> {
-    tell_in_each_split(&rt, rt.alloc(), &WORDS)
+    worlds_tell::<16>(&rt, rt.alloc(), &WORDS)?;
+    worlds_tell::<24>(&rt, rt.alloc(), &WORDS)?;
+    worlds_tell::<32>(&rt, rt.alloc(), &WORDS)?;
+    Ok(())
 }
