@@ -1,21 +1,26 @@
 //! Numbers that look like chance, the same each time from one seed.
+use rand::RngExt;
+use rand_pcg::Pcg32;
 
 #[derive(Drop)]
 pub struct Chance {
-    state: u64,
+    draws: Pcg32,
 }
 
 impl Chance {
     pub fn new(seed: u64) -> Chance {
-        Chance { state: seed }
+        Chance {
+            draws: Pcg32::new(seed, 0),
+        }
     }
 
     /// A number below a limit, and 0 where that is 0.
     pub fn below(&mut self, limit: u64) -> u64 {
-        let product = self.state.wrapping_mul(6364136223846793005);
-        self.state = product.wrapping_add(1442695040888963407);
-        let high = self.state >> 33;
-        if limit == 0 { 0 } else { high % limit }
+        if limit == 0 {
+            0
+        } else {
+            self.draws.random_range(0..limit)
+        }
     }
 
     /// Whether a number below a limit is 0.
