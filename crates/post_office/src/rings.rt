@@ -1,5 +1,5 @@
 //! An office over a new ring.
-ghost use Rattle.std.specs.Prelude.{◌≡◌, ◌⊎◌, ◌+◌, ◌<◌, ◌≤◌, ℕ, map, max, IfErr, IfOk};
+ghost use Rattle.std.specs.Prelude.{◌≡◌, ◌⊎◌, ◌+◌, ◌<◌, ◌≤◌, ℕ, map, max, IfErr, IfOk, true};
 ghost use Rattle.std.specs.List.{All};
 ghost use Rattle.history.specs.Seats.{MayPop};
 ghost use Rattle.node_arena.specs.Plans.{permits_by};
