@@ -113,8 +113,9 @@ impl<T> RingQueue<T> {
         }
     }
 
-    /// Pushes a body at the back, in so many turns at most, which are counted from where the seat has seen Tail in this call. Where the ring carries values, the body is the number of the slot that is
-    /// out with the seat, with a value in it, and the push gives it away.
+    /// Pushes a body at the back, in so many turns at most, which are counted from where the seat has seen Tail in this call.
+    /// Where the ring carries values, the body is the number of the slot that is out with the seat, with a value in it, and
+    /// the push gives it away.
     ///
     /// Refusals: those of `try_push`. Takes no memory and doesn't wait.
     pub fn push_in(&self, seat: &mut Seat<T>, body: Body, turns: u32) -> Result<(), Refusal>
