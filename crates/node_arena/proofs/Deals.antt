@@ -36,12 +36,12 @@ use Rattle.node_arena.specs.Seats.{IsArena}
 use Rattle.node_arena.specs.Knowledge.{SeatView, View, keeper, seated, paired, members, knows, new_seat, dealt_left, dealt_right}
 use Rattle.node_arena.specs.Places.{place, shared_words}
 use Rattle.node_arena.specs.Plans.{Layout, IsPlanned, RolesPermit, IsTable, slots_of}
-use Rattle.node_arena.specs.Rule.{Fits, Holds, Fitted, first_view}
+use Rattle.node_arena.specs.Rule.{knowing, Holds, Fitted, first_view}
 use Rattle.node_arena.specs.NewArenas.{first_memory_words, LieFirst, IsDealt, AreDealt, IsNewSeat}
 use Rattle.node_arena.proofs.Placed.{length-shared_words, shared_words-set, shared_words-blank}
 use Rattle.node_arena.proofs.Tracing.{changed_here, changed_else}
 use Rattle.node_arena.proofs.PrologueTraces.{ran_all}
-use Rattle.node_arena.proofs.Keeping.{one_of, there_kept}
+use Rattle.node_arena.proofs.KnownRuns.{one_of, there_kept}
 use Rattle.node_arena.proofs.Quiet as quiet
 use Rattle.node_arena.proofs.Meets.{FitsAll, both}
 use Rattle.node_arena.proofs.KnownValues.{knows_none}
@@ -211,7 +211,7 @@ deals z es id n few s hs mine =
         peopled = h.peopled;
         ran = λ j i u o a b. (all j i u o a b).0.1;
         unmoved = λ p over. h.unmoved p (let e = k.1 in omega arith);
-        there = λ p. there_kept s.views (set s.views id (keeper (n + 1)) ++ seated (new_seat n) ∷ []) h.reached.moves kept p (h.there p);
+        there = λ p. there_kept knowing s.views (set s.views id (keeper (n + 1)) ++ seated (new_seat n) ∷ []) h.reached.moves kept p (h.there p);
         owned = λ j i u o a b. let t = all j i u o a b in (t.1, t.2);
         kept = λ j m a. ⊎_elim
             (λ (t : get_elem? (set s.views id (keeper (n + 1))) j ≡ some (keeper m)).

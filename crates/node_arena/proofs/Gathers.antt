@@ -17,14 +17,14 @@ use Rattle.node_arena.specs.Traces.{changed}
 use Rattle.node_arena.specs.Knowledge.{SeatView, View, keeper, gathered, seated, paired, spent, members, both_of}
 use Rattle.node_arena.specs.Places.{place}
 use Rattle.node_arena.specs.Plans.{Layout, IsTable}
-use Rattle.node_arena.specs.Rule.{Fits, Holds, Opens}
+use Rattle.node_arena.specs.Rule.{Holds, Opens}
 use Rattle.node_arena.specs.Moments.{WasWord}
 use Rattle.node_arena.specs.Seats.{view, deeds_of}
 use Rattle.node_arena.specs.Ends.{HasToken, HasGathered}
 use Rattle.node_arena.proofs.Placed.{place_there, length-shared_words, get_or-shared_words}
 use Rattle.node_arena.proofs.There.{words_there}
 use Rattle.node_arena.proofs.Tracing.{changed_here, changed_else}
-use Rattle.node_arena.proofs.Keeping.{one_of, no_one}
+use Rattle.node_arena.proofs.KnownRuns.{no_one}
 use Rattle.node_arena.proofs.Quiet as quiet
 use Rattle.node_arena.proofs.Meets.{FitsAll, both, views_now}
 

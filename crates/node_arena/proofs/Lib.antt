@@ -1,3 +1,4 @@
+pub mod KnownRuns
 pub mod Tracing
 pub mod Histories
 pub mod Rising

@@ -2,7 +2,7 @@
 use Rattle.std.proofs.Common.{◌≡◌, ◌≢◌, ℕ, ◌-◌, ◌<◌, ◌≤◌, Bool, true, false, if◌then◌else◌, Option, Some, List, [], ◌∷◌, ◌++◌, zero, suc, length}
 use Rattle.std.proofs.Common.{get_or, set, slice_get, sym, refl, ap, ◌∙◌, subst, ⊎_elim, arith, append-nil, append_assoc}
 use Rattle.std.proofs.lemmas.List.{length-set, set-get_or}
-use mathlib.Core.Option.{some, some-injective, some-ne-none}
+use mathlib.Core.Option.{some, some-ne-none}
 use lib.ListN.{get_elem?}
 use Rattle.atomic_table.specs.Table.{State, Me, keeps, Allows}
 use Rattle.atomic_table.proofs.Lists.{at_set}
@@ -29,7 +29,7 @@ use mathlib.Core.Logic.{dite}
 use native.Mathlib.Decide.{ℕ_discrete}
 use Rattle.atomic_table.specs.Table.{Act, takes, gives, Valid, carried_after, stepped}
 use Rattle.atomic_table.proofs.Lists.{at_map, set_else, set_here, set_again}
-use Rattle.node_arena.proofs.Keeping.{set_there}
+use Rattle.node_arena.proofs.KnownRuns.{set_there}
 use Rattle.node_arena.proofs.Slotting.{acquires, releases}
 use Rattle.counted_ref.specs.Ref.{null, same_ref}
 use Rattle.line_table.specs.declared.lines.Line.TheVariants.{E9, D13, A5, B5, S4, S8}

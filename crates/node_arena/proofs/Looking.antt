@@ -20,7 +20,8 @@ use Rattle.node_arena.specs.Places.{place}
 use Rattle.node_arena.specs.Plans.{Layout}
 use Rattle.node_arena.specs.Rule.{LearnsRun, Holds, Fitted}
 use Rattle.node_arena.proofs.PrologueTraces.{ran_all}
-use Rattle.node_arena.proofs.Keeping.{one_of, learns_run, learned_more}
+use Rattle.node_arena.proofs.KnownRuns.{one_of}
+use Rattle.node_arena.proofs.Keeping.{learns_run, learned_more}
 use Rattle.node_arena.proofs.Quiet as quiet
 use Rattle.node_arena.specs.Seats.{IsReady, SeesMoreDeeds, deeds_of, view}
 use Rattle.node_arena.specs.Looks.{Looks}

@@ -18,9 +18,10 @@ use Rattle.node_arena.specs.Traces.{Traced, changed}
 use Rattle.node_arena.specs.Knowledge.{SeatView, View, keeper, seated, paired, spent, members, knows, knows_second, both_of, first_of, second_of}
 use Rattle.node_arena.specs.Places.{shared_words}
 use Rattle.node_arena.specs.Plans.{Layout}
-use Rattle.node_arena.specs.Rule.{Ran, Keeps, Fits, Holds, Fitted, Met}
+use Rattle.node_arena.specs.Rule.{knowing, Ran, Keeps, Fits, Holds, Fitted, Met}
 use Rattle.node_arena.proofs.PrologueTraces.{ran_all}
-use Rattle.node_arena.proofs.Keeping.{one_of, two_of, no_one, there_kept, learns_run, learned_more}
+use Rattle.node_arena.proofs.KnownRuns.{one_of, two_of, no_one, there_kept}
+use Rattle.node_arena.proofs.Keeping.{learns_run, learned_more}
 use Rattle.node_arena.proofs.Quiet as quiet
 use Rattle.std.specs.List.{All, count_by}
 use Rattle.std.proofs.lemmas.List.Elements.{All-weaker}
@@ -70,7 +71,7 @@ views_now z es s hs words views own kept same all some_keeper =
         peopled = h.peopled;
         ran = λ j i u o a b. (all j i u o a b).0.1;
         unmoved = h.unmoved;
-        there = λ n. there_kept s.views views h.reached.moves kept n (h.there n);
+        there = λ n. there_kept knowing s.views views h.reached.moves kept n (h.there n);
       },
       hs.1,
     )

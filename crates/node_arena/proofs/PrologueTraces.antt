@@ -5,7 +5,6 @@ use Rattle.std.specs.List.{All}
 use Rattle.std.proofs.lemmas.List.Elements.{All-nil, All-cons, All-append, All-weaker}
 use Rattle.std.proofs.Math.ListN.{length-set}
 use Rattle.std.proofs.lemmas.Option.{none-some, same_Some}
-use mathlib.Core.List.{IsPrefix}
 use Rattle.line_table.specs.declared.lines.Kind.{Kind}
 use Rattle.line_table.specs.declared.lines.Line.{Line}
 use Rattle.line_table.specs.declared.lines.Line.TheVariants.{N1, N2, N3, N4, N5, F1, F2, F3, E2, E3, E5, E6, E7, E9, E13, E17, D2, D3, D4, D5, D10}
@@ -26,6 +25,7 @@ use Rattle.step_machine.proofs.Reached.{mover_in_range}
 use Rattle.step_machine.proofs.CompletionSteps.{actor_same, actor_other}
 use Rattle.step_machine.proofs.Giving.{give_move, begin_move, step_move}
 use Rattle.node_arena.specs.Traces.{made_by, LeadsBy, Traced, step_at, traced_move, traced_next, traced_on, trace, first_trace, IsTraced}
+pub use Rattle.node_arena.proofs.KnownRuns.{prefix_same, prefix_then}
 use Rattle.node_arena.specs.Rule.{Ran}
 use Rattle.node_arena.specs.Prologues.{Prologue, continues, begins, gave_up, out_of, after_prologue, CanStart}
 use Rattle.node_arena.proofs.Tracing.{traced_moves, traced_step_is}
@@ -43,13 +43,6 @@ pub record Led (t u : Traced) (me : ℕ) (a : Actor) : Type 0 where
 -- a trace that moves lead to, where one actor has this state and all else is as it was
 abbrev pub LeadsTo : Traced → ℕ → Actor → Type 0
 LeadsTo t me a = (u : Traced) × IsTraced u × Led t u me a × LeadsBy me 2 t u
-
--- a list begins with itself, and with what begins one that it begins with
-pub prefix_same : {A : Type 0} (xs : List A) → IsPrefix xs xs
-prefix_same xs = ([], append-nil xs)
-
-pub prefix_then : {A : Type 0} (xs ys zs : List A) → IsPrefix xs ys → IsPrefix ys zs → IsPrefix xs zs
-prefix_then xs ys zs p q = (p.0 ++ q.0, sym (append_assoc xs p.0 q.0) ∙ (ap (λ l. l ++ q.0) p.1 ∙ q.1))
 
 -- one move, and one list of moves after another
 pub one_move : (t : Traced) (m : AnyMove) (w : World) → next_any t.world m ≡ Some w → trace (m ∷ []) t ≡ Some (traced_move t m w)

@@ -32,12 +32,13 @@ use Rattle.node_arena.specs.Prologues.{Prologue, after_prologue, CanStart}
 use Rattle.node_arena.specs.Knowledge.{SeatView, View, keeper, seated, members}
 use Rattle.node_arena.specs.Places.{place, shared_words}
 use Rattle.node_arena.specs.Plans.{Layout, RolesPermit, PermitsLine}
-use Rattle.node_arena.specs.Rule.{Ran, IsRunTo, RunsOn, SawAt, Fits, IsNew, Holds, notes_of, SaysOfSeen, Steps, Tells, line_or_first}
+use Rattle.node_arena.specs.Rule.{knowing, Ran, IsRunTo, RunsOn, SawAt, Fits, IsNew, Holds, notes_of, SaysOfSeen, Steps, Tells, line_or_first}
 use Rattle.node_arena.proofs.Placed.{length-shared_words, get_or-shared_words, shared_words-set}
 use Rattle.node_arena.proofs.There.{words_there, index_within}
 use Rattle.node_arena.proofs.Tracing.{traced_reached, step_here, step_else, step_count, changed_here, changed_else}
 use Rattle.node_arena.proofs.PrologueTraces.{Led, prologue_traced, leads_then, leads_reached, one_step, ran_more, ran_all}
-use Rattle.node_arena.proofs.Keeping.{one_of, set_there, other_there, run_to}
+use Rattle.node_arena.proofs.KnownRuns.{one_of, set_there, other_there}
+use Rattle.node_arena.proofs.Keeping.{run_to}
 use Rattle.node_arena.proofs.Histories.{counts_pops}
 use Rattle.node_arena.proofs.Empties.{noted_more, saw_later, saw_led, saw_after, says_after, noted_after}
 use Rattle.node_arena.proofs.Entering.{own_added, none_added, permitted_added}
@@ -121,7 +122,7 @@ one_seat z s h id v v' words t mine g =
       unmoved = λ n over. more n [] (λ e. let lt = (h.owned id 0 (seated v) v mine refl).1 in omega arith) (h.unmoved n over);
       there = λ n. ⊎_elim
           (λ (e : n ≡ v.number). inr (v', (id, 0, seated v', set_there s.views id (seated v) (seated v') mine, refl), g.number ∙ sym e))
-          (λ (ne : n ≢ v.number). other_there s.views id v v' mine h.reached.moves g.reached.moves n ne (more n [] ne) (h.there n))
+          (λ (ne : n ≢ v.number). other_there knowing s.views id v v' mine h.reached.moves g.reached.moves n ne (more n [] ne) (h.there n))
           (same_or_not n v.number);
     }
 

@@ -12,9 +12,9 @@ use Rattle.node_arena.specs.Knowledge.{View, seated, knows}
 use Rattle.node_arena.specs.Rule.{IsMember}
 use Rattle.node_arena.specs.Beside.{Beside, words_of, plain_of, plain_state, Carried, CarriedBy, Effect, EffectBy}
 use Rattle.node_arena.specs.Courses.{IsStep, SeenValuesAreSeen}
-use Rattle.node_arena.proofs.Keeping.{set_there}
+use Rattle.node_arena.proofs.KnownRuns.{prefixes, set_there}
 use Rattle.node_arena.proofs.Loads.{length-matches}
-use Rattle.node_arena.proofs.Courses.{prefixes, seen_in_order, told_steps}
+use Rattle.node_arena.proofs.Courses.{seen_in_order, told_steps}
 
 -- what begins a list and is no longer than what else begins it begins that too
 shorter : {A : Type 0} (xs ys rs ss : List A) → xs ++ rs ≡ ys ++ ss → length xs ≤ length ys → IsPrefix xs ys

@@ -1,6 +1,7 @@
 pub mod Machine
 pub mod Traces
 pub mod Prologues
+pub mod KnownRuns
 pub mod Knowledge
 pub mod Places
 pub mod Plans

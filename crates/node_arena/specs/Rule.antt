@@ -1,7 +1,6 @@
 -- The rule of the table: words and seats are those of a traced world that moves lead to.
-use Rattle.std.specs.Prelude.{◌≡◌, ◌≢◌, ◌⊎◌, ℕ, ◌<◌, ◌≤◌, true, false, List, [], ◌∷◌, ◌++◌, length, Option, Some, None}
+use Rattle.std.specs.Prelude.{refl, ◌≡◌, ◌≢◌, ◌⊎◌, ℕ, ◌<◌, ◌≤◌, true, false, List, [], ◌∷◌, ◌++◌, length, Option, Some, None}
 use Rattle.std.specs.List.{All}
-use mathlib.Core.List.{IsPrefix}
 use mathlib.Core.Option.{some}
 use lib.ListN.{get_elem?}
 use Rattle.atomic_table.specs.Table.{State, Me}
@@ -20,6 +19,8 @@ use Rattle.step_machine.specs.declared.actors.Move.TheVariants.{Step}
 use Rattle.step_machine.specs.Machine.{idle, actor_of, AnyMove, made}
 use Rattle.node_arena.specs.Traces.{Traced, IsTraced, step_at, actor_at, outcome_at, event_at, entries_at, number_at, sees, made_by, trace, first_trace}
 use Rattle.node_arena.specs.Prologues.{Prologue, after_prologue}
+use Rattle.node_arena.specs.KnownRuns.{Knowing}
+use Rattle.node_arena.specs.KnownRuns as known_runs
 use Rattle.node_arena.specs.Knowledge.{SeatView, View, keeper, gathered, seated, paired, members, knows}
 use Rattle.node_arena.specs.Places.{shared_words}
 use Rattle.node_arena.specs.Plans.{Layout, IsPlanned, RolesPermit}
@@ -61,11 +62,13 @@ pub record IsNew (t : Traced) (n : ℕ) : Type 0 where
   pub path : t.paths n ≡ []
   pub own : own_entries n t.history ≡ []
 
+-- how an arena's seats and views speak of the run of the machine
+abbrev pub knowing : Knowing AnyMove SeatView View
+knowing = record { by = made_by; number = λ v. v.number; ran = λ v. v.ran; members = members; seated = seated; alone = λ v. refl }
+
 -- moves begin with those that a seat knows, and those that follow are of other actors
-pub record Ran (moves : List AnyMove) (me : ℕ) (ran : List AnyMove) : Type 0 where
-  pub rest : List AnyMove
-  pub begins : moves ≡ ran ++ rest
-  pub others : All (λ m. made_by m ≢ me) rest
+abbrev pub Ran : (moves : List AnyMove) → (me : ℕ) → (ran : List AnyMove) → Type 0
+Ran moves me ran = known_runs.Ran made_by moves me ran
 
 -- moves lead from the opening world of the plan to this one
 abbrev pub IsRunTo : (z : Layout) → List AnyMove → Traced → Type 0
@@ -91,7 +94,7 @@ pub record RunsOn (z : Layout) (v v' : SeatView) (was t : Traced) : Type 0 where
 
 -- a seat is among the views, by what it knows
 abbrev pub IsAmong : List View → SeatView → Type 0
-IsAmong views v = (j : ℕ) × (i : ℕ) × (u : View) × (get_elem? views j ≡ some u) × (get_elem? (members u) i ≡ some v)
+IsAmong views v = known_runs.IsAmong knowing views v
 
 -- so it is of a state
 abbrev pub IsMember : State ℕ View → SeatView → Type 0
@@ -99,11 +102,11 @@ IsMember s v = IsAmong s.views v
 
 -- a seat is among the views by its number, and knows no less of the run
 abbrev pub IsFound : List View → SeatView → Type 0
-IsFound views v = (w : SeatView) × IsAmong views w × (w.number ≡ v.number) × IsPrefix v.ran w.ran
+IsFound views v = known_runs.IsFound knowing views v
 
 -- each seat that is among views is found among others
 abbrev pub Keeps : List View → List View → Type 0
-Keeps views others = (v : SeatView) → IsAmong views v → IsFound others v
+Keeps views others = known_runs.Keeps knowing views others
 
 -- a state comes after another by a change of views that isn't a step: each seat is still there, and knows no less of the run
 pub record IsQuiet (s s' : State ℕ View) : Type 0 where
@@ -112,7 +115,7 @@ pub record IsQuiet (s s' : State ℕ View) : Type 0 where
 
 -- an actor made none of these moves, or is a seat among the views
 abbrev pub IsThere : List View → (moves : List AnyMove) → ℕ → Type 0
-IsThere views moves n = Ran moves n [] ⊎ ((v : SeatView) × IsAmong views v × (v.number ≡ n))
+IsThere views moves n = known_runs.IsThere knowing views moves n
 
 -- the rule: there is a traced world, which moves lead to, with exactly the shared words that lie in the table, to which
 -- each seat fits; no two seats have one number, and no entry is of a seat whose role doesn't permit it
