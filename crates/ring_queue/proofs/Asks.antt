@@ -12,7 +12,7 @@ use Rattle.ring_queue.specs.Beside.{Beside, EffectBy, HoldsBy, IsReadyBy, Moves,
 use Rattle.ring_queue.specs.Seats.{view, Sits}
 use Rattle.ring_queue.proofs.Calls.{Does}
 use Rattle.ring_queue.proofs.Lifts.{allows_beside}
-use Rattle.ring_queue.proofs.Runs.{Ran}
+use Rattle.ring_queue.proofs.Runs.{Made}
 
 -- nothing has to be ready for a step that adds nothing
 pub ready_none : {T : Type 0} (b : Bool) (slots n : ℕ) (me : Me (Option T) (Beside T)) → IsReadyBy b slots n [] me
@@ -51,7 +51,7 @@ stays_shut {T} b n me me' moves =
 module _ {T : Type 0} (z about : Layout) (t : TableId) (s : Seat T) (F : Layout → SeatView → ℕ → SeatView → Type 0) (laid : IsTable z about t) where
   -- what a line asks of the table
   pub asks_all : {all : List Entry} (i : ℕ) (f : ℕ → ℕ) → Sits z t s → i < words_of z → Does z i (view s) f all (F z)
-      → ((n : ℕ) (v' : SeatView) → F z (view s) n v' → Ran z i n (f n) (view s) v') → IsReadyBy z.carries z.slots (view s).number all s.token.me
+      → ((n : ℕ) (v' : SeatView) → F z (view s) n v' → Made z i n (f n) (view s) v') → IsReadyBy z.carries z.slots (view s).number all s.token.me
       → (s.token.table_id ≡ t) × (i < t.words) × Allows {S = Option T} (HoldsBy about) t.slots s.token.id s.token.me i f (λ n m. TellsBeside about.carries about all (F about) s.token.me n m)
   asks_all {all} i f sits within line ran ready =
       let v : SeatView = view s in
@@ -68,7 +68,7 @@ module _ {T : Type 0} (z about : Layout) (t : TableId) (s : Seat T) (F : Layout 
       )
 
   -- the same of a line that adds nothing
-  pub asks : (i : ℕ) (f : ℕ → ℕ) → Sits z t s → i < words_of z → Does z i (view s) f [] (F z) → ((n : ℕ) (v' : SeatView) → F z (view s) n v' → Ran z i n (f n) (view s) v')
+  pub asks : (i : ℕ) (f : ℕ → ℕ) → Sits z t s → i < words_of z → Does z i (view s) f [] (F z) → ((n : ℕ) (v' : SeatView) → F z (view s) n v' → Made z i n (f n) (view s) v')
       → (s.token.table_id ≡ t) × (i < t.words) × Allows {S = Option T} (HoldsBy about) t.slots s.token.id s.token.me i f (λ n m. TellsQuiet about.carries about (F about) s.token.me n m)
   asks i f sits within line ran =
       let whole = asks_all i f sits within line ran (ready_none z.carries z.slots (view s).number s.token.me) in (
@@ -80,7 +80,7 @@ module _ {T : Type 0} (z about : Layout) (t : TableId) (s : Seat T) (F : Layout 
       )
 
   -- the same of a line that may shut the queue
-  pub asks_shut : (i : ℕ) (f : ℕ → ℕ) → Sits z t s → i < words_of z → Does z i (view s) f (Shut (view s).number ∷ []) (F z) → ((n : ℕ) (v' : SeatView) → F z (view s) n v' → Ran z i n (f n) (view s) v')
+  pub asks_shut : (i : ℕ) (f : ℕ → ℕ) → Sits z t s → i < words_of z → Does z i (view s) f (Shut (view s).number ∷ []) (F z) → ((n : ℕ) (v' : SeatView) → F z (view s) n v' → Made z i n (f n) (view s) v')
       → (s.token.table_id ≡ t) × (i < t.words) × Allows {S = Option T} (HoldsBy about) t.slots s.token.id s.token.me i f (λ n m. TellsQuiet about.carries about (F about) s.token.me n m)
   asks_shut i f sits within line ran =
       let whole = asks_all i f sits within line ran (ready_shut z.carries z.slots (view s).number s.token.me) in (

@@ -27,12 +27,12 @@ use Rattle.node_arena.proofs.Loads.{runs_to_pop}
 use Rattle.node_arena.proofs.KnownValues.{all_on}
 use Rattle.ring_queue.specs.Plans.{Layout, words_of}
 use Rattle.ring_queue.specs.Knowledge.{SeatView, View, seated, knows}
-use Rattle.ring_queue.specs.Rule.{Ring, put}
+use Rattle.ring_queue.specs.Rule.{Ring, Run, put}
 use Rattle.ring_queue.specs.Beside.{Beside, plain_of, plain_state, hand_in, hand_at, Begins, Carried, HoldsValues, KnowsValues, Effect, IsReadyFor}
 use Rattle.ring_queue.proofs.Tables.{HoldsWith, Extends, its_seat, one_seat}
 use Rattle.ring_queue.proofs.Calls.{Does}
-use Rattle.ring_queue.specs.Paths.{Try}
-use Rattle.ring_queue.proofs.Runs.{Ran, run_on}
+use Rattle.ring_queue.specs.Paths.{Try, accessed}
+use Rattle.ring_queue.proofs.Runs.{Made, run_on, knew_of}
 
 abbrev is_first : {A B : Type 0} → A ⊎ B → Bool
 is_first (inl a) = true
@@ -62,7 +62,7 @@ module _ {T : Type 0} (z : Layout) (s : State (Option T) (Beside T)) (H : HoldsV
     (ds : List (Deed T)) (hd : maybe.Option ℕ) (os : List (List (Deed T))) (ts : List Try)
     (mine : get_elem? s.views id ≡ some (record { plain = seated v; deeds = ds; hand = hd; others = os; tries = ts })) (p : ℕ) (f : ℕ → ℕ) (all : List Entry)
     (fact : SeatView → ℕ → SeatView → Type 0) (line : Does z p v f all fact) (within : p < words_of z)
-    (ran : (n : ℕ) (v' : SeatView) → fact v n v' → Ran z p n (f n) v v') where
+    (ran : (n : ℕ) (v' : SeatView) → fact v n v' → Made z p n (f n) v v') where
   abbrev w : Beside T
   w = record { plain = seated v; deeds = ds; hand = hd; others = os; tries = ts }
 
@@ -85,8 +85,8 @@ module _ {T : Type 0} (z : Layout) (s : State (Option T) (Beside T)) (H : HoldsV
   its = its_seat z s0 H.base id v mine0
 
   abbrev done : (v' : SeatView) × (v'.number ≡ v.number) × (r' : Ring z (set s0.words p (f (get_or s0.words p 0))) (put H.base.seats v.number v'))
-      × Extends all H.base.ring.history v r'.history v' × fact v (get_or s0.words p 0) v'
-  done = line s0.words H.base.seats H.base.ring its
+      × Extends H.base.run.trace all H.base.ring.history v r'.history v' × fact v (get_or s0.words p 0) v'
+  done = line s0.words H.base.seats H.base.ring its H.base.run.trace H.base.run.adds (knew_of z s0.words H.base.seats H.base.ring.history v its H.base.run)
 
   abbrev v' : SeatView
   v' = done.0
@@ -94,7 +94,7 @@ module _ {T : Type 0} (z : Layout) (s : State (Option T) (Beside T)) (H : HoldsV
   abbrev hist : List Entry
   hist = H.base.ring.history
 
-  abbrev extends : Extends all hist v done.2.history v'
+  abbrev extends : Extends H.base.run.trace all hist v done.2.history v'
   extends = done.3
 
   abbrev es : List Entry
@@ -106,11 +106,14 @@ module _ {T : Type 0} (z : Layout) (s : State (Option T) (Beside T)) (H : HoldsV
   legal : IsQueueRun (hist ++ es)
   legal = let after : Queue = record { values = done.2.values; shut = done.2.shut } in subst IsQueueRun extends.grown (after, done.2.leads)
 
+  -- the run with this access
+  runs : (more : Run z (set s0.words p (f (get_or s0.words p 0))) (put H.base.seats v.number v') done.2.history) × (more.trace ≡ accessed H.base.run.trace v.number (ran (get_or s0.words p 0) v' done.4).event)
+  runs = run_on z s0.words H.base.seats hist v v' all done.2.history p (f (get_or s0.words p 0)) its H.base.run extends (ran (get_or s0.words p 0) v' done.4)
+
   -- the rule of the numbers after the step
   base0 : HoldsWith z (hist ++ es) record { words = set s0.words p (f (get_or s0.words p 0)); homes = []; views = set s0.views id (seated v') }
   base0 = (
-    one_seat z s0 H.base id v mine0 v' (set s0.words p (f (get_or s0.words p 0))) done.1 done.2
-        (run_on z s0.words H.base.seats hist v v' all done.2.history p (f (get_or s0.words p 0)) its H.base.run extends (ran (get_or s0.words p 0) v' done.4)),
+    one_seat z s0 H.base id v mine0 v' (set s0.words p (f (get_or s0.words p 0))) done.1 done.2 runs.0 (ran (get_or s0.words p 0) v' done.4).event runs.1,
     extends.grown,
   )
 
@@ -326,7 +329,7 @@ TellsValues z v w held all fact k o = ((o.0.plain ≡ seated (knows o.0.plain)) 
 
 module _ {T : Type 0} (z : Layout) (id p : ℕ) (v : SeatView) (ds : List (Deed T)) (hd : maybe.Option ℕ) (os : List (List (Deed T))) (ts : List Try) (f : ℕ → ℕ)
     (all : List Entry) (fact : SeatView → ℕ → SeatView → Type 0) (line : Does z p v f all fact) (within : p < words_of z)
-    (ran : (n : ℕ) (v' : SeatView) → fact v n v' → Ran z p n (f n) v v') where
+    (ran : (n : ℕ) (v' : SeatView) → fact v n v' → Made z p n (f n) v v') where
   abbrev before : Beside T
   before = record { plain = seated v; deeds = ds; hand = hd; others = os; tries = ts }
 

@@ -15,7 +15,7 @@ use Rattle.history.specs.Entries.{Leads, LeadsToShut, own_entries, is_pop}
 use Rattle.history.specs.Seats.{IsNoted, IsPermitted}
 use Rattle.ring_queue.specs.Words.{tail_word}
 use Rattle.ring_queue.specs.Plans.{Layout, permits_of}
-use Rattle.ring_queue.specs.Paths.{C3, Event, reading, writing}
+use Rattle.ring_queue.specs.Paths.{C3, Event, reading, writing, Step, Ran, accessed, added_by}
 use Rattle.ring_queue.specs.Rows.{claims as row_claims, loses_place as row_loses}
 use Rattle.ring_queue.specs.Knowledge.{rests, claimed, SeatView}
 use Rattle.ring_queue.specs.Rule.{HasClaimed, Cell, Log, SeatOk, put, Ring}
@@ -25,7 +25,7 @@ use Rattle.history.specs.Values.{pushed, popped}
 use Rattle.history.proofs.Values.{pushed-Leads}
 use Rattle.ring_queue.proofs.Histories.{own_one, own_other, all_one, all_noted_more, leads_push, noted_shut, all_one_note, pushed_more, popped_count}
 use Rattle.ring_queue.proofs.Keeps.{Became, none_claimed, cell, log_before, next_is_filled, claims}
-use Rattle.ring_queue.proofs.Tables.{Extends, adds_none, it_fits, notes_stay, saw_all, looks, learns}
+use Rattle.ring_queue.proofs.Tables.{Extends, adds_none, it_fits, notes_stay, saw_all, looks, learns, runs_on, sees_on}
 
 -- the elements before others
 got_before : {A : Type 0} (xs : List A) (a : A) (k : ℕ) (b : A) → slice_get xs k ≡ Some b → slice_get (xs ++ a ∷ []) k ≡ Some b
@@ -54,7 +54,7 @@ record Claiming (z : Layout) (words : List ℕ) (seats : ℕ → SeatView) (p : 
   within : ring.tail + 1 ≤ z.limit
   from : 1 ≤ seat.number
   to : seat.number ≤ length z.roles
-  path : List Event
+  ran : List Step
 
 module _ (z : Layout) (words : List ℕ) (seats : ℕ → SeatView) (p : ℕ) (xs : List (Option Taken)) (c : Claiming z words seats p xs) where
   abbrev r : Ring z words seats
@@ -114,7 +114,7 @@ module _ (z : Layout) (words : List ℕ) (seats : ℕ → SeatView) (p : ℕ) (x
     seen = r.history ++ Push v.number body ∷ [];
     mine = v.mine ++ Push v.number body ∷ [];
     notes = v.notes;
-    path = c.path;
+    ran = c.ran;
   }
 
   number_small : v.number < 2 ^ 15
@@ -181,7 +181,7 @@ record Pushes (z : Layout) (words : List ℕ) (seats : ℕ → SeatView) (p : �
   seen : seat.seen ≡ c.ring.history ++ pushes c.seat.number bodies
   mine : seat.mine ≡ c.seat.mine ++ pushes c.seat.number bodies
   notes : seat.notes ≡ c.seat.notes
-  path : seat.path ≡ c.path
+  ran : seat.ran ≡ c.ran
   ring : Became z (set words 0 (c.ring.tail + length bodies)) (put seats c.seat.number seat) (c.ring.history ++ pushes c.seat.number bodies)
 
 abbrev IsSmall : ℕ → Type 0
@@ -201,7 +201,7 @@ push_all [] b z words seats p xs c f room within small permit =
       seen = refl;
       mine = refl;
       notes = refl;
-      path = refl;
+      ran = refl;
       ring = subst (λ w. Became z (set words 0 w) (put seats c.seat.number (after_push z words seats p xs c b))
           (c.ring.history ++ pushes c.seat.number (b ∷ []))) (ap (tail_word (c.ring.tail + 1)) f) (one.0, one.3);
     }
@@ -226,7 +226,7 @@ push_all (b' ∷ bs) b z words seats p xs c f room within small permit =
       within = omega (arith, within, many, tail1);
       from = c.from;
       to = c.to;
-      path = c.path;
+      ran = c.ran;
     } in
     let more = push_all bs b' z words1 (put seats n v1) p (xs ++ val ∷ []) c1 (one.2 ∙ f) (omega (arith, room, many, tail1, one.6)) (omega (arith, within, many, tail1)) (All-tail IsSmall b (b' ∷ bs) small) permit in
     let tail = more.tail in
@@ -241,7 +241,7 @@ push_all (b' ∷ bs) b z words seats p xs c f room within small permit =
       seen = more.seen ∙ onward;
       mine = more.mine ∙ append_assoc c.seat.mine (Push n b ∷ []) (pushes n (b' ∷ bs));
       notes = more.notes;
-      path = more.path;
+      ran = more.ran;
       ring = subst (λ (y : List ℕ × (ℕ → SeatView) × List Entry). Became z y.0 y.1 y.2)
           (λ i. (
             (set_twice words 0 (tail_word (c.ring.tail + 1) c.ring.shut) (one.0.tail + length (b' ∷ bs)) ∙ ap (set words 0)
@@ -252,7 +252,8 @@ push_all (b' ∷ bs) b z words seats p xs c f room within small permit =
           more.ring;
     }
 
-module _ (z : Layout) (words : List ℕ) (seats : ℕ → SeatView) (r : Ring z words seats) (v : SeatView) (is : seats v.number ≡ v) (rested : Rests v.stage) where
+module _ (z : Layout) (words : List ℕ) (seats : ℕ → SeatView) (r : Ring z words seats) (v : SeatView) (is : seats v.number ≡ v)
+    (run : List Step) (whole : r.history ≡ added_by run) (knew : Ran run v.number v.ran) (rested : Rests v.stage) where
   abbrev its_fit : SeatOk z r.head r.tail r.log r.cells r.history v.number v
   its_fit = it_fits z words seats r v is
 
@@ -271,7 +272,7 @@ module _ (z : Layout) (words : List ℕ) (seats : ℕ → SeatView) (r : Ring z 
 
   abbrev Claims : List ℕ → Type 0
   Claims bodies = (v' : SeatView) × (v'.number ≡ v.number) × (r' : Ring z (set words 0 (claimed_to (length bodies))) (put seats v.number v'))
-      × Extends (pushes v.number bodies) r.history v r'.history v' × PlacesClaimed z bodies v n v'
+      × Extends run (pushes v.number bodies) r.history v r'.history v' × PlacesClaimed z bodies v n v'
 
   -- Tail without the bit of the shut
   tail_is : n % 2 ^ 62 ≡ r.tail
@@ -290,7 +291,7 @@ module _ (z : Layout) (words : List ℕ) (seats : ℕ → SeatView) (r : Ring z 
 
       lost : (notes : List ℕ) → All (IsNoted r.history) notes → (n < 2 ^ 62 → notes ≡ v.notes) → (2 ^ 62 ≤ n → (notes ≡ v.notes ++ length r.history ∷ []) × LeadsToShut r.history) → Claims bodies
       lost notes noted quiet shut =
-          let v' : SeatView = record { number = v.number; stage = rests; head = v.head; tail = n % 2 ^ 62; seen = r.history; mine = v.mine; notes = notes; path = v.path ++ ev ∷ [] } in
+          let v' : SeatView = record { number = v.number; stage = rests; head = v.head; tail = n % 2 ^ 62; seen = r.history; mine = v.mine; notes = notes; ran = accessed run v.number ev } in
           let t = tail_is in
           let under = its_fit.under in
           let ok = saw_all z words seats r v is v' refl refl refl noted its_fit.behind (omega (arith, t)) tt in
@@ -300,13 +301,14 @@ module _ (z : Layout) (words : List ℕ) (seats : ℕ → SeatView) (r : Ring z 
             v',
             refl,
             ring,
-            adds_none (pushes v.number bodies) r.history v ring.history v' made.1 refl refl,
+            adds_none run (pushes v.number bodies) r.history v ring.history v' ev made.1 refl refl refl,
             record {
               learns = learns z (set words 0 (claimed_to (length bodies))) seats v v' refl ring;
               head = refl;
               won = λ e. absurd (ne e);
               went_won = λ e. absurd (ne e);
-              went_lost = λ _. (refl, sym (append-nil v.mine), row_loses n (length bodies) rested room ne (omega (arith, t, under)) refl refl);
+              went_lost = λ _. (runs_on run v.number v.ran knew ev, sym (append-nil v.mine), row_loses n (length bodies) rested room ne (omega (arith, t, under)) refl refl,
+                  λ _. sym (append-nil r.history) ∙ sees_on run r.history whole v.number ev);
               rests = λ _. (tt, refl);
               lost = λ _ small. (omega (arith, t, under, small, ne), record { number = refl; between = its_fit.rest; seen = its_fit.begins; mine = refl; notes = quiet small });
               shut = λ big. let s = shut big in record { number = refl; between = its_fit.rest; seen = its_fit.begins; shut = s.1; mine = refl; notes = s.0 };
@@ -340,7 +342,7 @@ module _ (z : Layout) (words : List ℕ) (seats : ℕ → SeatView) (r : Ring z 
           let behind = its_fit.behind in
           let free = room.room in
           let within = room.within in
-          let path : List Event = v.path ++ writing C3 0 n (n + count) (pushes v.number (b ∷ bs)) ∷ [] in
+          let ev : Event = writing C3 0 n (n + count) (pushes v.number (b ∷ bs)) in
           let start : Claiming z words seats r.tail [] = record {
             ring = r;
             seat = v;
@@ -352,7 +354,7 @@ module _ (z : Layout) (words : List ℕ) (seats : ℕ → SeatView) (r : Ring z 
             within = omega (arith, within, is_n, same);
             from = from;
             to = to;
-            path = path;
+            ran = accessed run v.number ev;
           } in
           let all = push_all bs b z words seats r.tail [] start f (omega (arith, free, is_n, same, behind)) (omega (arith, within, is_n, same)) small permit in
           let word : r.tail + count ≡ claimed_to count = ap (λ x. x + count) (sym is_n ∙ same) ∙ ap (λ b. either b (v.tail + count) n) (sym (eq-eqb n v.tail same)) in
@@ -364,7 +366,7 @@ module _ (z : Layout) (words : List ℕ) (seats : ℕ → SeatView) (r : Ring z 
             all.seat,
             all.number,
             ring',
-            record { added = pushes v.number (b ∷ bs); which = inr refl; grown = made.1; own = all.mine; seen = inl (all.seen ∙ sym made.1) },
+            record { added = pushes v.number (b ∷ bs); which = inr refl; grown = made.1; own = all.mine; seen = inl (all.seen ∙ sym made.1); event = ev; ran = all.ran },
             record {
               learns = learns z (set words 0 (claimed_to count)) seats v all.seat all.number ring';
               head = all.head;
@@ -373,7 +375,8 @@ module _ (z : Layout) (words : List ℕ) (seats : ℕ → SeatView) (r : Ring z 
                 tail,
                 record { number = all.number; between = its_fit.rest; seen = all.seen ∙ ap (λ h. h ++ pushes v.number (b ∷ bs)) its_fit.begins; mine = all.mine; notes = all.notes },
               );
-              went_won = λ _. (all.path, all.mine, row_claims n (b ∷ bs) rested room same refl (λ i. record { at = stage i; head = all.head i; tail = tail i }));
+              went_won = λ _. (record { before = run; knew = knew; ends = all.ran }, all.mine, row_claims n (b ∷ bs) rested room same refl (λ i. record { at = stage i; head = all.head i; tail = tail i }),
+                  λ _. all.seen ∙ (sees_on run r.history whole v.number ev ∙ ap added_by (sym all.ran)));
               went_lost = λ ne. absurd (ne same);
               rests = λ ne. absurd (ne same);
               lost = λ ne. absurd (ne same);

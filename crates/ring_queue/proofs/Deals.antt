@@ -17,13 +17,16 @@ use Rattle.ring_queue.specs.declared.seats.Seat.{Seat}
 use Rattle.ring_queue.specs.NewRings.{IsDealt, AreDealt, HasSlots, IsMade, IsMadeFor}
 use Rattle.ring_queue.specs.Words.{parity, slot_word}
 use Rattle.ring_queue.specs.Plans.{Layout, IsPlanned, permits_of}
-use Rattle.ring_queue.specs.Knowledge.{SeatView, View, keeper, seated, members, new_seat, known_by, dealt_left, dealt_right}
+use Rattle.ring_queue.specs.Knowledge.{SeatView, View, keeper, seated, members, knowing, new_seat, known_by, dealt_left, dealt_right}
 use Rattle.ring_queue.specs.Rule.{put, Ring, Run, Holds, first_view}
+use Rattle.node_arena.proofs.KnownRuns.{one_of, there_kept}
+use Rattle.node_arena.proofs.KnownRuns as known_runs
+use Rattle.ring_queue.specs.Paths.{Step}
 use Rattle.ring_queue.proofs.Runs.{run_none}
 use Rattle.ring_queue.proofs.Puts.{put_here, put_else}
 use Rattle.ring_queue.proofs.Keeps.{cell}
 use Rattle.ring_queue.proofs.Puts.{got_snoc}
-use Rattle.ring_queue.proofs.Tables.{HoldsWith, one_of}
+use Rattle.ring_queue.proofs.Tables.{HoldsWith}
 
 pub at_end : {A : Type 0} (l : List A) (a b : A) (j : ℕ) → get_elem? (l ++ a ∷ []) j ≡ some b → (get_elem? l j ≡ some b) ⊎ ((j ≡ length l) × (a ≡ b))
 at_end [] a b zero e = inr (refl, some-injective a b e)
@@ -93,8 +96,8 @@ first_ring z words planned wide tail head blank =
     }
 
 -- the rule holds of a new table, in which such words lie
-pub opens : (z : Layout) (words : List ℕ) (ring : Ring z words (new_seat z.slots)) → Run z words (new_seat z.slots) ring.history → Holds z (opening {S = ℕ} words [] (first_view z))
-opens z words ring run = record {
+pub opens : (z : Layout) (words : List ℕ) (ring : Ring z words (new_seat z.slots)) → (run : Run z words (new_seat z.slots) ring.history) → run.trace ≡ [] → Holds z (opening {S = ℕ} words [] (first_view z))
+opens z words ring run none = record {
   seats = new_seat z.slots;
   ring = ring;
   run = run;
@@ -105,6 +108,7 @@ opens z words ring run = record {
   owned = λ j i u v a b. let q = lone (keeper z.slots 1) u j a in none_at i v (ap (λ (y : View). get_elem? (members y) i) q.1 ∙ b);
   kept = λ j m n a. let q = lone (keeper z.slots 1) (keeper m n) j a in let f = q.1 in (q.0, cc, cc);
   undealt = λ n over. refl;
+  there = λ n. inl (record { rest = []; begins = none; others = All-nil (λ (e : Step). e.by ≢ n) });
 }
 
 -- nothing was done in it
@@ -112,7 +116,8 @@ pub opened : (z : Layout) (words : List ℕ) → IsPlanned z → length words �
     → ((i : ℕ) → i < z.slots → get_or words (slot_word i) 0 ≡ 0) → (h : Holds z (opening {S = ℕ} words [] (first_view z))) × (h.ring.history ≡ [])
 unfolding opens first_ring
 opened z words planned wide tail head blank =
-    (opens z words (first_ring z words planned wide tail head blank) (run_none z words (new_seat z.slots) (record { wide = wide; tail = tail; head = head; blank = blank }) (λ n. refl) (λ n. refl)), refl)
+    let run = run_none z words (new_seat z.slots) (record { wide = wide; tail = tail; head = head; blank = blank }) (λ n. refl) (λ n. refl) in
+    (opens z words (first_ring z words planned wide tail head blank) run.0 run.1, refl)
 
 -- a seat is dealt
 pub deals : (z : Layout) (es : List Entry) (id n : ℕ) → Splits {S = ℕ} (HoldsWith z es) id (keeper z.slots n) (dealt_left (keeper z.slots n)) (dealt_right (keeper z.slots n))
@@ -155,6 +160,8 @@ deals z es id n s whole mine =
             (λ (t : (j ≡ l) × (seated (new_seat z.slots n) ≡ keeper p m)). let e = t.1 in cc)
             (at_end (set s.views id (keeper z.slots (n + 1))) (seated (new_seat z.slots n)) (keeper p m) j a);
         undealt = λ p over. h.undealt p (omega (arith, over, dealt));
+        there = λ p. there_kept knowing s.views (set s.views id (keeper z.slots (n + 1)) ++ seated (new_seat z.slots n) ∷ []) h.run.trace
+            (known_runs.deals knowing s.views id (keeper z.slots n) (keeper z.slots (n + 1)) (seated (new_seat z.slots n)) mine refl) p (h.there p);
       },
       whole.1,
     )

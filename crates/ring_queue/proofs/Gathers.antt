@@ -6,12 +6,14 @@ use Rattle.atomic_table.specs.Table.{Joins, Enters}
 use Rattle.atomic_table.proofs.Lists.{at_set, set_else}
 use Rattle.history.specs.declared.operations.Entry.{Entry}
 use Rattle.ring_queue.specs.Plans.{Layout}
-use Rattle.ring_queue.specs.Knowledge.{SeatView, View, keeper, gathered, seated, spent, members}
+use Rattle.ring_queue.specs.Knowledge.{SeatView, View, keeper, gathered, seated, spent, members, knowing}
 use Rattle.ring_queue.specs.Rule.{put, Holds}
 use Rattle.ring_queue.proofs.Puts.{put_here, put_else}
 use Rattle.ring_queue.proofs.Tables.{HoldsWith}
 use Rattle.ring_queue.proofs.Deals.{at_end}
-use Rattle.ring_queue.proofs.Meets.{views_now, no_one}
+use Rattle.ring_queue.proofs.Meets.{views_now}
+use Rattle.node_arena.proofs.KnownRuns.{no_one}
+use Rattle.node_arena.proofs.KnownRuns as known_runs
 
 -- a token that gathers takes in one of a seat
 pub gathers : (z : Layout) (es : List Entry) (id other : ℕ) (vs : List SeatView) (w : SeatView) → Joins {S = ℕ} (HoldsWith z es) id (gathered vs) other (seated w) (gathered (vs ++ w ∷ [])) spent
@@ -42,7 +44,8 @@ gathers z es id other vs w s whole at_id ne at_other =
     (λ (q : (j ≡ id) × (all ≡ keeper m n)). let e = q.1 in cc)
     (λ (q : (j ≢ id) × (get_elem? s.views j ≡ some (keeper m n))). h.kept j m n q.1)
     (at_set s.views id j all (keeper m n) t.1))
-    (at_set (set s.views id all) other j spent (keeper m n) a)) in
+    (at_set (set s.views id all) other j spent (keeper m n) a))
+    (known_runs.gathers knowing s.views id other (gathered vs) all spent w at_id ne there refl) in
     (q.0, q.1 ∙ whole.1)
 
 -- a new token gathers
@@ -57,5 +60,6 @@ enters_with key es slots word s whole empty fit =
     (λ j m n a. ⊎_elim
     (λ (t : get_elem? s.views j ≡ some (keeper m n)). h.kept j m n t)
     (λ (t : (j ≡ length s.views) × (gathered [] ≡ keeper m n)). let e = t.1 in cc)
-    (at_end s.views (gathered []) (keeper m n) j a)) in
+    (at_end s.views (gathered []) (keeper m n) j a))
+    (known_runs.comes knowing s.views (gathered [])) in
     (gathered [], (q.0, q.1 ∙ whole.1), refl)

@@ -23,7 +23,7 @@ use Rattle.ring_queue.specs.Meets.{learned}
 use Rattle.ring_queue.specs.Paths.{Try}
 use Rattle.ring_queue.proofs.Tables.{HoldsWith, its_seat, one_seat}
 use Rattle.ring_queue.proofs.Calls.{Does}
-use Rattle.ring_queue.proofs.Runs.{Ran, run_on}
+use Rattle.ring_queue.proofs.Runs.{Made, run_on, knew_of}
 use Rattle.ring_queue.proofs.Deals.{at_end}
 use Rattle.ring_queue.proofs.Meets.{meets_now}
 use Rattle.ring_queue.proofs.Carrying.{allows_values, knows_first}
@@ -178,7 +178,7 @@ module _ {T : Type 0} (key : Layout) (slots id : ℕ) (v u : SeatView) (ds : Lis
       go false base c =
           let q = meets_now key (plain_state m s) base id v u (at_map plain_of s.views id pair mine) in
           let es : List Entry = base.ring.history in
-          let w' : Beside T = record { plain = paired (learned es v) (learned es u); deeds = ds; hand = hd; others = []; tries = ts } in
+          let w' : Beside T = record { plain = paired (learned es base.run.trace v) (learned es base.run.trace u); deeds = ds; hand = hd; others = []; tries = ts } in
           let n = moved key es (take m s.words) (take m words) (set (map plain_of s.views) id w'.plain) (map plain_of (set s.views id w'))
           (ap (take m) same_words) (map_set plain_of s.views id w') q.0 in
           (w', keeps, tt, record { base = n.0; values = tt }, (q.1, refl, refl, ∣ tt ∣₁, ∣ tt ∣₁, refl))
@@ -186,7 +186,7 @@ module _ {T : Type 0} (key : Layout) (slots id : ℕ) (v u : SeatView) (ds : Lis
           let q = meets_now key (plain_state m s) base id v u (at_map plain_of s.views id pair mine) in
           let es : List Entry = base.ring.history in
           let all : List (Deed T) = c.rides.deeds in
-          let w' : Beside T = record { plain = paired (learned es v) (learned es u); deeds = all; hand = hd; others = []; tries = ts } in
+          let w' : Beside T = record { plain = paired (learned es base.run.trace v) (learned es base.run.trace u); deeds = all; hand = hd; others = []; tries = ts } in
           let n = moved key es (take m s.words) (take m words) (set (map plain_of s.views) id w'.plain) (map plain_of (set s.views id w'))
           (ap (take m) same_words) (map_set plain_of s.views id w') q.0 in
           let new : Begins all w' = record {
@@ -221,7 +221,7 @@ module _ {T : Type 0} (key : Layout) (slots id : ℕ) (v u : SeatView) (ds : Lis
 -- what a line asks of a table, whether it carries values or not
 module _ {T : Type 0} (z : Layout) (slots id p : ℕ) (v : SeatView) (ds : List (Deed T)) (hd : maybe.Option ℕ) (os : List (List (Deed T))) (ts : List Try)
     (held : List (ℕ × Option T)) (f : ℕ → ℕ) (all : List Entry) (fact : SeatView → ℕ → SeatView → Type 0) (line : Does z p v f all fact)
-    (within : p < words_of z) (ran : (n : ℕ) (v' : SeatView) → fact v n v' → Ran z p n (f n) v v') where
+    (within : p < words_of z) (ran : (n : ℕ) (v' : SeatView) → fact v n v' → Made z p n (f n) v v') where
   abbrev before : Me (Option T) (Beside T)
   before = (record { plain = seated v; deeds = ds; hand = hd; others = os; tries = ts }, held)
 
@@ -244,13 +244,15 @@ module _ {T : Type 0} (z : Layout) (slots id p : ℕ) (v : SeatView) (ds : List 
       go false sized ready base c =
           let mine0 = at_map plain_of s.views id before.0 mine in
           let same : get_or (take m s.words) p 0 ≡ get_or s.words p 0 = get_or-take m s.words p 0 within in
-          let q = line (take m s.words) base.seats base.ring (its_seat z (plain_state m s) base id v mine0) in
+          let its = its_seat z (plain_state m s) base id v mine0 in
+          let q = line (take m s.words) base.seats base.ring its base.run.trace base.run.adds (knew_of z (take m s.words) base.seats base.ring.history v its base.run) in
+          let made = ran (get_or (take m s.words) p 0) q.0 q.4 in
+          let runs = run_on z (take m s.words) base.seats base.ring.history v q.0 all q.2.history p (f (get_or (take m s.words) p 0)) its base.run q.3 made in
           let w' : Beside T = record { plain = seated q.0; deeds = ds; hand = hd; others = os; tries = ts } in
           let words = set s.words p (f (get_or s.words p 0)) in
           let n = moved z q.2.history (set (take m s.words) p (f (get_or (take m s.words) p 0))) (take m words) (set (map plain_of s.views) id (seated q.0)) (map plain_of (set s.views id w'))
           (take-set-lt m s.words p (f (get_or s.words p 0)) within ∙ ap (λ (k : ℕ). set (take m s.words) p (f k)) (sym same)) (map_set plain_of s.views id w') (
-            one_seat z (plain_state m s) base id v mine0 q.0 (set (take m s.words) p (f (get_or (take m s.words) p 0))) q.1 q.2
-                (run_on z (take m s.words) base.seats base.ring.history v q.0 all q.2.history p (f (get_or (take m s.words) p 0)) (its_seat z (plain_state m s) base id v mine0) base.run q.3 (ran (get_or (take m s.words) p 0) q.0 q.4)),
+            one_seat z (plain_state m s) base id v mine0 q.0 (set (take m s.words) p (f (get_or (take m s.words) p 0))) q.1 q.2 runs.0 made.event runs.1,
             refl,
           ) in (
             w',

@@ -13,7 +13,7 @@ use Rattle.history.specs.Answers.{SeesMore, FoundShut, FoundEmpty, FoundShutEmpt
 use Rattle.history.proofs.Sums.{pushes-Leads}
 use Rattle.ring_queue.specs.Words.{face, parity, slot_word, tail_word}
 use Rattle.ring_queue.specs.Plans.{Layout}
-use Rattle.ring_queue.specs.Paths.{C1, P2, P4, P5, Event, reading}
+use Rattle.ring_queue.specs.Paths.{C1, P2, P4, P5, Event, reading, Step, Ran, RunsOn, accessed, added_by}
 use Rattle.ring_queue.specs.Rows.{head_line, finds_filled, finds_late, finds_ahead, finds_next, finds_no_next}
 use Rattle.ring_queue.specs.Rows.{reads_tail as row_reads_tail, reads_head as row_reads_head, finds_end as row_end}
 use Rattle.ring_queue.specs.Knowledge.{Stage, rests, found, unfilled, head_due, SeatView, known_by}
@@ -24,15 +24,23 @@ use Rattle.ring_queue.proofs.Puts.{same_or_not}
 use Rattle.ring_queue.proofs.Histories.{noted_empty, noted_shut, all_one_note}
 use Rattle.ring_queue.proofs.Keeps.{Became, some_slot, head_below, cell}
 use Rattle.ring_queue.proofs.Puts.{got_snoc}
-use Rattle.ring_queue.proofs.Tables.{Extends, adds_none, it_fits, notes_stay, saw_all, looks, learns}
+use Rattle.ring_queue.proofs.Tables.{Extends, adds_none, it_fits, notes_stay, saw_all, looks, learns, runs_on, sees_on}
 
-module _ (z : Layout) (words : List ℕ) (seats : ℕ → SeatView) (r : Ring z words seats) (v : SeatView) (is : seats v.number ≡ v) (rested : Rests v.stage) where
+module _ (z : Layout) (words : List ℕ) (seats : ℕ → SeatView) (r : Ring z words seats) (v : SeatView) (is : seats v.number ≡ v)
+    (run : List Step) (whole : r.history ≡ added_by run) (knew : Ran run v.number v.ran) (rested : Rests v.stage) where
   abbrev fit : SeatOk z r.head r.tail r.log r.cells r.history v.number v
   fit = it_fits z words seats r v is
 
+  on : (e : Event) → RunsOn v.number v.ran e (accessed run v.number e)
+  on e = runs_on run v.number v.ran knew e
+
+  -- all that took its effect is seen with an access that adds nothing
+  saw : (e : Event) → e.adds ≡ [] → r.history ≡ added_by (accessed run v.number e)
+  saw e none = sym (append-nil r.history) ∙ (ap (λ es. r.history ++ es) (sym none) ∙ sees_on run r.history whole v.number e)
+
   -- what the seat knows when it has seen the whole history
   abbrev pub after : Event → Stage → (head tail : ℕ) → (notes : List ℕ) → SeatView
-  after ev st head tail notes = record { number = v.number; stage = st; head = head; tail = tail; seen = r.history; mine = v.mine; notes = notes; path = v.path ++ ev ∷ [] }
+  after ev st head tail notes = record { number = v.number; stage = st; head = head; tail = tail; seen = r.history; mine = v.mine; notes = notes; ran = accessed run v.number ev }
 
   sees : (ev : Event) (st : Stage) (head tail : ℕ) → SeesMore (known_by v) (known_by (after ev st head tail v.notes))
   sees ev st head tail = record { number = refl; between = fit.rest; seen = fit.begins; mine = refl; notes = refl }
@@ -70,7 +78,7 @@ module _ (z : Layout) (words : List ℕ) (seats : ℕ → SeatView) (r : Ring z 
   tail_counts = let a = r.counted in let c = r.taken in let d = pushes-Leads r.history r.shut r.values r.leads in omega (arith, a, c, d)
 
   abbrev Line : (SeatView → ℕ → SeatView → Type 0) → ℕ → Type 0
-  Line fact n = (v' : SeatView) × (v'.number ≡ v.number) × (r' : Ring z words (put seats v.number v')) × Extends [] r.history v r'.history v' × fact v n v'
+  Line fact n = (v' : SeatView) × (v'.number ≡ v.number) × (r' : Ring z words (put seats v.number v')) × Extends run [] r.history v r'.history v' × fact v n v'
 
   -- a line that changes no word: its seat has then seen the whole history, and is told this
   line : (fact : SeatView → ℕ → SeatView → Type 0) (k : ℕ) (ev : Event) (st : Stage) (head tail : ℕ) (notes : List ℕ) → All (IsNoted r.history) notes → head ≤ r.head → tail ≤ r.tail
@@ -78,7 +86,7 @@ module _ (z : Layout) (words : List ℕ) (seats : ℕ → SeatView) (r : Ring z 
   line fact k ev st head tail notes noted behind under stands tells =
       let v' : SeatView = after ev st head tail notes in
       let made : Became z words (put seats v.number v') r.history = looks z words seats r v is v' rested (saw_all z words seats r v is v' refl refl refl noted behind under stands) in
-      (v', refl, made.0, adds_none [] r.history v made.0.history v' made.1 refl refl, tells (learns z words seats v v' refl made.0))
+      (v', refl, made.0, adds_none run [] r.history v made.0.history v' ev made.1 refl refl refl, tells (learns z words seats v v' refl made.0))
 
   -- what a load of Tail finds
   abbrev n : ℕ
@@ -104,7 +112,7 @@ module _ (z : Layout) (words : List ℕ) (seats : ℕ → SeatView) (r : Ring z 
           let is_n : n ≡ r.tail + 2 ^ 62 = r.tail_is ∙ ap (tail_word r.tail) e in
           line (TailFound z) n ev rests v.head (n % 2 ^ 62) one_note (notes_and_shut (shut_leads e)) fit.behind (let t = tail_is in omega (arith, t)) tt (λ learned. record {
             learns = learned;
-            went = (refl, sym (append-nil v.mine), row_reads_tail n rested (let t = tail_is in let u = fit.under in omega (arith, t, u)) refl refl);
+            went = (on (reading C1 0 n), sym (append-nil v.mine), row_reads_tail n rested (let t = tail_is in let u = fit.under in omega (arith, t, u)) refl refl, λ _. saw (reading C1 0 n) refl);
             head = refl;
             tail = refl;
             more = let t = tail_is in let u = fit.under in omega (arith, t, u);
@@ -117,7 +125,7 @@ module _ (z : Layout) (words : List ℕ) (seats : ℕ → SeatView) (r : Ring z 
           let is_n : n ≡ r.tail = r.tail_is ∙ ap (tail_word r.tail) e in
           line (TailFound z) n ev rests v.head (n % 2 ^ 62) v.notes notes_stay' fit.behind (let t = tail_is in omega (arith, t)) tt (λ learned. record {
             learns = learned;
-            went = (refl, sym (append-nil v.mine), row_reads_tail n rested (let t = tail_is in let u = fit.under in omega (arith, t, u)) refl refl);
+            went = (on (reading C1 0 n), sym (append-nil v.mine), row_reads_tail n rested (let t = tail_is in let u = fit.under in omega (arith, t, u)) refl refl, λ _. saw (reading C1 0 n) refl);
             head = refl;
             tail = refl;
             more = let t = tail_is in let u = fit.under in omega (arith, t, u);
@@ -147,7 +155,8 @@ module _ (z : Layout) (words : List ℕ) (seats : ℕ → SeatView) (r : Ring z 
       let e = r.head_is in
       line (HeadFound z) (get_or words 16 0) ev rests r.head v.tail v.notes notes_stay' (omega arith) fit.under tt (λ learned. record {
         learns = learned;
-        went = (refl, sym (append-nil v.mine), row_reads_head (get_or words 16 0) rested (let b = fit.behind in omega (arith, b, e)) refl (λ i. record { at = rests; head = sym r.head_is i; tail = v.tail }));
+        went = (on ev, sym (append-nil v.mine),
+            row_reads_head (get_or words 16 0) rested (let b = fit.behind in omega (arith, b, e)) refl (λ i. record { at = rests; head = sym r.head_is i; tail = v.tail }), λ _. saw ev refl);
         head = sym r.head_is;
         more = let b = fit.behind in omega (arith, b, e);
         tail = refl;
@@ -211,7 +220,7 @@ module _ (z : Layout) (words : List ℕ) (seats : ℕ → SeatView) (r : Ring z 
       line (FrontFound z) (front_word v.head) (reading P2 (slot_word (v.head % z.slots)) (front_word v.head)) (found (w ∷ [])) v.head v.tail v.notes notes_stay' fit.behind fit.under
       (λ here. one_found here same) (λ learned. record {
         learns = learned;
-        went = (refl, sym (append-nil v.mine), finds_filled w rested same refl refl);
+        went = (on (reading P2 (slot_word (v.head % z.slots)) w), sym (append-nil v.mine), finds_filled w rested same refl refl, λ _. saw (reading P2 (slot_word (v.head % z.slots)) w) refl);
         head = refl;
         tail = refl;
         rests = tt;
@@ -224,7 +233,8 @@ module _ (z : Layout) (words : List ℕ) (seats : ℕ → SeatView) (r : Ring z 
       line (FrontFound z) (front_word v.head) (reading P2 (slot_word (v.head % z.slots)) (front_word v.head)) unfilled v.head v.tail v.notes notes_stay' fit.behind fit.under tt (λ learned. record {
         learns = learned;
         goes_on = λ _. refl;
-        went = (refl, sym (append-nil v.mine), finds_late (front_word v.head) rested apart refl refl);
+        went = (on (reading P2 (slot_word (v.head % z.slots)) (front_word v.head)), sym (append-nil v.mine),
+            finds_late (front_word v.head) rested apart refl refl, λ _. saw (reading P2 (slot_word (v.head % z.slots)) (front_word v.head)) refl);
         head = refl;
         tail = refl;
         rests = tt;
@@ -249,7 +259,7 @@ module _ (z : Layout) (words : List ℕ) (seats : ℕ → SeatView) (r : Ring z 
       onward apart not_end ahead =
           line (EndFound z) n (reading P4 0 n) head_due v.head v.tail v.notes notes_stay' fit.behind fit.under tt (λ learned. record {
             learns = learned;
-            went = (refl, sym (append-nil v.mine), finds_ahead n due apart not_end refl refl);
+            went = (on (reading P4 0 n), sym (append-nil v.mine), finds_ahead n due apart not_end refl refl, λ _. saw (reading P4 0 n) refl);
             head = refl;
             tail = refl;
             rests = tt;
@@ -270,7 +280,7 @@ module _ (z : Layout) (words : List ℕ) (seats : ℕ → SeatView) (r : Ring z 
           let ends : Leads r.history true [] = subst (λ (vs : List Taken). Leads r.history true vs) (none_left (omega (arith, is_n, same))) (subst (λ b. Leads r.history b r.values) f r.leads) in
           line (EndFound z) n (reading P4 0 n) rests v.head v.tail one_note (notes_and_shut ([], ends)) fit.behind fit.under tt (λ learned. record {
             learns = learned;
-            went = (refl, sym (append-nil v.mine), row_end n due (inr same) refl refl);
+            went = (on (reading P4 0 n), sym (append-nil v.mine), row_end n due (inr same) refl refl, λ _. saw (reading P4 0 n) refl);
             head = refl;
             tail = refl;
             rests = tt;
@@ -288,7 +298,7 @@ module _ (z : Layout) (words : List ℕ) (seats : ℕ → SeatView) (r : Ring z 
           let ends : LeadsTo r.history [] = subst (λ (vs : List Taken). Leads r.history false vs) (none_left (omega (arith, is_n, same))) (subst (λ b. Leads r.history b r.values) f r.leads) in
           line (EndFound z) n (reading P4 0 n) rests v.head v.tail one_note (notes_and_empty ends) fit.behind fit.under tt (λ learned. record {
             learns = learned;
-            went = (refl, sym (append-nil v.mine), row_end n due (inl same) refl refl);
+            went = (on (reading P4 0 n), sym (append-nil v.mine), row_end n due (inl same) refl refl, λ _. saw (reading P4 0 n) refl);
             head = refl;
             tail = refl;
             rests = tt;
@@ -316,7 +326,7 @@ module _ (z : Layout) (words : List ℕ) (seats : ℕ → SeatView) (r : Ring z 
   sees_tail =
       line (TailSeen z) n (reading C1 0 n) rests v.head (n % 2 ^ 62) v.notes notes_stay' fit.behind (let t = tail_is in omega (arith, t)) tt (λ learned. record {
         learns = learned;
-        went = (refl, sym (append-nil v.mine), row_reads_tail n rested (let t = tail_is in let u = fit.under in omega (arith, t, u)) refl refl);
+        went = (on (reading C1 0 n), sym (append-nil v.mine), row_reads_tail n rested (let t = tail_is in let u = fit.under in omega (arith, t, u)) refl refl, λ _. saw (reading C1 0 n) refl);
         head = refl;
         tail = refl;
         rests = tt;
@@ -336,7 +346,7 @@ module _ (z : Layout) (words : List ℕ) (seats : ℕ → SeatView) (r : Ring z 
       subst (λ (y : ℕ × ℕ). IsFilled z.slots r.tail r.log r.cells y.0 y.1) (λ k. (e k, new.1 k)) (place_filled (v.head + length ws) (omega (arith, here)) (omega (arith, here, few)) same))
       (got_snoc ws w u i got)) (λ learned. record {
         learns = learned;
-        went = (refl, sym (append-nil v.mine), finds_next w ws at same refl refl);
+        went = (on ev, sym (append-nil v.mine), finds_next w ws at same refl refl, λ _. saw ev refl);
         head = refl;
         tail = refl;
         rests = tt;
@@ -348,7 +358,7 @@ module _ (z : Layout) (words : List ℕ) (seats : ℕ → SeatView) (r : Ring z 
       line (NextFound z ws) (front_word (v.head + length ws)) ev (found ws) v.head v.tail v.notes notes_stay' fit.behind fit.under
       (subst (Stands z.slots r.head r.tail r.log r.cells v) at fit.stage) (λ learned. record {
         learns = learned;
-        went = (refl, sym (append-nil v.mine), finds_no_next w ws at apart refl refl);
+        went = (on ev, sym (append-nil v.mine), finds_no_next w ws at apart refl refl, λ _. saw ev refl);
         head = refl;
         tail = refl;
         rests = tt;

@@ -1,28 +1,32 @@
 -- Seats that meet.
-use Rattle.std.proofs.Common.{◌≡◌, ◌≢◌, ◌⊎◌, ℕ, ◌^◌, ◌<◌, List, [], ◌∷◌, ◌++◌, zero, suc, length, set, sym, refl, ap, ◌∙◌, subst, ⊎_elim, inl, inr, arith}
-use mathlib.Core.Option.{some, some-injective, some-ne-none}
+use Rattle.std.proofs.Common.{◌≡◌, ◌≢◌, ◌⊎◌, ℕ, ◌^◌, ◌<◌, List, [], ◌∷◌, ◌++◌, length, set, sym, refl, ap, ◌∙◌, subst, ⊎_elim, arith}
+use mathlib.Core.Option.{some}
 use lib.ListN.{get_elem?}
 use Rattle.atomic_table.specs.Table.{State, Splits, Joins}
 use Rattle.atomic_table.proofs.Lists.{at_set, set_else, set_again}
 use Rattle.history.specs.declared.operations.Entry.{Entry}
 use Rattle.history.specs.Answers.{SeesMore}
 use Rattle.ring_queue.specs.Plans.{Layout}
-use Rattle.ring_queue.specs.Knowledge.{Stage, rests, claimed, found, unfilled, head_due, SeatView, View, keeper, seated, paired, spent, members, known_by}
-use Rattle.ring_queue.specs.Rule.{HasClaimed, Stands, SeatOk, put, Ring, Holds}
+use Rattle.ring_queue.specs.Knowledge.{Stage, rests, claimed, found, unfilled, head_due, SeatView, View, keeper, seated, paired, spent, members, knowing, known_by}
+use Rattle.ring_queue.specs.Rule.{HasClaimed, Stands, SeatOk, put, Ring, Run, Holds}
 use Rattle.ring_queue.specs.Meets.{learned, Met}
 use Rattle.ring_queue.proofs.Keeps.{renewed}
 use Rattle.ring_queue.proofs.Puts.{put_here, put_else, put_each}
-use Rattle.ring_queue.proofs.Tables.{HoldsWith, one_of, it_fits, it_is_sound, notes_stay, saw_all, places_below}
+use Rattle.ring_queue.proofs.Tables.{HoldsWith, it_fits, it_is_sound, notes_stay, saw_all, places_below}
 use Rattle.ring_queue.proofs.Deals.{at_end}
 use Rattle.ring_queue.specs.Rows.{regs}
-use Rattle.ring_queue.proofs.Runs.{run_same}
+use Rattle.ring_queue.specs.Paths.{Step, Ran}
+use Rattle.node_arena.specs.KnownRuns.{Keeps, IsThere}
+use Rattle.node_arena.proofs.KnownRuns.{one_of, two_of, no_one, there_kept}
+use Rattle.node_arena.proofs.KnownRuns as known_runs
+use Rattle.ring_queue.proofs.Runs.{run_same, knew_of, knows_all}
 
 -- the views change, and each seat that they speak of keeps its place in `own`
 pub views_now : (z : Layout) (s : State ℕ View) (h : Holds z s) (views : List View) (own : ℕ → ℕ × ℕ)
     → ((j i : ℕ) (u : View) (o : SeatView) → get_elem? views j ≡ some u → get_elem? (members u) i ≡ some o → (h.seats o.number ≡ o) × (own o.number ≡ (j, i)) × (o.number < h.dealt))
     → ((j m n : ℕ) → get_elem? views j ≡ some (keeper m n) → (j ≡ h.home) × (n ≡ h.dealt) × (m ≡ z.slots))
-    → HoldsWith z h.ring.history record { words = s.words; homes = s.homes; views = views }
-views_now z s h views own all some_keeper = (
+    → Keeps knowing s.views views → HoldsWith z h.ring.history record { words = s.words; homes = s.homes; views = views }
+views_now z s h views own all some_keeper kept = (
   record {
     seats = h.seats;
     ring = h.ring;
@@ -34,16 +38,10 @@ views_now z s h views own all some_keeper = (
     owned = λ j i u o a b. let t = all j i u o a b in (t.1, t.2);
     kept = some_keeper;
     undealt = h.undealt;
+    there = λ n. there_kept knowing s.views views h.run.trace kept n (h.there n);
   },
   refl,
 )
-
-two_of : (v w o : SeatView) (i : ℕ) → get_elem? (v ∷ w ∷ []) i ≡ some o → ((i ≡ 0) × (v ≡ o)) ⊎ ((i ≡ 1) × (w ≡ o))
-two_of v w o zero e = inl (refl, some-injective v o e)
-two_of v w o (suc i) e = let t = one_of w o i e in inr (ap suc t.0, t.1)
-
-pub no_one : {X : Type 0} (o : SeatView) (i : ℕ) → get_elem? {A = SeatView} [] i ≡ some o → X
-no_one o i e = absurd (some-ne-none o (sym e))
 
 -- two seats become one
 pub pairs : (z : Layout) (es : List Entry) (id other : ℕ) (v w : SeatView) → Joins {S = ℕ} (HoldsWith z es) id (seated v) other (seated w) (paired v w) spent
@@ -73,7 +71,8 @@ pairs z es id other v w s whole at_id ne at_other =
     (λ (t : (j ≢ other) × (get_elem? (set s.views id (paired v w)) j ≡ some (keeper m n))). ⊎_elim (λ (q : (j ≡ id) × (paired v w ≡ keeper m n)). let e = q.1 in cc)
     (λ (q : (j ≢ id) × (get_elem? s.views j ≡ some (keeper m n))). h.kept j m n q.1)
     (at_set s.views id j (paired v w) (keeper m n) t.1))
-    (at_set (set s.views id (paired v w)) other j spent (keeper m n) a)) in
+    (at_set (set s.views id (paired v w)) other j spent (keeper m n) a))
+    (known_runs.pairs knowing s.views id other v w (paired v w) spent at_id ne there refl) in
     (q.0, q.1 ∙ whole.1)
 
 -- one seat becomes two
@@ -104,7 +103,8 @@ parts z es id v w s whole at_id =
     (λ (q : (j ≢ id) × (get_elem? s.views j ≡ some (keeper m n))). h.kept j m n q.1)
     (at_set s.views id j (seated v) (keeper m n) t))
     (λ (t : (j ≡ l) × (seated w ≡ keeper m n)). let e = t.1 in cc)
-    (at_end (set s.views id (seated v)) (seated w) (keeper m n) j a)) in
+    (at_end (set s.views id (seated v)) (seated w) (keeper m n) j a))
+    (known_runs.parts knowing s.views id v w (paired v w) at_id refl) in
     (q.0, q.1 ∙ whole.1)
 
 -- a spare seat, which knows nothing
@@ -121,19 +121,21 @@ spares z es id v s whole at_id =
     (λ j m n a. ⊎_elim
     (λ (t : get_elem? (set s.views id (seated v)) j ≡ some (keeper m n)). h.kept j m n (subst (λ (vs : List View). get_elem? vs j ≡ some (keeper m n)) same t))
     (λ (t : (j ≡ l) × (spent ≡ keeper m n)). let e = t.1 in cc)
-    (at_end (set s.views id (seated v)) spent (keeper m n) j a)) in
+    (at_end (set s.views id (seated v)) spent (keeper m n) j a))
+    (subst (λ (vs : List View). Keeps knowing s.views (vs ++ spent ∷ [])) (sym same) (known_runs.comes knowing s.views spent)) in
     (q.0, q.1 ∙ whole.1)
 
-module _ (z : Layout) (words : List ℕ) (seats : ℕ → SeatView) (r : Ring z words seats) (v w : SeatView) (differ : w.number ≢ v.number) (is_v : seats v.number ≡ v) (is_w : seats w.number ≡ w) where
+module _ (z : Layout) (words : List ℕ) (seats : ℕ → SeatView) (r : Ring z words seats) (v w : SeatView) (differ : w.number ≢ v.number) (is_v : seats v.number ≡ v) (is_w : seats w.number ≡ w)
+    (run : Run z words seats r.history) where
   abbrev both : ℕ → SeatView
-  both = put (put seats v.number (learned r.history v)) w.number (learned r.history w)
+  both = put (put seats v.number (learned r.history run.trace v)) w.number (learned r.history run.trace w)
 
-  pub fits_still : (u : SeatView) → seats u.number ≡ u → SeatOk z r.head r.tail r.log r.cells r.history u.number (learned r.history u)
+  pub fits_still : (u : SeatView) → seats u.number ≡ u → SeatOk z r.head r.tail r.log r.cells r.history u.number (learned r.history run.trace u)
   fits_still u is =
       let f = it_fits z words seats r u is in
-      saw_all z words seats r u is (learned r.history u) refl refl refl (notes_stay z words seats r u is) f.behind f.under (go u.stage f.stage)
+      saw_all z words seats r u is (learned r.history run.trace u) refl refl refl (notes_stay z words seats r u is) f.behind f.under (go u.stage f.stage)
     where
-      go : (st : Stage) → Stands z.slots r.head r.tail r.log r.cells u st → Stands z.slots r.head r.tail r.log r.cells (learned r.history u) st
+      go : (st : Stage) → Stands z.slots r.head r.tail r.log r.cells u st → Stands z.slots r.head r.tail r.log r.cells (learned r.history run.trace u) st
       go rests k = k
       go (claimed p xs) k = k
       go (found ws) k = k
@@ -144,42 +146,47 @@ module _ (z : Layout) (words : List ℕ) (seats : ℕ → SeatView) (r : Ring z 
   abbrev both_look : Ring z words both
   both_look =
       renewed z words seats r both
-      (λ k. put_each (put seats v.number (learned r.history v)) w.number k (learned r.history w) (SeatOk z r.head r.tail r.log r.cells r.history) (fits_still w is_w)
-      (λ _. put_each seats v.number k (learned r.history v) (SeatOk z r.head r.tail r.log r.cells r.history) (fits_still v is_v) (λ _. r.each_seat k)))
-      (λ k p x e. put_each (put seats v.number (learned r.history v)) w.number k (learned r.history w) (λ q (u : SeatView). HasClaimed (seats q).stage p x → HasClaimed u.stage p x)
+      (λ k. put_each (put seats v.number (learned r.history run.trace v)) w.number k (learned r.history run.trace w) (SeatOk z r.head r.tail r.log r.cells r.history) (fits_still w is_w)
+      (λ _. put_each seats v.number k (learned r.history run.trace v) (SeatOk z r.head r.tail r.log r.cells r.history) (fits_still v is_v) (λ _. r.each_seat k)))
+      (λ k p x e. put_each (put seats v.number (learned r.history run.trace v)) w.number k (learned r.history run.trace w) (λ q (u : SeatView). HasClaimed (seats q).stage p x → HasClaimed u.stage p x)
       (subst (λ (u : SeatView). HasClaimed u.stage p x) is_w)
-      (λ _. put_each seats v.number k (learned r.history v) (λ q (u : SeatView). HasClaimed (seats q).stage p x → HasClaimed u.stage p x)
+      (λ _. put_each seats v.number k (learned r.history run.trace v) (λ q (u : SeatView). HasClaimed (seats q).stage p x → HasClaimed u.stage p x)
       (subst (λ (u : SeatView). HasClaimed u.stage p x) is_v) (λ _ h. h)) e)
 
-  first_is : both v.number ≡ learned r.history v
-  first_is = put_else (put seats v.number (learned r.history v)) w.number v.number (learned r.history w) (λ e. differ (sym e)) ∙ put_here seats v.number v.number (learned r.history v) refl
+  first_is : both v.number ≡ learned r.history run.trace v
+  first_is = put_else (put seats v.number (learned r.history run.trace v)) w.number v.number (learned r.history run.trace w) (λ e. differ (sym e))
+      ∙ put_here seats v.number v.number (learned r.history run.trace v) refl
 
-  second_is : both w.number ≡ learned r.history w
-  second_is = put_here (put seats v.number (learned r.history v)) w.number w.number (learned r.history w) refl
+  second_is : both w.number ≡ learned r.history run.trace w
+  second_is = put_here (put seats v.number (learned r.history run.trace v)) w.number w.number (learned r.history run.trace w) refl
 
-  sees_all : (u : SeatView) → seats u.number ≡ u → SeesMore (known_by u) (known_by (learned r.history u))
+  sees_all : (u : SeatView) → seats u.number ≡ u → SeesMore (known_by u) (known_by (learned r.history run.trace u))
   sees_all u is = let f = it_fits z words seats r u is in record { number = refl; between = f.rest; seen = f.begins; mine = refl; notes = refl }
 
   below : (u : SeatView) (k : ℕ) → both k ≡ u → (u.head < 2 ^ 62) × (u.tail < 2 ^ 62)
   below u k is = subst (λ (u : SeatView). (u.head < 2 ^ 62) × (u.tail < 2 ^ 62)) is (places_below z words both both_look k)
 
-  pub met : Met z v w (paired (learned r.history v) (learned r.history w), [])
+  pub met : Met z v w (paired (learned r.history run.trace v) (learned r.history run.trace w), [])
   met = record {
     all = r.history;
+    run = run.trace;
+    whole = run.adds;
     seats = refl;
+    first_run = knew_of z words seats r.history v is_v run;
+    second_run = knew_of z words seats r.history w is_w run;
     first = sees_all v is_v;
     second = sees_all w is_w;
     first_learns = record {
       number = refl;
-      below = (below (learned r.history v) v.number first_is).0;
-      tail_below = (below (learned r.history v) v.number first_is).1;
-      sound = it_is_sound z words both both_look (learned r.history v) first_is;
+      below = (below (learned r.history run.trace v) v.number first_is).0;
+      tail_below = (below (learned r.history run.trace v) v.number first_is).1;
+      sound = it_is_sound z words both both_look (learned r.history run.trace v) first_is;
     };
     second_learns = record {
       number = refl;
-      below = (below (learned r.history w) w.number second_is).0;
-      tail_below = (below (learned r.history w) w.number second_is).1;
-      sound = it_is_sound z words both both_look (learned r.history w) second_is;
+      below = (below (learned r.history run.trace w) w.number second_is).0;
+      tail_below = (below (learned r.history run.trace w) w.number second_is).1;
+      sound = it_is_sound z words both both_look (learned r.history run.trace w) second_is;
     };
   }
 
@@ -189,9 +196,9 @@ pub meets_now : (z : Layout) (s : State ℕ View) (h : Holds z s) (id : ℕ) (v 
       words = s.words;
       homes = s.homes;
       views =
-          set s.views id (paired (learned h.ring.history v) (learned h.ring.history w));
+          set s.views id (paired (learned h.ring.history h.run.trace v) (learned h.ring.history h.run.trace w));
     }
-    × Met z v w (paired (learned h.ring.history v) (learned h.ring.history w), [])
+    × Met z v w (paired (learned h.ring.history h.run.trace v) (learned h.ring.history h.run.trace w), [])
 meets_now z s h id v w at_id =
     let r = h.ring in
     let is_v : h.seats v.number ≡ v = h.fits id 0 (paired v w) v at_id refl in
@@ -199,12 +206,19 @@ meets_now z s h id v w at_id =
     let ov = h.owned id 0 (paired v w) v at_id refl in
     let ow = h.owned id 1 (paired v w) w at_id refl in
     let differ : w.number ≢ v.number = λ e. let f = ap (λ (y : ℕ × ℕ). y.1) (sym ow.0 ∙ (ap h.owner e ∙ ov.0)) in omega arith in
-    let v' = learned r.history v in
-    let w' = learned r.history w in
-    let seats' : ℕ → SeatView = both z s.words h.seats r v w differ is_v is_w in
+    let v' = learned r.history h.run.trace v in
+    let w' = learned r.history h.run.trace w in
+    let seats' : ℕ → SeatView = both z s.words h.seats r v w differ is_v is_w h.run in
+    let knew_v : Ran h.run.trace v.number v.ran = knew_of z s.words h.seats r.history v is_v h.run in
+    let knew_w : Ran h.run.trace w.number w.ran = knew_of z s.words h.seats r.history w is_w h.run in
+    let runs = run_same z s.words h.seats seats' r.history h.run
+    (λ n. put_each (put h.seats v.number v') w.number n w' (λ k (u : SeatView). regs u ≡ regs (h.seats k)) (ap regs (sym is_w))
+    (λ _. put_each h.seats v.number n v' (λ k (u : SeatView). regs u ≡ regs (h.seats k)) (ap regs (sym is_v)) (λ _. refl)))
+    (λ n. put_each (put h.seats v.number v') w.number n w' (λ k (u : SeatView). Ran h.run.trace k u.ran) (knows_all w.number h.run.trace)
+    (λ _. put_each h.seats v.number n v' (λ k (u : SeatView). Ran h.run.trace k u.ran) (knows_all v.number h.run.trace) (λ _. h.run.ran n))) in
     let P : ℕ → ℕ → SeatView → Type 0 = λ j i o. (seats' o.number ≡ o) × (h.owner o.number ≡ (j, i)) × (o.number < h.dealt) in
-    let first : P id 0 v' = (first_is z s.words h.seats r v w differ is_v is_w, ov.0, ov.1) in
-    let second : P id 1 w' = (second_is z s.words h.seats r v w differ is_v is_w, ow.0, ow.1) in
+    let first : P id 0 v' = (first_is z s.words h.seats r v w differ is_v is_w h.run, ov.0, ov.1) in
+    let second : P id 1 w' = (second_is z s.words h.seats r v w differ is_v is_w h.run, ow.0, ow.1) in
     let all : (j i : ℕ) (u : View) (o : SeatView) → get_elem? (set s.views id (paired v' w')) j ≡ some u → get_elem? (members u) i ≡ some o → P j i o = λ j i x o a b. ⊎_elim
     (λ (q : (j ≡ id) × (paired v' w' ≡ x)). subst (λ x. P x i o) (sym q.0) (⊎_elim
     (λ (y : (i ≡ 0) × (v' ≡ o)). subst (λ (x : ℕ × SeatView). P id x.0 x.1) (λ c. (sym y.0 c, y.1 c)) first)
@@ -219,12 +233,8 @@ meets_now z s h id v w at_id =
       (
         record {
           seats = seats';
-          ring = both_look z s.words h.seats r v w differ is_v is_w;
-          run = run_same z s.words h.seats seats' r.history
-              (λ n. put_each (put h.seats v.number v') w.number n w' (λ k (u : SeatView). regs u ≡ regs (h.seats k)) (ap regs (sym is_w))
-              (λ _. put_each h.seats v.number n v' (λ k (u : SeatView). regs u ≡ regs (h.seats k)) (ap regs (sym is_v)) (λ _. refl)))
-              (λ n. put_each (put h.seats v.number v') w.number n w' (λ k (u : SeatView). u.path ≡ (h.seats k).path) (ap (λ (u : SeatView). u.path) (sym is_w))
-              (λ _. put_each h.seats v.number n v' (λ k (u : SeatView). u.path ≡ (h.seats k).path) (ap (λ (u : SeatView). u.path) (sym is_v)) (λ _. refl))) h.run;
+          ring = both_look z s.words h.seats r v w differ is_v is_w h.run;
+          run = runs.0;
           dealt = h.dealt;
           home = h.home;
           owner = h.owner;
@@ -232,10 +242,13 @@ meets_now z s h id v w at_id =
           owned = λ j i x o a b. let q = all j i x o a b in (q.1, q.2);
           kept = λ j m n a. ⊎_elim (λ (q : (j ≡ id) × (paired v' w' ≡ keeper m n)). let e = q.1 in cc)
               (λ (q : (j ≢ id) × (get_elem? s.views j ≡ some (keeper m n))). h.kept j m n q.1) (at_set s.views id j (paired v' w') (keeper m n) a);
+          there = λ n. subst (λ (es : List Step). IsThere knowing (set s.views id (paired v' w')) es n) (sym runs.1)
+              (there_kept knowing s.views (set s.views id (paired v' w')) h.run.trace
+              (known_runs.meets knowing s.views id v w v' w' (paired v w) (paired v' w') at_id refl refl refl (knew_v.rest, sym knew_v.begins) refl (knew_w.rest, sym knew_w.begins)) n (h.there n));
           undealt = λ n over. let lv = ov.1 in let lw = ow.1 in
               put_else (put h.seats v.number v') w.number n w' (λ e. omega (arith, e, over, lw)) ∙ (put_else h.seats v.number n v' (λ e. omega (arith, e, over, lv)) ∙ h.undealt n over);
         },
         refl,
       ),
-      met z s.words h.seats r v w differ is_v is_w,
+      met z s.words h.seats r v w differ is_v is_w h.run,
     )

@@ -1,5 +1,5 @@
 -- What a push tells by its turns.
-use Rattle.std.proofs.Common.{◌≡◌, ℕ, List, take, arith}
+use Rattle.std.proofs.Common.{◌≡◌, ◌≢◌, ℕ, ◌<◌, ◌^◌, List, take, sym, ◌∙◌, arith}
 use Rattle.history.specs.declared.operations.Entry.{Entry}
 use Rattle.history.specs.declared.refusals.Refusal.{Refusal}
 use Rattle.history.specs.declared.refusals.Refusal.TheVariants.{NoNode, WornOut, Busy, Closed}
@@ -16,13 +16,24 @@ use Rattle.ring_queue.specs.Looks.{FoundRoom}
 use Rattle.ring_queue.specs.Pushes.{IsStopped, HasLost, PushSays, PushMoves, ManySays}
 use Rattle.ring_queue.specs.Seats.{KeepsSlots, known_of, view}
 use Rattle.ring_queue.proofs.Moved.{stays_on, then_gives}
-use Rattle.ring_queue.proofs.Tries.{tried_then}
+use Rattle.ring_queue.specs.Paths.{C3, reading}
+use Rattle.ring_queue.specs.Steps.{PlacesClaimed}
+use Rattle.ring_queue.proofs.Tries.{tried_one, tried_then, failed_place}
 use Rattle.ring_queue.proofs.Turns.{pushed_after, pushed_all_after}
 
 module _ {T : Type 0} (z : Layout) (s t u : Seat T) (sees : SeesMore (known_of s) (known_of t)) where
   -- a push that stops after its seat saw more
   pub stopped_after : (refusal : Refusal) → IsStopped z t u refusal → IsStopped z s u refusal
   stopped_after refusal h = record { refused = push_refused_then (known_of s) (known_of t) (known_of u) refusal sees h.refused; cause = h.cause }
+
+-- a turn failed where others had claimed places, in a queue that wasn't shut
+pub lost_by : {T : Type 0} (z : Layout) (s t : Seat T) (bodies : List ℕ) (n : ℕ) → PlacesClaimed z bodies (view s) n (view t) → s.tail ≡ (view s).tail → t.tail ≡ (view t).tail
+    → n ≢ s.tail → n < 2 ^ 62 → HasLost s t
+lost_by z s t bodies n k was is ne small =
+    let apart : n ≢ (view s).tail = λ e. ne (e ∙ sym was) in
+    let l = k.lost apart small in
+    let up = l.0 in
+    record { sees = l.1; more = omega (arith, up, was, is); tried = tried_one s t (reading C3 0 n) 1 k.learns.number (k.went_lost apart).0 (failed_place n) }
 
 -- a turn that failed after its seat found room
 lost_after : {T : Type 0} (z : Layout) (s t u : Seat T) → FoundRoom z s t → HasLost t u → HasLost s u

@@ -9,7 +9,7 @@ use Rattle.history.specs.declared.operations.Entry.TheVariants.{Push, Pop}
 use Rattle.history.specs.Entries.{is_push, is_pop}
 use Rattle.history.proofs.Sums.{pushes-Leads}
 use Rattle.ring_queue.specs.Plans.{Layout}
-use Rattle.ring_queue.specs.Paths.{C3, P3, Event, reading}
+use Rattle.ring_queue.specs.Paths.{C3, P3, Event, reading, own_path}
 use Rattle.ring_queue.specs.Knowledge.{Stage, rests, claimed, found, unfilled, head_due}
 use Rattle.ring_queue.specs.Rows.{Regs, first_regs, regs, head_line, taken_in, pushes, pops, Goes, Walks}
 use Rattle.ring_queue.specs.Rows.{reads_tail, reads_head, claims, loses_place, fills, finds_filled, finds_late, finds_next, finds_no_next, takes, loses, finds_end, finds_ahead, shuts, was_shut}
@@ -123,7 +123,7 @@ walk_raises z me (e ∷ es) a b w =
 
 pub others_pay : OthersPay
 others_pay z s h n =
-    let q = walk_raises z n (h.seats n).path (first_regs z.slots) (regs (h.seats n)) (h.run.walks n) in
+    let q = walk_raises z n (own_path n (h.seats n).ran) (first_regs z.slots) (regs (h.seats n)) (h.run.walks n) in
     let t = q.0 in
     let f = q.1 in
     let r = h.ring in

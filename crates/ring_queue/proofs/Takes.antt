@@ -12,7 +12,7 @@ use Rattle.history.specs.Entries.{own_entries}
 use Rattle.history.specs.Seats.{IsPermitted}
 use Rattle.ring_queue.specs.Words.{payload, face}
 use Rattle.ring_queue.specs.Plans.{Layout, permits_of}
-use Rattle.ring_queue.specs.Paths.{P3, Event, reading, writing}
+use Rattle.ring_queue.specs.Paths.{P3, Event, reading, writing, Step, Ran, accessed, added_by}
 use Rattle.ring_queue.specs.Rows.{takes as row_takes, loses as row_loses}
 use Rattle.ring_queue.specs.Knowledge.{rests, found, SeatView}
 use Rattle.ring_queue.specs.Rule.{FitsWord, IsFilled, SeatOk, Stands, put, Ring}
@@ -21,7 +21,7 @@ use Rattle.ring_queue.proofs.Numbers.{face_payload, payload_some}
 use Rattle.ring_queue.proofs.Puts.{same_or_not, put_here, set_twice, put_twice}
 use Rattle.ring_queue.proofs.Histories.{own_one, all_noted_more}
 use Rattle.ring_queue.proofs.Keeps as keeps
-use Rattle.ring_queue.proofs.Tables.{Extends, adds_none, it_fits, notes_stay, saw_all, looks, learns}
+use Rattle.ring_queue.proofs.Tables.{Extends, adds_none, it_fits, notes_stay, saw_all, looks, learns, runs_on, sees_on}
 
 -- a ring with a seat that is about to pop the values of these words, which are those of the places from Head on
 record Popping (z : Layout) (words : List ℕ) (seats : ℕ → SeatView) (ws : List ℕ) : Type 0 where
@@ -29,7 +29,7 @@ record Popping (z : Layout) (words : List ℕ) (seats : ℕ → SeatView) (ws : 
   seat : SeatView
   its : seats seat.number ≡ seat
   rested : Rests seat.stage
-  path : List Event
+  ran : List Step
   filled : (i w : ℕ) → slice_get ws i ≡ Some w → IsFilled z.slots ring.tail ring.log ring.cells (ring.head + i) w
 
 -- what the seat is after the first of them
@@ -42,7 +42,7 @@ after_one c w = record {
   seen = c.ring.history ++ Pop c.seat.number (taken_in w) ∷ [];
   mine = c.seat.mine ++ Pop c.seat.number (taken_in w) ∷ [];
   notes = c.seat.notes;
-  path = c.path;
+  ran = c.ran;
 }
 
 module _ (z : Layout) (words : List ℕ) (seats : ℕ → SeatView) (w : ℕ) (ws : List ℕ) (c : Popping z words seats (w ∷ ws)) where
@@ -106,14 +106,14 @@ record Pops (z : Layout) (words : List ℕ) (seats : ℕ → SeatView) (ws : Lis
   seen : seat.seen ≡ c.ring.history ++ pops c.seat.number ws
   mine : seat.mine ≡ c.seat.mine ++ pops c.seat.number ws
   notes : seat.notes ≡ c.seat.notes
-  path : seat.path ≡ c.path
+  ran : seat.ran ≡ c.ran
   ring : keeps.Became z (set words 16 (c.ring.head + length ws)) (put seats c.seat.number seat) (c.ring.history ++ pops c.seat.number ws)
 
 pop_all : (ws : List ℕ) (w : ℕ) (z : Layout) (words : List ℕ) (seats : ℕ → SeatView) (c : Popping z words seats (w ∷ ws))
     → ((value : Taken) → IsPermitted (permits_of z) (Pop c.seat.number value)) → Pops z words seats (w ∷ ws) c
 pop_all [] w z words seats c permit =
     let one = pop_one z words seats w [] c (permit (taken_in w)) in
-    record { seat = after_one c w; number = refl; stage = refl; head = refl; tail = refl; seen = refl; mine = refl; notes = refl; path = refl; ring = (one.0, one.3) }
+    record { seat = after_one c w; number = refl; stage = refl; head = refl; tail = refl; seen = refl; mine = refl; notes = refl; ran = refl; ring = (one.0, one.3) }
 pop_all (w' ∷ ws) w z words seats c permit =
     let one = pop_one z words seats w (w' ∷ ws) c (permit (taken_in w)) in
     let n : ℕ = c.seat.number in
@@ -125,7 +125,7 @@ pop_all (w' ∷ ws) w z words seats c permit =
       seat = v1;
       its = put_here seats n n v1 refl;
       rested = tt;
-      path = c.path;
+      ran = c.ran;
       filled = λ i u got.
           let old = c.filled (suc i) u got in
           let e : one.0.head + i ≡ c.ring.head + suc i = omega (arith, head1) in
@@ -149,7 +149,7 @@ pop_all (w' ∷ ws) w z words seats c permit =
       seen = more.seen ∙ onward;
       mine = more.mine ∙ append_assoc c.seat.mine (Pop n (taken_in w) ∷ []) (pops n (w' ∷ ws));
       notes = more.notes;
-      path = more.path;
+      ran = more.ran;
       ring = subst (λ (y : List ℕ × (ℕ → SeatView) × List Entry). keeps.Became z y.0 y.1 y.2)
           (λ i. (
             (set_twice words 16 (c.ring.head + 1) (one.0.head + length (w' ∷ ws)) ∙ ap (set words 16)
@@ -160,7 +160,8 @@ pop_all (w' ∷ ws) w z words seats c permit =
           more.ring;
     }
 
-module _ (z : Layout) (words : List ℕ) (seats : ℕ → SeatView) (r : Ring z words seats) (v : SeatView) (is : seats v.number ≡ v) where
+module _ (z : Layout) (words : List ℕ) (seats : ℕ → SeatView) (r : Ring z words seats) (v : SeatView) (is : seats v.number ≡ v)
+    (run : List Step) (whole : r.history ≡ added_by run) (knew : Ran run v.number v.ran) where
   abbrev fit : SeatOk z r.head r.tail r.log r.cells r.history v.number v
   fit = it_fits z words seats r v is
 
@@ -174,7 +175,7 @@ module _ (z : Layout) (words : List ℕ) (seats : ℕ → SeatView) (r : Ring z 
   -- Head is raised, or another raised it
   takes_fronts : (w : ℕ) (ws : List ℕ) → v.stage ≡ found (w ∷ ws) → ((value : Taken) → IsPermitted (permits_of z) (Pop v.number value))
       → (v' : SeatView) × (v'.number ≡ v.number) × (r' : Ring z (set words 16 (raised (length (w ∷ ws)))) (put seats v.number v'))
-      × Extends (pops v.number (w ∷ ws)) r.history v r'.history v' × FrontsTaken z (w ∷ ws) v h v'
+      × Extends run (pops v.number (w ∷ ws)) r.history v r'.history v' × FrontsTaken z (w ∷ ws) v h v'
   takes_fronts w ws at permit = same_or_not h v.head won lost
     where
       count : ℕ
@@ -184,15 +185,16 @@ module _ (z : Layout) (words : List ℕ) (seats : ℕ → SeatView) (r : Ring z 
       rested = subst Rests (sym at) tt
 
       won : h ≡ v.head → (v' : SeatView) × (v'.number ≡ v.number) × (r' : Ring z (set words 16 (raised count)) (put seats v.number v'))
-          × Extends (pops v.number (w ∷ ws)) r.history v r'.history v' × FrontsTaken z (w ∷ ws) v h v'
+          × Extends run (pops v.number (w ∷ ws)) r.history v r'.history v' × FrontsTaken z (w ∷ ws) v h v'
       won same =
           let here : v.head ≡ r.head = sym same ∙ r.head_is in
+          let ev : Event = writing P3 16 h (h + count) (pops v.number (w ∷ ws)) in
           let c : Popping z words seats (w ∷ ws) = record {
             ring = r;
             seat = v;
             its = is;
             rested = rested;
-            path = v.path ++ writing P3 16 h (h + count) (pops v.number (w ∷ ws)) ∷ [];
+            ran = accessed run v.number ev;
             filled =
                 subst (Stands z.slots r.head r.tail r.log r.cells v) at fit.stage here;
           } in
@@ -203,16 +205,17 @@ module _ (z : Layout) (words : List ℕ) (seats : ℕ → SeatView) (r : Ring z 
             all.seat,
             all.number,
             ring',
-            record { added = pops v.number (w ∷ ws); which = inr refl; grown = made.1; own = all.mine; seen = inl (all.seen ∙ sym made.1) },
+            record { added = pops v.number (w ∷ ws); which = inr refl; grown = made.1; own = all.mine; seen = inl (all.seen ∙ sym made.1); event = ev; ran = all.ran },
             record {
               learns = learns z (set words 16 (raised count)) seats v all.seat all.number ring';
               tail = all.tail;
               rests = subst Rests (sym all.stage) tt;
               went_won = λ same. (
-                all.path,
+                record { before = run; knew = knew; ends = all.ran },
                 all.mine,
                 row_takes h (w ∷ ws) at (omega arith) same refl
                     (λ i. record { at = all.stage i; head = (all.head ∙ ap (λ x. x + count) (sym r.head_is)) i; tail = all.tail i }),
+                λ _. all.seen ∙ (sees_on run r.history whole v.number ev ∙ ap added_by (sym all.ran)),
               );
               went_lost = λ ne. absurd (ne same);
               won = λ _. (
@@ -224,9 +227,9 @@ module _ (z : Layout) (words : List ℕ) (seats : ℕ → SeatView) (r : Ring z 
           )
 
       lost : h ≢ v.head → (v' : SeatView) × (v'.number ≡ v.number) × (r' : Ring z (set words 16 (raised count)) (put seats v.number v'))
-          × Extends (pops v.number (w ∷ ws)) r.history v r'.history v' × FrontsTaken z (w ∷ ws) v h v'
+          × Extends run (pops v.number (w ∷ ws)) r.history v r'.history v' × FrontsTaken z (w ∷ ws) v h v'
       lost ne =
-          let v' : SeatView = record { number = v.number; stage = rests; head = h; tail = v.tail; seen = r.history; mine = v.mine; notes = v.notes; path = v.path ++ reading P3 16 h ∷ [] } in
+          let v' : SeatView = record { number = v.number; stage = rests; head = h; tail = v.tail; seen = r.history; mine = v.mine; notes = v.notes; ran = accessed run v.number (reading P3 16 h) } in
           let ok = saw_all z words seats r v is v' refl refl refl (notes_stay z words seats r v is) (let q = r.head_is in omega (arith, q)) fit.under tt in
           let made : keeps.Became z (set words 16 (raised count)) (put seats v.number v') r.history =
           subst (λ us. keeps.Became z us (put seats v.number v') r.history) (sym (ap (λ b. set words 16 (either b (v.head + count) h))
@@ -237,13 +240,14 @@ module _ (z : Layout) (words : List ℕ) (seats : ℕ → SeatView) (r : Ring z 
             v',
             refl,
             ring,
-            adds_none (pops v.number (w ∷ ws)) r.history v ring.history v' made.1 refl refl,
+            adds_none run (pops v.number (w ∷ ws)) r.history v ring.history v' (reading P3 16 h) made.1 refl refl refl,
             record {
               learns = learns z (set words 16 (raised count)) seats v v' refl ring;
               tail = refl;
               rests = tt;
               went_won = λ e. absurd (ne e);
-              went_lost = λ ne. (refl, sym (append-nil v.mine), row_loses h (w ∷ ws) at ne (omega (arith, b, q)) refl refl);
+              went_lost = λ ne. (runs_on run v.number v.ran knew (reading P3 16 h), sym (append-nil v.mine), row_loses h (w ∷ ws) at ne (omega (arith, b, q)) refl refl,
+                  λ _. sym (append-nil r.history) ∙ sees_on run r.history whole v.number (reading P3 16 h));
               won = λ e. absurd (ne e);
               lost = λ _. (refl, omega (arith, b, q), record { number = refl; between = fit.rest; seen = fit.begins; mine = refl; notes = refl });
             },
@@ -252,6 +256,6 @@ module _ (z : Layout) (words : List ℕ) (seats : ℕ → SeatView) (r : Ring z 
   -- the same of any words, one at least
   pub takes_words : (taken : List ℕ) → 1 ≤ length taken → v.stage ≡ found taken → ((value : Taken) → IsPermitted (permits_of z) (Pop v.number value))
       → (v' : SeatView) × (v'.number ≡ v.number) × (r' : Ring z (set words 16 (raised (length taken))) (put seats v.number v'))
-      × Extends (pops v.number taken) r.history v r'.history v' × FrontsTaken z taken v h v'
+      × Extends run (pops v.number taken) r.history v r'.history v' × FrontsTaken z taken v h v'
   takes_words [] some at permit = absurd (let f : 1 ≤ 0 = some in omega (arith, f))
   takes_words (w ∷ ws) some at permit = takes_fronts w ws at permit

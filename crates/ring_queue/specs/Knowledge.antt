@@ -1,9 +1,10 @@
 -- What a seat knows.
-use Rattle.std.specs.Prelude.{ℕ, ◌+◌, List, [], ◌∷◌, ◌++◌, Option}
+use Rattle.std.specs.Prelude.{refl, ℕ, ◌+◌, List, [], ◌∷◌, ◌++◌, Option}
 use Rattle.history.specs.declared.operations.Entry.{Entry}
 use Rattle.history.specs.declared.operations.Taken.{Taken}
 use Rattle.history.specs.Seats.{Known}
-use Rattle.ring_queue.specs.Paths.{Event}
+use Rattle.node_arena.specs.KnownRuns.{Knowing}
+use Rattle.ring_queue.specs.Paths.{Event, Step, own_path}
 
 -- where a seat stands: at rest; with a place claimed, which it will fill with the first of these, and those behind it with the
 -- others; with the words found at the places from its head on, each of its lap's parity; with its place found not filled; or with
@@ -21,7 +22,7 @@ standing p [] = rests
 standing p (x ∷ xs) = claimed p (x ∷ xs)
 
 -- what a seat knows: its number, where it stands, numbers that Head and Tail aren't below, a prefix of the history, its own
--- entries, its notes, and its path
+-- entries, its notes, and all accesses of all seats up to its own last one, or up to where it last met another seat
 pub record SeatView : Type 0 where
   pub number : ℕ
   pub stage : Stage
@@ -30,7 +31,11 @@ pub record SeatView : Type 0 where
   pub seen : List Entry
   pub mine : List Entry
   pub notes : List ℕ
-  pub path : List Event
+  pub ran : List Step
+
+-- the path of a seat: the accesses that it made itself
+abbrev pub path_of : SeatView → List Event
+path_of v = own_path v.number v.ran
 
 -- what a seat knows of its queue
 abbrev pub known_by : SeatView → Known
@@ -53,9 +58,13 @@ members (seated v) = v ∷ []
 members (paired v w) = v ∷ w ∷ []
 members spent = []
 
+-- how a ring's seats and views speak of its run
+abbrev pub knowing : Knowing Step SeatView View
+knowing = record { by = λ e. e.by; number = λ v. v.number; ran = λ v. v.ran; members = members; seated = seated; alone = λ v. refl }
+
 -- what a seat knows that was just dealt: its head and its tail are the first place
 abbrev pub new_seat : (slots n : ℕ) → SeatView
-new_seat slots n = record { number = n; stage = rests; head = slots; tail = slots; seen = []; mine = []; notes = []; path = [] }
+new_seat slots n = record { number = n; stage = rests; head = slots; tail = slots; seen = []; mine = []; notes = []; ran = [] }
 
 -- what the first seat of a view knows
 abbrev pub knows : View → SeatView

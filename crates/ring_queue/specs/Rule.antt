@@ -9,11 +9,12 @@ use Rattle.history.specs.declared.operations.Taken.{Taken}
 use Rattle.history.specs.Entries.{own_entries, is_pop, Leads}
 use Rattle.history.specs.Seats.{IsPermitted, IsNoted}
 use Rattle.history.specs.Values.{pushed}
+use Rattle.node_arena.specs.KnownRuns.{IsThere}
 use Rattle.ring_queue.specs.Words.{face, slot_word, tail_word}
 use Rattle.ring_queue.specs.Plans.{Layout, IsPlanned, permits_of}
-use Rattle.ring_queue.specs.Paths.{Step, left_by, AreFound, own_path, added_by}
+use Rattle.ring_queue.specs.Paths.{Step, Ran, left_by, AreFound, own_path, added_by}
 use Rattle.ring_queue.specs.Rows.{regs, first_regs, Walks}
-use Rattle.ring_queue.specs.Knowledge.{Stage, rests, claimed, found, unfilled, head_due, SeatView, View, keeper, gathered, members, new_seat}
+use Rattle.ring_queue.specs.Knowledge.{Stage, rests, claimed, found, unfilled, head_due, SeatView, View, keeper, gathered, members, knowing, new_seat}
 
 -- the last place of a slot that was claimed, and who will fill it, if it isn't filled
 pub record Cell : Type 0 where
@@ -117,19 +118,21 @@ pub record IsStart (z : Layout) (words : List ℕ) : Type 0 where
   pub head : slice_index_or words 16 0 ≡ z.slots
   pub blank : (i : ℕ) → i < z.slots → slice_index_or words (slot_word i) 0 ≡ 0
 
--- accesses of seats, one after another, lead from the words at the start to these: each found what its word held then, each seat's
--- path are just its own, each by its row, and the history is what took its effect with them
+-- accesses of seats, one after another, lead from the words at the start to these: each found what its word held then, what each
+-- seat knows of them is a beginning of them, behind which it made none, its own are each by its row, and the history is what took
+-- its effect with them
 pub record Run (z : Layout) (words : List ℕ) (seats : ℕ → SeatView) (history : List Entry) : Type 0 where
   pub start : List ℕ
   pub starts : IsStart z start
   pub trace : List Step
   pub leaves : words ≡ left_by start trace
   pub found : AreFound start trace
-  pub paths : (n : ℕ) → (seats n).path ≡ own_path n trace
-  pub walks : (n : ℕ) → Walks z n (first_regs z.slots) (seats n).path (regs (seats n))
+  pub ran : (n : ℕ) → Ran trace n (seats n).ran
+  pub walks : (n : ℕ) → Walks z n (first_regs z.slots) (own_path n (seats n).ran) (regs (seats n))
   pub adds : history ≡ added_by trace
 
--- the rule of the table: its words are a ring's, whose seats its views speak of, no two of one number
+-- the rule of the table: its words are a ring's, whose seats its views speak of, no two of one number, and each seat that made an
+-- access of the run is among the views
 pub record Holds (z : Layout) (s : State ℕ View) : Type 0 where
   pub seats : ℕ → SeatView
   pub ring : Ring z s.words seats
@@ -141,6 +144,7 @@ pub record Holds (z : Layout) (s : State ℕ View) : Type 0 where
   pub owned : (j i : ℕ) (u : View) (v : SeatView) → get_elem? s.views j ≡ some u → get_elem? (members u) i ≡ some v → (owner v.number ≡ (j, i)) × (v.number < dealt)
   pub kept : (j m n : ℕ) → get_elem? s.views j ≡ some (keeper m n) → (j ≡ home) × (n ≡ dealt) × (m ≡ z.slots)
   pub undealt : (n : ℕ) → dealt ≤ n → seats n ≡ new_seat z.slots n
+  pub there : (n : ℕ) → IsThere knowing s.views run.trace n
 
 -- a new token gathers
 abbrev pub Opens : Me ℕ View → Type 0

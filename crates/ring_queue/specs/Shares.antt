@@ -5,7 +5,7 @@ use Rattle.atomic_table.specs.Table.{State}
 use Rattle.history.specs.declared.operations.Entry.{Entry}
 use Rattle.history.specs.Entries.{is_push, is_pop}
 use Rattle.ring_queue.specs.Plans.{Layout}
-use Rattle.ring_queue.specs.Paths.{Line, C3, P3, Event}
+use Rattle.ring_queue.specs.Paths.{Line, C3, P3, Event, own_path}
 use Rattle.ring_queue.specs.Knowledge.{View}
 use Rattle.ring_queue.specs.Rule.{Holds}
 
@@ -32,5 +32,5 @@ adds_on (e ∷ es) = e.adds ++ adds_on es
 -- than all pushes, so no more than those of others; and the exchanges of Head that it lost are so of pops
 abbrev pub OthersPay : Type 0
 OthersPay = (z : Layout) (s : State ℕ View) (h : Holds z s) (n : ℕ)
-    → (lost_on lost_place (h.seats n).path + count_by is_push (adds_on (h.seats n).path) ≤ count_by is_push h.ring.history)
-    × (lost_on lost_front (h.seats n).path + count_by is_pop (adds_on (h.seats n).path) ≤ count_by is_pop h.ring.history)
+    → (lost_on lost_place (own_path n (h.seats n).ran) + count_by is_push (adds_on (own_path n (h.seats n).ran)) ≤ count_by is_push h.ring.history)
+    × (lost_on lost_front (own_path n (h.seats n).ran) + count_by is_pop (adds_on (own_path n (h.seats n).ran)) ≤ count_by is_pop h.ring.history)

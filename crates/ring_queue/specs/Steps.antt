@@ -1,5 +1,5 @@
 -- What each line tells of the seat that made it, by what it knew before and knows afterwards.
-use Rattle.std.specs.Prelude.{bit_or, ◌≡◌, ◌≢◌, ℕ, ◌+◌, ◌/◌, ◌%◌, ◌^◌, ◌<◌, ◌≤◌, Bool, List, [], ◌∷◌, ◌++◌, length, slice_index_or}
+use Rattle.std.specs.Prelude.{bit_or, ◌≡◌, ◌≢◌, ℕ, ◌+◌, ◌/◌, ◌%◌, ◌^◌, ◌<◌, ◌≤◌, Bool, true, List, [], ◌∷◌, ◌++◌, length, slice_index_or}
 use Rattle.std.specs.List.{All, count_by}
 use Rattle.atomic_table.specs.Table.{Me}
 use Rattle.history.specs.declared.operations.Entry.{Entry}
@@ -10,7 +10,7 @@ use Rattle.history.specs.Seats.{Known, IsSound}
 use Rattle.history.specs.Answers.{Adds, FoundEmpty, FoundShut, FoundShutEmpty, SeesMore}
 use Rattle.ring_queue.specs.Words.{parity, slot_word, tail_word}
 use Rattle.ring_queue.specs.Plans.{Layout, permits_of}
-use Rattle.ring_queue.specs.Paths.{C1, C3, C4, P2, P3, P4, P5, S10, Event, reading, writing}
+use Rattle.ring_queue.specs.Paths.{C1, C3, C4, P2, P3, P4, P5, S10, Event, reading, writing, Step, RunsOn, sees, added_by}
 use Rattle.ring_queue.specs.Rule.{Ring}
 pub use Rattle.ring_queue.specs.Rows.{Rests, taken_in, contents, pushes, pops, regs, head_line, HasRoom, Goes}
 use Rattle.ring_queue.specs.Knowledge.{standing, Stage, rests, claimed, found, unfilled, head_due, SeatView, View, seated, knows, known_by}
@@ -68,9 +68,10 @@ pub record WasHeldUp (z : Layout) (old seen : List Entry) (from : ℕ) : Type 0 
   pub ahead : WasSince (λ es. IsAhead z es place) old seen
   pub late : WasSince (λ es. WasLate z es place) old seen
 
--- the seat made this access, by its row, and has what took its effect with it more as its own
+-- the seat made this access, by its row, knows of it and of all before, and has what took its effect with it more as its own; but
+-- where it fills a place, it has then seen all that took its effect
 abbrev pub Went : Layout → SeatView → Event → SeatView → Type 0
-Went z v e v' = (v'.path ≡ v.path ++ e ∷ []) × (v'.mine ≡ v.mine ++ e.adds) × Goes z v.number (regs v) e (regs v')
+Went z v e v' = RunsOn v.number v.ran e v'.ran × (v'.mine ≡ v.mine ++ e.adds) × Goes z v.number (regs v) e (regs v') × (sees e.line ≡ true → v'.seen ≡ added_by v'.ran)
 
 -- after each step a seat is the same one, its head and its tail are places, and what it knows is sound
 pub record Learns (z : Layout) (v v' : SeatView) : Type 0 where
@@ -145,7 +146,8 @@ next_stage st = rests
 
 -- the first place was filled of those that a seat claimed, by a number in its slot's word
 abbrev pub PlaceFilled : Layout → (word left : ℕ) → SeatView → ℕ → SeatView → Type 0
-PlaceFilled z i w v n v' = (v' ≡ record v { stage = next_stage v.stage; path = v.path ++ writing C4 i n w [] ∷ [] }) × Goes z v.number (regs v) (writing C4 i n w []) (regs v')
+PlaceFilled z i w v n v' = (ran : List Step) × (v' ≡ record v { stage = next_stage v.stage; ran = ran }) × RunsOn v.number v.ran (writing C4 i n w []) ran
+    × Goes z v.number (regs v) (writing C4 i n w []) (regs v')
 
 -- each of these bodies is one
 abbrev pub AreSmall : List ℕ → Type 0

@@ -8,6 +8,7 @@ use Rattle.ring_queue.specs.declared.pops.Turn.TheVariants.{Took, Empty, Closed,
 use Rattle.ring_queue.specs.declared.seats.Seat.{Seat}
 use Rattle.ring_queue.specs.Plans.{Layout}
 use Rattle.ring_queue.specs.Paths.{Line, C3, P1, P3, Event}
+use Rattle.ring_queue.specs.Knowledge.{path_of}
 use Rattle.ring_queue.specs.Steps.{WasHeldUp}
 use Rattle.ring_queue.specs.Seats.{known_of, view}
 
@@ -38,7 +39,7 @@ failed_turns es = sum_by (λ e. failed_at e.line e.found e.left) es
 -- a seat went on by accesses of which so many were a failed turn's last
 pub record Tried {T : Type 0} (s t : Seat T) (count : ℕ) : Type 0 where
   pub accesses : List Event
-  pub path : (view t).path ≡ (view s).path ++ accesses
+  pub path : path_of (view t) ≡ path_of (view s) ++ accesses
   pub failed : failed_turns accesses ≡ count
 
 -- so it did in a turn that failed: one

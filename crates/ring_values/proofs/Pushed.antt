@@ -1,5 +1,5 @@
 -- What a push of a value answers, by what its parts do.
-use Rattle.std.proofs.Common.{◌≡◌, ℕ, ◌+◌, ◌-◌, ◌<◌, ◌≤◌, List, [], ◌∷◌, ◌++◌, true, Option, Some, None, Result, Ok, Err, IfErr, IsErrAnd, inl, inr, sym, ap, subst, ◌∙◌, append-nil}
+use Rattle.std.proofs.Common.{◌≡◌, ℕ, ◌+◌, ◌-◌, ◌<◌, List, [], ◌∷◌, ◌++◌, true, Option, Some, None, Result, Ok, Err, IfErr, IsErrAnd, inl, inr, sym, ap, subst, ◌∙◌, append-nil}
 use Rattle.history.specs.declared.operations.Entry.TheVariants.{Push}
 use Rattle.history.specs.declared.refusals.Refusal.{Refusal}
 use Rattle.history.specs.declared.refusals.Refusal.TheVariants.{NoNode, WornOut, Busy, Closed}
@@ -16,7 +16,7 @@ use Rattle.ring_queue.specs.declared.queue.RingQueue.{RingQueue}
 use Rattle.ring_queue.specs.declared.seats.Seat.{Seat}
 use Rattle.ring_queue.specs.declared.slots.Got.{Got}
 use Rattle.ring_queue.specs.Causes as ring
-use Rattle.ring_queue.specs.Knowledge.{SeatView}
+use Rattle.ring_queue.specs.Knowledge.{SeatView, path_of}
 use Rattle.ring_queue.specs.Knowledge as seeing
 use Rattle.ring_queue.specs.Hands.{AddsOwn, HasSlot, KeepsKnown}
 use Rattle.ring_queue.specs.Plans.{Layout}
@@ -40,7 +40,7 @@ value_is {T} held slot x y e f = ap value_or (sym e ∙ f)
 -- a cause is one still, where its seat knows the same and its tail is where it was
 caused_still : {T : Type 0} (z : Layout) (s x t : Seat T) (turns : ℕ) → view t ≡ view x → t.tail ≡ x.tail → (refusal : Refusal)
     → ring.PushCaused z s x turns refusal → ring.PushCaused z s t turns refusal
-caused_still z s x t turns same tail Busy c = (subst (λ (n : ℕ). s.tail + turns < n) (sym tail) c.0, record { accesses = c.1.accesses; path = ap (λ (w : SeatView). w.path) same ∙ c.1.path; failed = c.1.failed })
+caused_still z s x t turns same tail Busy c = (subst (λ (n : ℕ). s.tail + turns < n) (sym tail) c.0, record { accesses = c.1.accesses; path = ap path_of same ∙ c.1.path; failed = c.1.failed })
 caused_still z s x t turns same tail NoNode c = subst (λ (w : SeatView). IsFull z w.seen) (sym same) c
 caused_still z s x t turns same tail (WornOut OfTail) c = subst (λ (w : SeatView). IsWorn z w.seen) (sym same) c
 caused_still z s x t turns same tail Closed c = subst (λ (w : SeatView). LeadsToShut w.seen) (sym same) c
@@ -138,7 +138,7 @@ module _ {T : Type 0} (r : RingQueue T) (carries : carries_of r ≡ true) (s : S
         }
       where
         by_cause : (refusal : Refusal) → ring.PushCaused r.plan u x (turns - got.failed) refusal → PushCaused r s x turns refusal
-        by_cause Busy y = inr (got.failed, l.loaded.1, l.loaded.2, (subst (λ (t : ℕ). t + (turns - got.failed) < x.tail) k.tail y.0, record { accesses = y.1.accesses; path = y.1.path ∙ ap (λ (w : SeatView). w.path ++ y.1.accesses) k.view; failed = y.1.failed }))
+        by_cause Busy y = inr (got.failed, l.loaded.1, l.loaded.2, (subst (λ (t : ℕ). t + (turns - got.failed) < x.tail) k.tail y.0, record { accesses = y.1.accesses; path = y.1.path ∙ ap (λ (w : SeatView). path_of w ++ y.1.accesses) k.view; failed = y.1.failed }))
         by_cause _ y = y
 
     -- one or the other

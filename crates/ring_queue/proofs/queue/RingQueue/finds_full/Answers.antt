@@ -17,7 +17,7 @@ load-head-requires g c =
     let sits = c.requires.ready.sits in
     let words = q.laid.words in
     asks q.plan q.table.shared.key q.table.shared.table_id c.args.seat.now HeadFound q.laid 16 (λ n. n) sits (omega (arith, words))
-    (reads q.plan 16 (view c.args.seat.now) (HeadFound q.plan) (λ ws seats r is. reads_head q.plan ws seats r (view c.args.seat.now) is c.requires.ready.rests))
+    (reads q.plan 16 (view c.args.seat.now) (HeadFound q.plan) (λ ws seats r is run whole knew. reads_head q.plan ws seats r (view c.args.seat.now) is run whole knew c.requires.ready.rests))
     (λ n v' k. ran_read q.plan (head_line (view c.args.seat.now).stage) 16 n (view c.args.seat.now) v' k.went)
 
 pub returns-clause-tried : goal.returns-clause-tried
@@ -25,4 +25,4 @@ returns-clause-tried g c =
     let s = c.args.seat.now in
     let n : ℕ = c.load-head.result in
     tried_one s (record { token = c.load-head.new.seat; number = s.number; role = s.role; head = n; tail = s.tail; near = s.near }) (reading (head_line (view s).stage) 16 n) 0
-    c.load-head.ensures.2.1.went.0 (subst (λ st. failed_turns (reading (head_line st) 16 n ∷ []) ≡ 0) (sym c.requires.stage) refl)
+    c.load-head.ensures.2.1.learns.number c.load-head.ensures.2.1.went.0 (subst (λ st. failed_turns (reading (head_line st) 16 n ∷ []) ≡ 0) (sym c.requires.stage) refl)

@@ -1,11 +1,12 @@
-use Rattle.std.proofs.Common.{arith}
+use Rattle.std.proofs.Common.{arith, refl}
 use Rattle.ring_queue.specs.Steps.{TailFound}
 use Rattle.ring_queue.specs.Seats.{view}
 use Rattle.ring_queue.proofs.Lines.{reads_tail}
 use Rattle.ring_queue.proofs.Calls.{reads}
 use Rattle.ring_queue.proofs.Asks.{asks}
-use Rattle.ring_queue.specs.Paths.{C1}
+use Rattle.ring_queue.specs.Paths.{C1, reading}
 use Rattle.ring_queue.proofs.Runs.{ran_read}
+use Rattle.ring_queue.proofs.Tries.{tried_one}
 use Rattle.ring_queue.proofs.queue.RingQueue.look_at_tail.Goals as goal
 
 pub load-tail-requires : goal.load-tail-requires
@@ -14,5 +15,14 @@ load-tail-requires g c =
     let sits = c.requires.sits in
     let words = q.laid.words in
     asks q.plan q.table.shared.key q.table.shared.table_id c.args.seat.now TailFound q.laid 0 (λ n. n) sits (omega (arith, words))
-    (reads q.plan 0 (view c.args.seat.now) (TailFound q.plan) (λ ws seats r is. reads_tail q.plan ws seats r (view c.args.seat.now) is c.requires.rests))
+    (reads q.plan 0 (view c.args.seat.now) (TailFound q.plan) (λ ws seats r is run whole knew. reads_tail q.plan ws seats r (view c.args.seat.now) is run whole knew c.requires.rests))
     (λ n v' k. ran_read q.plan C1 0 n (view c.args.seat.now) v' k.went)
+
+pub returns-then-tail-ge-SHUT-clause-tried : goal.returns-then-tail-ge-SHUT-clause-tried
+returns-then-tail-ge-SHUT-clause-tried g c = tried_one _ _ (reading C1 0 _) 0 c.load-tail.ensures.2.1.learns.number c.load-tail.ensures.2.1.went.0 refl
+
+pub returns-then-tail-limit-clause-tried : goal.returns-then-tail-limit-clause-tried
+returns-then-tail-limit-clause-tried g c = tried_one _ _ (reading C1 0 _) 0 c.load-tail.ensures.2.1.learns.number c.load-tail.ensures.2.1.went.0 refl
+
+pub returns-else-tail-limit-clause-tried : goal.returns-else-tail-limit-clause-tried
+returns-else-tail-limit-clause-tried g c = tried_one _ _ (reading C1 0 _) 0 c.load-tail.ensures.2.1.learns.number c.load-tail.ensures.2.1.went.0 refl

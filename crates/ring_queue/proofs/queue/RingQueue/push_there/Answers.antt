@@ -1,6 +1,7 @@
 use Rattle.std.proofs.Common.{ap, sym, ◌∙◌, arith}
 use Rattle.ring_queue.specs.Seats.{view}
 use Rattle.ring_queue.proofs.Moved.{kept_none, gave_slot, gives_then}
+use Rattle.ring_queue.proofs.Pushing.{lost_by}
 use Rattle.ring_queue.proofs.queue.RingQueue.push_there.Goals as goal
 
 pub returns-then-was-tail-clause-moves : goal.returns-then-was-tail-clause-moves
@@ -22,3 +23,8 @@ returns-else-was-ge-SHUT-clause-moves g c =
     let small = c.if-was-ge-SHUT.false in
     let told = c.claim-was.ensures.told.lost (λ e. c.if-was-tail.false (e ∙ sym c.requires.ready.sits.tail)) (omega (arith, small)) in
     kept_none c.args.self.now.plan c.args.seat.now c.claim-was.new.seat _ c.claim-was.ensures.moves told.1.mine
+
+pub returns-else-was-ge-SHUT-clause-says : goal.returns-else-was-ge-SHUT-clause-says
+returns-else-was-ge-SHUT-clause-says g c =
+    let small = c.if-was-ge-SHUT.false in
+    lost_by c.args.self.now.plan c.args.seat.now c.claim-was.new.seat _ _ c.claim-was.ensures.told c.requires.ready.sits.tail c.claim-was.ensures.seat.tail c.if-was-tail.false (omega (arith, small))

@@ -13,5 +13,5 @@ fetch_or-tail-requires g c =
     let sits = c.requires.ready.sits in
     let words = q.laid.words in
     asks_shut q.plan q.table.shared.key q.table.shared.table_id s ShutMade q.laid 0 (λ n. bit_or n (2 ^ 62)) sits (omega (arith, words))
-    (λ ws seats r is. shuts_queue q.plan ws seats r (view s) is c.requires.ready.rests c.requires.role)
+    (λ ws seats r is run whole knew. shuts_queue q.plan ws seats r (view s) is run whole knew c.requires.ready.rests c.requires.role)
     (λ n v' k. ran_shut q.plan (view s) n v' k)

@@ -3,6 +3,7 @@ use Rattle.ring_queue.specs.Steps.{taken_in}
 use Rattle.ring_queue.specs.Hands.{TakesSlot}
 use Rattle.ring_queue.specs.Seats.{view}
 use Rattle.ring_queue.proofs.Moved.{kept_none, took_slot}
+use Rattle.ring_queue.proofs.Tries.{tried_front}
 use Rattle.ring_queue.proofs.queue.RingQueue.take_front.Goals as goal
 
 pub returns-then-raise_head-head-clause-moves : goal.returns-then-raise_head-head-clause-moves
@@ -17,3 +18,7 @@ pub returns-else-raise_head-head-clause-moves : goal.returns-else-raise_head-hea
 returns-else-raise_head-head-clause-moves g c =
     let told = c.raise_head.ensures.told.lost (λ e. c.if-raise_head-head.false (e ∙ sym c.requires.ready.sits.head)) in
     kept_none c.args.self.now.plan c.args.seat.now c.raise_head.new.seat _ c.raise_head.ensures.moves told.2.mine
+
+pub returns-else-raise_head-head-clause-tried : goal.returns-else-raise_head-head-clause-tried
+returns-else-raise_head-head-clause-tried g c none =
+    tried_front c.args.self.now.plan c.args.seat.now c.raise_head.new.seat _ _ c.raise_head.ensures.told (λ e. c.if-raise_head-head.false (e ∙ sym c.requires.ready.sits.head))
