@@ -36,3 +36,4 @@ pub mod Handing
 pub mod Vacant
 pub mod ValueEnds
 pub mod Closed
+pub mod Courses

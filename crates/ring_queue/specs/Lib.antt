@@ -24,3 +24,4 @@ pub mod Queues
 pub mod OneProof
 pub mod Beside
 pub mod Hands
+pub mod Courses
