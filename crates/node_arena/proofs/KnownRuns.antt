@@ -118,8 +118,13 @@ module _ {M V W : Type 0} (k : Knowing M V W) where
       (keeps_but views one id (k.seated v) at (λ j u away h. set_else views id j both away ∙ h)
       (λ i o h. found_here one o (id, 0, both, inside, ap (λ l. get_elem? l 0) two ∙ ap some (one_of v o i (ap (λ l. get_elem? l i) (sym (k.alone v)) ∙ h)).1)))
       (keeps_but one (set one other gone) other (k.seated w) (set_else views id other both ne ∙ there) (λ j u away h. set_else one other j gone away ∙ h)
-      (λ i o h. found_here (set one other gone) o (id, 1, both, set_else one other id gone (λ e. ne (sym e)) ∙ inside,
-      ap (λ l. get_elem? l 1) two ∙ ap some (one_of w o i (ap (λ l. get_elem? l i) (sym (k.alone w)) ∙ h)).1)))
+      (λ i o h. found_here (set one other gone) o (
+        id,
+        1,
+        both,
+        set_else one other id gone (λ e. ne (sym e)) ∙ inside,
+        ap (λ l. get_elem? l 1) two ∙ ap some (one_of w o i (ap (λ l. get_elem? l i) (sym (k.alone w)) ∙ h)).1,
+      )))
 
   -- two seats that are one become two
   pub parts : (views : List W) (id : ℕ) (v w : V) (both : W) → get_elem? views id ≡ some both → k.members both ≡ v ∷ w ∷ []
@@ -154,8 +159,13 @@ module _ {M V W : Type 0} (k : Knowing M V W) where
       (keeps_but views one id was at (λ j u away h. set_else views id j all away ∙ h)
       (λ i o h. found_here one o (id, i, all, inside, ap (λ l. get_elem? l i) more ∙ at_kept vs (w ∷ []) i o h)))
       (keeps_but one (set one other gone) other (k.seated w) (set_else views id other all ne ∙ there) (λ j u away h. set_else one other j gone away ∙ h)
-      (λ i o h. found_here (set one other gone) o (id, length vs, all, set_else one other id gone (λ e. ne (sym e)) ∙ inside,
-      ap (λ l. get_elem? l (length vs)) more ∙ (at_last vs w ∙ ap some (one_of w o i (ap (λ l. get_elem? l i) (sym (k.alone w)) ∙ h)).1))))
+      (λ i o h. found_here (set one other gone) o (
+        id,
+        length vs,
+        all,
+        set_else one other id gone (λ e. ne (sym e)) ∙ inside,
+        ap (λ l. get_elem? l (length vs)) more ∙ (at_last vs w ∙ ap some (one_of w o i (ap (λ l. get_elem? l i) (sym (k.alone w)) ∙ h)).1),
+      )))
 
   -- one seat knows more
   pub looks : (views : List W) (id : ℕ) (v v' : V) → get_elem? views id ≡ some (k.seated v) → k.number v' ≡ k.number v → IsPrefix (k.ran v) (k.ran v')

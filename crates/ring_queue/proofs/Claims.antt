@@ -307,8 +307,12 @@ module _ (z : Layout) (words : List ℕ) (seats : ℕ → SeatView) (r : Ring z 
               head = refl;
               won = λ e. absurd (ne e);
               went_won = λ e. absurd (ne e);
-              went_lost = λ _. (runs_on run v.number v.ran knew ev, sym (append-nil v.mine), row_loses n (length bodies) rested room ne (omega (arith, t, under)) refl refl,
-                  λ _. sym (append-nil r.history) ∙ sees_on run r.history whole v.number ev);
+              went_lost = λ _. (
+                runs_on run v.number v.ran knew ev,
+                sym (append-nil v.mine),
+                row_loses n (length bodies) rested room ne (omega (arith, t, under)) refl refl,
+                λ _. sym (append-nil r.history) ∙ sees_on run r.history whole v.number ev,
+              );
               rests = λ _. (tt, refl);
               lost = λ _ small. (omega (arith, t, under, small, ne), record { number = refl; between = its_fit.rest; seen = its_fit.begins; mine = refl; notes = quiet small });
               shut = λ big. let s = shut big in record { number = refl; between = its_fit.rest; seen = its_fit.begins; shut = s.1; mine = refl; notes = s.0 };
@@ -375,8 +379,12 @@ module _ (z : Layout) (words : List ℕ) (seats : ℕ → SeatView) (r : Ring z 
                 tail,
                 record { number = all.number; between = its_fit.rest; seen = all.seen ∙ ap (λ h. h ++ pushes v.number (b ∷ bs)) its_fit.begins; mine = all.mine; notes = all.notes },
               );
-              went_won = λ _. (record { before = run; knew = knew; ends = all.ran }, all.mine, row_claims n (b ∷ bs) rested room same refl (λ i. record { at = stage i; head = all.head i; tail = tail i }),
-                  λ _. all.seen ∙ (sees_on run r.history whole v.number ev ∙ ap added_by (sym all.ran)));
+              went_won = λ _. (
+                record { before = run; knew = knew; ends = all.ran },
+                all.mine,
+                row_claims n (b ∷ bs) rested room same refl (λ i. record { at = stage i; head = all.head i; tail = tail i }),
+                λ _. all.seen ∙ (sees_on run r.history whole v.number ev ∙ ap added_by (sym all.ran)),
+              );
               went_lost = λ ne. absurd (ne same);
               rests = λ ne. absurd (ne same);
               lost = λ ne. absurd (ne same);

@@ -145,9 +145,10 @@ done_first z s t a ts u b h c k =
           let r = rules z t ts c in
           let f = its_fit z t r a.after (is_member z s t a) in
           let all : added_by a.after.ran ≡ a.after.seen ++ f.rest = ap added_by (adds_its z s t h r a).known ∙ (sym r.run.adds ∙ f.begins) in
-          let more : List Entry = added_by p.0 ++ b.told.event.adds in
-          (f.rest ++ more,
-          sym (b.told.went.3 saw ∙ (history ∙ (append_assoc (added_by a.after.ran) (added_by p.0) b.told.event.adds ∙ (ap (λ es. es ++ more) all ∙ append_assoc a.after.seen f.rest more)))));
+          let more : List Entry = added_by p.0 ++ b.told.event.adds in (
+            f.rest ++ more,
+            sym (b.told.went.3 saw ∙ (history ∙ (append_assoc (added_by a.after.ran) (added_by p.0) b.told.event.adds ∙ (ap (λ es. es ++ more) all ∙ append_assoc a.after.seen f.rest more)))),
+          );
     }
 
 -- a run of which the steps of a course tell, or that was known before, goes on to those that later steps tell of

@@ -44,8 +44,12 @@ module _ (z : Layout) (words : List ℕ) (seats : ℕ → SeatView) (r : Ring z 
         refl,
         made.0,
         record { added = []; which = inl refl; grown = made.1 ∙ sym (append-nil r.history); own = sym (append-nil v.mine); seen = inr (refl, refl); event = ev; ran = refl },
-        (accessed run v.number ev, ap (λ st. record v { stage = next_stage st; ran = accessed run v.number ev }) (sym at),
-            runs_on run v.number v.ran knew ev, row_fills (get_or words (slot_word (p % z.slots)) 0) p x xs at refl refl),
+        (
+          accessed run v.number ev,
+          ap (λ st. record v { stage = next_stage st; ran = accessed run v.number ev }) (sym at),
+          runs_on run v.number v.ran knew ev,
+          row_fills (get_or words (slot_word (p % z.slots)) 0) p x xs at refl refl,
+        ),
       )
     where
       stands_next : (p : ℕ) (x : Option Taken) (xs : List (Option Taken)) (ran : List Step) → ((q : ℕ) (y : Option Taken) → HasClaimed (claimed p (x ∷ xs)) q y

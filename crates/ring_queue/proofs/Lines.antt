@@ -155,8 +155,12 @@ module _ (z : Layout) (words : List ℕ) (seats : ℕ → SeatView) (r : Ring z 
       let e = r.head_is in
       line (HeadFound z) (get_or words 16 0) ev rests r.head v.tail v.notes notes_stay' (omega arith) fit.under tt (λ learned. record {
         learns = learned;
-        went = (on ev, sym (append-nil v.mine),
-            row_reads_head (get_or words 16 0) rested (let b = fit.behind in omega (arith, b, e)) refl (λ i. record { at = rests; head = sym r.head_is i; tail = v.tail }), λ _. saw ev refl);
+        went = (
+          on ev,
+          sym (append-nil v.mine),
+          row_reads_head (get_or words 16 0) rested (let b = fit.behind in omega (arith, b, e)) refl (λ i. record { at = rests; head = sym r.head_is i; tail = v.tail }),
+          λ _. saw ev refl,
+        );
         head = sym r.head_is;
         more = let b = fit.behind in omega (arith, b, e);
         tail = refl;
@@ -233,8 +237,12 @@ module _ (z : Layout) (words : List ℕ) (seats : ℕ → SeatView) (r : Ring z 
       line (FrontFound z) (front_word v.head) (reading P2 (slot_word (v.head % z.slots)) (front_word v.head)) unfilled v.head v.tail v.notes notes_stay' fit.behind fit.under tt (λ learned. record {
         learns = learned;
         goes_on = λ _. refl;
-        went = (on (reading P2 (slot_word (v.head % z.slots)) (front_word v.head)), sym (append-nil v.mine),
-            finds_late (front_word v.head) rested apart refl refl, λ _. saw (reading P2 (slot_word (v.head % z.slots)) (front_word v.head)) refl);
+        went = (
+          on (reading P2 (slot_word (v.head % z.slots)) (front_word v.head)),
+          sym (append-nil v.mine),
+          finds_late (front_word v.head) rested apart refl refl,
+          λ _. saw (reading P2 (slot_word (v.head % z.slots)) (front_word v.head)) refl,
+        );
         head = refl;
         tail = refl;
         rests = tt;

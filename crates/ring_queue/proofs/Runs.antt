@@ -84,28 +84,30 @@ run_on z words seats history v v' all history' i m is run more made =
     let e : Step = record { by = v.number; event = made.event } in
     let same : more.added ≡ made.event.adds = append_cancel_left v.mine more.added made.event.adds (sym more.own ∙ made.mine) in
     let last : record { by = v.number; event = more.event } ≡ e = same_last run.trace made.run.before (record { by = v.number; event = more.event }) e (sym more.ran ∙ made.run.ends) in
-    let whole : v'.ran ≡ run.trace ++ e ∷ [] = more.ran ∙ ap (λ (x : Step). run.trace ++ x ∷ []) last in
-    (record {
-      start = run.start;
-      starts = run.starts;
-      trace = run.trace ++ e ∷ [];
-      leaves = sym (left_more run.start run.trace e ∙ (λ k. set (sym run.leaves k) (made.word k) (made.left k)));
-      found = found_more run.start run.trace e run.found (made.found ∙ (λ k. get_or (run.leaves k) (sym made.word k) 0));
-      ran = λ n. put_each seats v.number n v' (λ k (u : SeatView). Ran (run.trace ++ e ∷ []) k u.ran)
-          (record { rest = []; begins = sym (append-nil v'.ran ∙ whole); others = All-nil (λ (x : Step). x.by ≢ v.number) })
-          (λ ne. let r = run.ran n in
-          record {
-            rest = r.rest ++ e ∷ [];
-            begins = ap (λ es. es ++ e ∷ []) r.begins ∙ append_assoc (seats n).ran r.rest (e ∷ []);
-            others = All-append (λ (x : Step). x.by ≢ n) r.rest (e ∷ []) r.others (All-cons (λ (x : Step). x.by ≢ n) e [] (λ q. ne (sym q)) (All-nil (λ (x : Step). x.by ≢ n)));
-          });
-      walks = λ n. put_each seats v.number n v' (λ k (u : SeatView). Walks z k (first_regs z.slots) (own_path k u.ran) (regs u))
-          (subst (λ (es : List Event). Walks z v.number (first_regs z.slots) es (regs v')) (sym (own_on v.number v.ran made.event v'.ran made.run))
-          (walks_more z v.number (first_regs z.slots) (regs v) (regs v') (own_path v.number v.ran) made.event
-          (subst (λ (u : SeatView). Walks z v.number (first_regs z.slots) (own_path v.number u.ran) (regs u)) is (run.walks v.number)) made.goes))
-          (λ ne. run.walks n);
-      adds = more.grown ∙ ((λ k. run.adds k ++ same k) ∙ sym (added_more run.trace e));
-    }, refl)
+    let whole : v'.ran ≡ run.trace ++ e ∷ [] = more.ran ∙ ap (λ (x : Step). run.trace ++ x ∷ []) last in (
+      record {
+        start = run.start;
+        starts = run.starts;
+        trace = run.trace ++ e ∷ [];
+        leaves = sym (left_more run.start run.trace e ∙ (λ k. set (sym run.leaves k) (made.word k) (made.left k)));
+        found = found_more run.start run.trace e run.found (made.found ∙ (λ k. get_or (run.leaves k) (sym made.word k) 0));
+        ran = λ n. put_each seats v.number n v' (λ k (u : SeatView). Ran (run.trace ++ e ∷ []) k u.ran)
+            (record { rest = []; begins = sym (append-nil v'.ran ∙ whole); others = All-nil (λ (x : Step). x.by ≢ v.number) })
+            (λ ne. let r = run.ran n in
+            record {
+              rest = r.rest ++ e ∷ [];
+              begins = ap (λ es. es ++ e ∷ []) r.begins ∙ append_assoc (seats n).ran r.rest (e ∷ []);
+              others = All-append (λ (x : Step). x.by ≢ n) r.rest (e ∷ []) r.others (All-cons (λ (x : Step). x.by ≢ n) e [] (λ q. ne (sym q)) (All-nil (λ (x : Step). x.by ≢ n)));
+            });
+        walks = λ n. put_each seats v.number n v' (λ k (u : SeatView). Walks z k (first_regs z.slots) (own_path k u.ran) (regs u))
+            (subst (λ (es : List Event). Walks z v.number (first_regs z.slots) es (regs v')) (sym (own_on v.number v.ran made.event v'.ran made.run))
+            (walks_more z v.number (first_regs z.slots) (regs v) (regs v') (own_path v.number v.ran) made.event
+            (subst (λ (u : SeatView). Walks z v.number (first_regs z.slots) (own_path v.number u.ran) (regs u)) is (run.walks v.number)) made.goes))
+            (λ ne. run.walks n);
+        adds = more.grown ∙ ((λ k. run.adds k ++ same k) ∙ sym (added_more run.trace e));
+      },
+      refl,
+    )
 
 -- what the seat of a run knows of it
 pub knew_of : (z : Layout) (words : List ℕ) (seats : ℕ → SeatView) (history : List Entry) (v : SeatView) → seats v.number ≡ v → (run : Run z words seats history) → Ran run.trace v.number v.ran
@@ -118,31 +120,37 @@ knows_all n run = record { rest = []; begins = sym (append-nil run); others = Al
 -- the same run, of seats that stand where they stood, and know of as much of it, or of more
 pub run_same : (z : Layout) (words : List ℕ) (seats seats' : ℕ → SeatView) (history : List Entry) (run : Run z words seats history) → ((n : ℕ) → regs (seats' n) ≡ regs (seats n))
     → ((n : ℕ) → Ran run.trace n (seats' n).ran) → (same : Run z words seats' history) × (same.trace ≡ run.trace)
-run_same z words seats seats' history run stand knew = (record {
-  start = run.start;
-  starts = run.starts;
-  trace = run.trace;
-  leaves = run.leaves;
-  found = run.found;
-  ran = knew;
-  walks = λ n. subst (λ (y : List Event × Regs). Walks z n (first_regs z.slots) y.0 y.1)
-      (λ i. ((sym (own_known n run.trace (seats n).ran (run.ran n)) ∙ own_known n run.trace (seats' n).ran (knew n)) i, sym (stand n) i)) (run.walks n);
-  adds = run.adds;
-}, refl)
+run_same z words seats seats' history run stand knew = (
+  record {
+    start = run.start;
+    starts = run.starts;
+    trace = run.trace;
+    leaves = run.leaves;
+    found = run.found;
+    ran = knew;
+    walks = λ n. subst (λ (y : List Event × Regs). Walks z n (first_regs z.slots) y.0 y.1)
+        (λ i. ((sym (own_known n run.trace (seats n).ran (run.ran n)) ∙ own_known n run.trace (seats' n).ran (knew n)) i, sym (stand n) i)) (run.walks n);
+    adds = run.adds;
+  },
+  refl,
+)
 
 -- the run in which nothing was done
 pub run_none : (z : Layout) (words : List ℕ) (seats : ℕ → SeatView) → IsStart z words → ((n : ℕ) → (seats n).ran ≡ []) → ((n : ℕ) → regs (seats n) ≡ first_regs z.slots)
     → (run : Run z words seats []) × (run.trace ≡ [])
-run_none z words seats starts none_done stand = (record {
-  start = words;
-  starts = starts;
-  trace = [];
-  leaves = refl;
-  found = tt;
-  ran = λ n. record { rest = []; begins = sym (append-nil (seats n).ran ∙ none_done n); others = All-nil (λ (e : Step). e.by ≢ n) };
-  walks = λ n. subst (λ (es : List Event). Walks z n (first_regs z.slots) es (regs (seats n))) (ap (own_path n) (sym (none_done n))) (sym (stand n));
-  adds = refl;
-}, refl)
+run_none z words seats starts none_done stand = (
+  record {
+    start = words;
+    starts = starts;
+    trace = [];
+    leaves = refl;
+    found = tt;
+    ran = λ n. record { rest = []; begins = sym (append-nil (seats n).ran ∙ none_done n); others = All-nil (λ (e : Step). e.by ≢ n) };
+    walks = λ n. subst (λ (es : List Event). Walks z n (first_regs z.slots) es (regs (seats n))) (ap (own_path n) (sym (none_done n))) (sym (stand n));
+    adds = refl;
+  },
+  refl,
+)
 
 -- what each line tells is such an access
 pub ran_read : (z : Layout) (l : Line) (i n : ℕ) (v v' : SeatView) → Went z v (reading l i n) v' → Made z i n n v v'

@@ -57,8 +57,12 @@ module _ (z : Layout) (words : List ℕ) (seats : ℕ → SeatView) (r : Ring z 
               rests = tt;
               did = λ lt. absurd (omega (arith, lt, is_n));
               went_open = λ lt. absurd (omega (arith, lt, is_n));
-              went_shut = λ big. (runs_on run v.number v.ran knew (writing S10 0 n (bit_or n (2 ^ 62)) []), sym (append-nil v.mine), was_shut n rested big refl refl,
-                  λ _. sym (append-nil r.history) ∙ sees_on run r.history whole v.number (writing S10 0 n (bit_or n (2 ^ 62)) []));
+              went_shut = λ big. (
+                runs_on run v.number v.ran knew (writing S10 0 n (bit_or n (2 ^ 62)) []),
+                sym (append-nil v.mine),
+                was_shut n rested big refl refl,
+                λ _. sym (append-nil r.history) ∙ sees_on run r.history whole v.number (writing S10 0 n (bit_or n (2 ^ 62)) []),
+              );
               was = λ _. record { number = refl; between = fit.rest; seen = fit.begins; shut = leads; mine = refl; notes = refl };
             },
           )
@@ -90,8 +94,12 @@ module _ (z : Layout) (words : List ℕ) (seats : ℕ → SeatView) (r : Ring z 
               tail = refl;
               rests = tt;
               did = λ _. record { number = refl; between = fit.rest; seen = ap (λ h. h ++ e ∷ []) fit.begins; mine = refl; notes = refl };
-              went_open = λ lt. (runs_on run v.number v.ran knew (writing S10 0 n (bit_or n (2 ^ 62)) (e ∷ [])), refl, row_shuts n rested lt refl refl,
-                  λ _. sees_on run r.history whole v.number (writing S10 0 n (bit_or n (2 ^ 62)) (e ∷ [])));
+              went_open = λ lt. (
+                runs_on run v.number v.ran knew (writing S10 0 n (bit_or n (2 ^ 62)) (e ∷ [])),
+                refl,
+                row_shuts n rested lt refl refl,
+                λ _. sees_on run r.history whole v.number (writing S10 0 n (bit_or n (2 ^ 62)) (e ∷ [])),
+              );
               went_shut = λ le. absurd (let t = tail_small in omega (arith, le, is_n, t));
               was = λ le. absurd (let t = tail_small in omega (arith, le, is_n, t));
             },

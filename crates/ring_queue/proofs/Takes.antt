@@ -246,8 +246,12 @@ module _ (z : Layout) (words : List ℕ) (seats : ℕ → SeatView) (r : Ring z 
               tail = refl;
               rests = tt;
               went_won = λ e. absurd (ne e);
-              went_lost = λ ne. (runs_on run v.number v.ran knew (reading P3 16 h), sym (append-nil v.mine), row_loses h (w ∷ ws) at ne (omega (arith, b, q)) refl refl,
-                  λ _. sym (append-nil r.history) ∙ sees_on run r.history whole v.number (reading P3 16 h));
+              went_lost = λ ne. (
+                runs_on run v.number v.ran knew (reading P3 16 h),
+                sym (append-nil v.mine),
+                row_loses h (w ∷ ws) at ne (omega (arith, b, q)) refl refl,
+                λ _. sym (append-nil r.history) ∙ sees_on run r.history whole v.number (reading P3 16 h),
+              );
               won = λ e. absurd (ne e);
               lost = λ _. (refl, omega (arith, b, q), record { number = refl; between = fit.rest; seen = fit.begins; mine = refl; notes = refl });
             },
