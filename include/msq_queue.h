@@ -25,7 +25,8 @@ typedef void (*msq_free_one)(void *object, void *context);
 
 /*
  * Makes a queue, all zeros before, with room for `capacity` pointers, and seats for `threads` threads that call it at one time,
- * up to 65,535, or 32,767 of MSQ_RING. More may find room, but in MSQ_RING: as many as there are seats at most.
+ * up to 65,535, or 32,767 of MSQ_RING. More may find room, as many as there are seats at most; in MSQ_RING
+ * none, but where `capacity` is 1 one more.
  * MSQ_OK; MSQ_BAD_SIZE, MSQ_MEMORY, or MSQ_IN_USE where there is a queue already: refused, it changes nothing.
  */
 MSQ_INLINE uint32_t msq_queue_open(msq_queue *queue, uint32_t kind, uint32_t capacity, uint16_t threads);
@@ -144,7 +145,7 @@ MSQ_INLINE uint32_t msq_queue_open(msq_queue *queue, uint32_t kind, uint32_t cap
         for (size_t place = 0; place < threads; place++) {
             roles[place] = MSQ_BOTH;
         }
-        const uint32_t nodes = kind == MSQ_RING ? capacity + 1 : capacity + 1 + threads;
+        const uint32_t nodes = kind != MSQ_RING ? capacity + 1 + threads : capacity == 1 ? 2 : capacity;
         code = msq_queue_create(queue, kind, nodes, MSQ_MOST_COUNT, roles, threads);
         free(roles);
     }

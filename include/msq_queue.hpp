@@ -294,7 +294,7 @@ public:
     queue(queue &&) noexcept = default;
     queue &operator=(queue &&) noexcept = default;
 
-    // With room for `capacity` values at least: up to one more for each of `threads`, of a ring 32 more. None but at MSQ_OK: else
+    // With room for `capacity` values at least: up to one more for each of `threads`, of a ring of one. None but at MSQ_OK: else
     // MSQ_BAD_SIZE or MSQ_MEMORY.
     static std::pair<msq_code, queue> create(uint32_t capacity, kind kind = kind::non_blocking,
                                              uint16_t threads = usual_threads) noexcept {

@@ -15,8 +15,8 @@ static void expect(const char *what, uint64_t found, uint64_t due) {
     }
 }
 
-/* The length is so many, where it can be told; of a ring that is shut, by two seats, none at least. */
-static void expect_length(uint32_t kind, msq_seat *seat, uint64_t due, bool is_shut) {
+/* The length is so many, where it can be told. */
+static void expect_length(uint32_t kind, msq_seat *seat, uint64_t due) {
     msq_length length = {9, 9};
     if (kind == MSQ_TWO_LOCK) {
         expect("a length that isn't counted", msq_len(seat, &length), MSQ_UNCOUNTED);
@@ -24,7 +24,7 @@ static void expect_length(uint32_t kind, msq_seat *seat, uint64_t due, bool is_s
         return;
     }
     expect("a length", msq_len(seat, &length), MSQ_OK);
-    expect("at least", length.least, kind == MSQ_RING && is_shut ? 0 : due);
+    expect("at least", length.least, due);
     expect("at most", length.most, due);
 }
 
@@ -41,22 +41,22 @@ static void a_queue_is_seen(uint32_t kind) {
     expect("create", msq_create(kind, 8, MSQ_MOST_COUNT, roles, 2, seats, 2), MSQ_OK);
     for (int k = 0; k < 2; k++) {
         expect("a new queue", msq_emptiness(&seats[k]), MSQ_EMPTY);
-        expect_length(kind, &seats[k], 0, false);
+        expect_length(kind, &seats[k], 0);
     }
     for (uint64_t body = 1; body <= 3; body++) {
         expect("a push", msq_try_push(&seats[0], body, 8), MSQ_OK);
         expect("a value", msq_emptiness(&seats[1]), MSQ_OK);
-        expect_length(kind, &seats[1], body, false);
+        expect_length(kind, &seats[1], body);
     }
     expect("a shut", msq_try_shut(&seats[0], 8), MSQ_OK);
     for (uint64_t body = 1; body <= 3; body++) {
         expect("a value in a shut queue", msq_emptiness(&seats[0]), MSQ_OK);
-        expect_length(kind, &seats[0], 4 - body, true);
+        expect_length(kind, &seats[0], 4 - body);
         expect("a pop", msq_try_pop(&seats[1], 8, &value), MSQ_OK);
         expect("its body", value.body, body);
     }
     expect("a queue that is shut and empty", msq_emptiness(&seats[1]), MSQ_CLOSED);
-    expect_length(kind, &seats[1], 0, true);
+    expect_length(kind, &seats[1], 0);
     msq_drop(&seats[0]);
     msq_drop(&seats[1]);
 }

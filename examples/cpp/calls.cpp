@@ -334,7 +334,8 @@ template <class T> void value_locks_are_held() {
     });
 }
 
-// A thread stopped before it has filled the place at the front of a ring, which is then shut: whether it holds a value isn't known.
+// A thread stopped before it has filled the place at the front of a ring, which is then shut: it holds the value, which no pop gets
+// yet.
 void a_place_is_claimed() {
     std::vector<msq::seat> seats;
     open(seats, msq::kind::ring, 16, four);
@@ -342,7 +343,7 @@ void a_place_is_claimed() {
         const bool claimed = seats[1].try_pop(value) == MSQ_BUSY;
         if (claimed) {
             expect("try_shut", "a claimed place", seats[0].try_shut(), MSQ_OK);
-            expect("emptiness", "a claimed place of a ring that is shut", seats[0].emptiness(), MSQ_BUSY);
+            expect("emptiness", "a claimed place of a ring that is shut", seats[0].emptiness(), MSQ_OK);
         }
         return claimed;
     });
@@ -357,7 +358,7 @@ void a_place_is_claimed() {
         const bool claimed = queue.try_pop(found) == MSQ_BUSY;
         if (claimed) {
             expect("close of values", "a claimed place", queue.close(), MSQ_OK);
-            expect("emptiness of values", "a claimed place of a ring that is closed", queue.emptiness(), MSQ_BUSY);
+            expect("emptiness of values", "a claimed place of a ring that is closed", queue.emptiness(), MSQ_OK);
         }
         return claimed;
     });

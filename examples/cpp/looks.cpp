@@ -29,7 +29,7 @@ static void a_queue_is_seen(msq::kind kind) {
     }
     auto [known, left] = giver.left();
     if (kind == msq::kind::ring) {
-        expect("124 pushes are left", known == MSQ_OK && left && left->pushes == 124 && left->free == UINT64_MAX);
+        expect("108 pushes are left", known == MSQ_OK && left && left->pushes == 108 && left->free == UINT64_MAX);
     } else {
         expect("46 pushes are left", known == MSQ_OK && left && left->pushes == 46 && left->free == 101);
     }

@@ -114,7 +114,8 @@ std::string one_by_one(msq::kind kind) {
     while (seats[1].try_push(count + 1) == MSQ_OK) {
         count++;
     }
-    if (count != 2 || seats[1].push_wait_for(3, time) != MSQ_NO_NODE) {
+    // (a ring of three has room for three values, a queue of three nodes for two)
+    if (count != (kind == msq::kind::ring ? 3 : 2) || seats[1].push_wait_for(3, time) != MSQ_NO_NODE) {
         return "a push to a full queue";
     }
     if (std::chrono::steady_clock::now() - began < 2 * time) {

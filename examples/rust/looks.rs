@@ -11,7 +11,7 @@ fn main() {
         assert_eq!(sender.emptiness(), Emptiness::Holds);
         let one = Length { least: 1, most: 1 };
         assert_eq!(receiver.len(), (kind != Kind::TwoLock).then_some(one));
-        let (pushes, head) = if kind == Kind::Ring { (124, u64::MAX) } else { (46, 101) };
+        let (pushes, head) = if kind == Kind::Ring { (108, u64::MAX) } else { (46, 101) };
         assert_eq!(sender.left().pushes, pushes);
         assert_eq!(receiver.left().head, head);
         sender.try_shut(8).unwrap();

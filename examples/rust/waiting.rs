@@ -142,9 +142,9 @@ fn one_by_one(kind: Kind) -> Result<(), Refusal> {
     assert_eq!(receivers[0].recv_timeout(time), Ok(None));
     assert!(began.elapsed() >= time, "a call ended before its time");
     senders[0].send(Body::from(1))?;
-    // (a seat of a ring goes on from its reserve)
+    // (a ring of two has room for two values, a queue of two nodes for one)
     let more = (0..100).take_while(|_| senders[0].try_push(Body::from(1), 8).is_ok()).count();
-    assert_eq!(more, if kind == Kind::Ring { 31 } else { 0 });
+    assert_eq!(more, if kind == Kind::Ring { 1 } else { 0 });
     assert_eq!(senders[0].send_timeout(Body::from(2), time), Err(Refusal::NoNode));
     assert!(began.elapsed() >= 2 * time, "a call ended before its time");
     senders[0].try_shut(8)?;

@@ -94,8 +94,8 @@ pub enum Kind {
     NonBlocking,
     /// A thread that stops within a call may keep others from pushing, or from popping.
     TwoLock,
-    /// The fastest; a thread that stops within a push may keep others from popping. It has 32,767 seats at most, and up to 32
-    /// values a seat more find room than it is made for.
+    /// The fastest; a thread that stops within a push may keep others from popping. It has 32,767 seats at most, and
+    /// room for just as many values as it is made for.
     Ring,
 }
 

@@ -65,7 +65,8 @@ impl<T> Pooled<T> {
     pub fn new(kind: Kind, capacity: u32, threads: u16) -> Result<Pooled<T>, Refusal> {
         let more = match kind {
             Kind::NonBlocking | Kind::TwoLock => 1 + u32::from(threads),
-            Kind::Ring => 1,
+            // (The least ring has room for two.)
+            Kind::Ring => u32::from(capacity == 1),
         };
         let nodes = capacity.checked_add(more).ok_or(Refusal::BadSize)?;
         if capacity == 0 {

@@ -148,7 +148,8 @@ fn locks_of_values_are_held() {
     stop_within(act, || queue.pop_timeout(SOON) == Err(Refusal::Busy));
 }
 
-/// A thread stopped before it has filled the place at the front of a ring, which is then shut: whether it holds a value isn't known.
+/// A thread stopped before it has filled the place at the front of a ring, which is then shut: it holds the value, which no pop gets
+/// yet.
 fn a_place_is_claimed() {
     let (mut senders, mut receivers) = msq::queue(Kind::Ring, 16, 2, 2).unwrap();
     let (mut giver, mut taker) = (senders.remove(1), receivers.remove(1));
@@ -161,7 +162,7 @@ fn a_place_is_claimed() {
         let claimed = receiver.try_pop(TURNS) == Err(Refusal::Busy);
         if claimed {
             assert_eq!(sender.try_shut(TURNS), Ok(()));
-            assert_eq!(receiver.emptiness(), Emptiness::Moved);
+            assert_eq!(receiver.emptiness(), Emptiness::Holds);
         }
         claimed
     });
