@@ -63,12 +63,14 @@ impl Drop for Leased<'_> {
 impl<T> Pooled<T> {
     /// With room for so many values, and so many seats.
     pub fn new(kind: Kind, capacity: u32, threads: u16) -> Result<Pooled<T>, Refusal> {
-        let more = match kind {
-            Kind::NonBlocking | Kind::TwoLock => 1 + u32::from(threads),
+        let linked = capacity
+            .checked_add(1 + u32::from(threads))
+            .ok_or(Refusal::BadSize)?;
+        let nodes = match kind {
+            Kind::NonBlocking | Kind::TwoLock => linked,
             // (The least ring has room for two.)
-            Kind::Ring => u32::from(capacity == 1),
+            Kind::Ring => capacity.max(2),
         };
-        let nodes = capacity.checked_add(more).ok_or(Refusal::BadSize)?;
         if capacity == 0 {
             return Err(Refusal::BadSize);
         }
