@@ -38,6 +38,7 @@ pub record Regs : Type 0 where
   pub head : ℕ
   pub tail : ℕ
 
+-- those of a seat
 abbrev pub regs : SeatView → Regs
 regs v = record { at = v.stage; head = v.head; tail = v.tail }
 
