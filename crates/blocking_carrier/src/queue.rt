@@ -93,6 +93,8 @@ impl<C: Carrier> Carrier for BlockingCarrier<C> {
 
     ghost sound = { λ q s h. C.sound (queue_of q) s h };
 
+    ghost closed_alike = { λ q. C.closed_alike (queue_of q) };
+
     ghost seat_prop = { λ q s. C.seat_prop (queue_of q) s };
 
     // (A call that is refused `WornOut` may have been woken, and leaves what woke it: so it wakes the next one.)

@@ -8,3 +8,12 @@ pub mod Sound
 pub mod SmallRuns
 pub mod Rests
 pub mod Ends
+pub mod ToEntries
+pub mod Bodies
+pub mod Deliveries
+pub mod Delivered
+pub mod Together
+pub mod Waits
+pub mod Empties
+pub mod Shuts
+pub mod Drained

@@ -4,6 +4,10 @@ ghost use Rattle.std.specs.Prelude.{◌≡◌, ◌++◌, ◌∷◌, [], ℕ, Boo
 ghost use Rattle.std.specs.List.{count_by};
 ghost use Rattle.history.specs.declared.operations.Entry.{Entry};
 ghost use Rattle.history.specs.declared.operations.Taken.{Taken};
+ghost use Rattle.std.specs.Prelude.{Option, option_map};
+ghost use Rattle.history.specs.declared.refusals.Refusal.{Refusal};
+ghost use Rattle.history.specs.Answers.{Pushed, PopAnswers, DidShut, PushRefused, PopRefused, Meets};
+ghost use Rattle.carriers.specs.Answers.{PushedOf, PopAnswersOf, DidShutOf, PushRefusedOf, PopRefusedOf, MeetsOf};
 ghost use Rattle.history.specs.Entries.{Leads};
 ghost use Rattle.history.specs.Seats.{Permit, Known};
 ghost use Rattle.history.specs.declared.rests.Rest.{Rest};
@@ -12,7 +16,7 @@ ghost use Rattle.history.specs.Ends.{Closes};
 ghost use Rattle.carriers.specs.declared.items.ItemOf.{ItemOf};
 ghost use Rattle.carriers.specs.Deeds.{Deed, did_pop, did_shut, item, is_pushing, is_shutting, RunsTo, IsRun};
 ghost use Rattle.carriers.specs.Values.{values_pushed, values_popped};
-ghost use Rattle.carriers.specs.Knowledge.{IsSoundOf};
+ghost use Rattle.carriers.specs.Knowledge.{IsSoundOf, KnownOf};
 ghost use Rattle.carriers.specs.DeedsOfNumbers.{deeds_of, known_by_deeds, item_taken, Matches};
 ghost use Rattle.carriers.specs.Ends.{ClosesWith};
 ghost use Rattle.carriers.specs.SmallRuns.{handed_over, told_apart, popped_from_nothing, popped_from_behind, popped_another, popped_as_anothers, popped_twice, pushed_behind_a_shut, shut_twice};
@@ -79,6 +83,24 @@ pub fn closed_numbers_are_values()
     ensures { (permits : List Permit) (seats : List Known) (rest : Rest) → Closes permits seats rest
         → ClosesWith permits (map known_by_deeds seats) (map item_taken (left_of rest))
         (taken_of rest) (whole_of rest) (was_shut_of rest) }
+{}
+
+/// What a seat of `Numbers` is told by deeds it is told by entries.
+pub fn deeds_are_entries()
+    //= carriers/by_entries (pushed, shut, answers, push_refused, pop_refused, meets, each): What a call of a queue of numbers tells by
+    //=   deeds it tells by entries, and what any seat of bodies knows is what some seat of numbers does.
+    ensures pushed { (k k' : Known) (body : ℕ) → PushedOf (known_by_deeds k) body (known_by_deeds k') → Pushed k body k' }
+    ensures shut { (k k' : Known) → DidShutOf (known_by_deeds k) (known_by_deeds k') → DidShut k k' }
+    ensures answers { (k k' : Known) (taken : Option Taken)
+        → PopAnswersOf (known_by_deeds k) (option_map item_taken taken) (known_by_deeds k') → PopAnswers k taken k' }
+    ensures push_refused { (k k' : Known) (refusal : Refusal)
+        → PushRefusedOf (known_by_deeds k) refusal (known_by_deeds k') → PushRefused k refusal k' }
+    ensures pop_refused { (k k' : Known) (refusal : Refusal)
+        → PopRefusedOf (known_by_deeds k) refusal (known_by_deeds k') → PopRefused k refusal k' }
+    ensures meets { (one other one' other' : Known)
+        → MeetsOf (known_by_deeds one) (known_by_deeds other) (known_by_deeds one') (known_by_deeds other')
+        → Meets one other one' other' }
+    ensures each { (k : KnownOf ℕ) → (l : Known) × (known_by_deeds l ≡ k) }
 {}
 
 /// Small histories that are runs, and to which values they lead.

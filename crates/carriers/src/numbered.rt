@@ -76,8 +76,11 @@ impl<Q: Fifo> Carrier for Numbers<Q> {
 
     ghost sound = { λ q s h. sound-deeds (Q.permits (fifo_of q)) (Q.known s) (Q.sound (fifo_of q) s h) };
 
+    ghost closed_alike = { λ q. Q.closed_alike (fifo_of q) };
+
     ghost seat_prop = { λ q s. Q.seat_prop (fifo_of q) s };
 
+    #[inline(always)]
     fn try_push(&self, seat: &mut Q::Seat, value: Body, turns: u32) -> Result<(), Unpushed<Body>> {
         match self.queue.try_push(seat, value, turns) {
             Ok(()) => Ok(()),
@@ -85,6 +88,7 @@ impl<Q: Fifo> Carrier for Numbers<Q> {
         }
     }
 
+    #[inline(always)]
     fn try_pop(&self, seat: &mut Q::Seat, turns: u32) -> Result<Option<ItemOf<Body>>, Refusal> {
         match self.queue.try_pop(seat, turns) {
             Ok(Some(taken)) => Ok(Some(item(taken))),

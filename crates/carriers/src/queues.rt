@@ -6,13 +6,11 @@ ghost use Rattle.carriers.specs.Knowledge.{KnownOf, IsSoundOf};
 ghost use Rattle.carriers.specs.Answers.{PushedOf, PopAnswersOf, DidShutOf};
 ghost use Rattle.carriers.specs.Answers.{PushRefusedOf, PopRefusedOf, MeetsOf, EndsByTryOf};
 
+use crate::TURNS;
 use crate::items::{ItemOf, Unpushed};
 use crossbeam_utils::Backoff;
 use history::Refusal;
 use std::sync::Wait;
-
-/// How many turns a waiting call takes before it lets others go on.
-const TURNS: u32 = 8;
 
 /// A first-in-first-out queue of values that threads share, each with a seat of its own.
 ///
@@ -21,6 +19,7 @@ const TURNS: u32 = 8;
 /// A value that is pushed is moved into the queue, and the pop that takes it moves it out.
 pub trait Carrier {
     ghost use Rattle.history.specs.declared.refusals.Refusal.{Refusal};
+    ghost use Rattle.history.specs.declared.refusals.Refusal.TheVariants.{Closed};
 
     /// What is pushed and popped. Nothing is asked of it: it need not be `Drop`, nor `Clone`.
     type Item;
@@ -196,6 +195,9 @@ pub trait Carrier {
     //= carriers/sound: What a seat knows is *sound* (docs/GLOSSARY.md).
     //= carriers/meet
     ghost sound: { (queue : Self) (seat : Self.Seat) → is_seat queue seat → IsSoundOf (permits queue) (known seat) };
+
+    ghost closed_alike: { (queue : Self) (before after : Self.Seat) (turns : ℕ) → shut_cause queue before after turns Closed
+        → push_cause queue before after turns Closed };
 
     //= carriers/one_fact
     ghost seat_prop: { (queue : Self) (seat : Self.Seat) → IsProp (is_seat queue seat) };

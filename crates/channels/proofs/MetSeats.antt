@@ -4,8 +4,8 @@ use mathlib.Core.List.{Sublist}
 use Rattle.history.specs.Seats.{Permit}
 use Rattle.carriers.specs.Deeds.{own_deeds}
 use Rattle.carriers.specs.Knowledge.{KnownOf, IsSoundOf}
-use Rattle.deliveries.specs.Deliveries.{sent, taken_of}
-use Rattle.deliveries.proofs.Deliveries.{taken-in_order}
+use Rattle.carriers.specs.Deliveries.{sent, taken_of}
+use Rattle.carriers.proofs.Delivering.{taken-in_order}
 
 -- by what both know, which is sound, and of one history
 pub met_in_order : {A : Type 0} (permits : List Permit) (giver taker : KnownOf A) → IsSoundOf permits giver → IsSoundOf permits taker

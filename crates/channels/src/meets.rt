@@ -2,7 +2,7 @@
 ghost use Rattle.std.specs.Prelude.{◌≡◌};
 ghost use mathlib.Core.List.{Sublist};
 ghost use Rattle.carriers.specs.Answers.{MeetsOf};
-ghost use Rattle.deliveries.specs.Deliveries.{sent, taken_of};
+ghost use Rattle.carriers.specs.Deliveries.{sent, taken_of};
 
 use crate::receiver::Receiver;
 use crate::sender::Sender;

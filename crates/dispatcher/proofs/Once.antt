@@ -12,7 +12,8 @@ use Rattle.history.specs.declared.operations.Entry.{Entry}
 use Rattle.history.specs.declared.operations.Entry.TheVariants.{Push, Pop, Shut}
 use Rattle.history.specs.declared.operations.Taken.{Taken}
 use Rattle.history.specs.declared.refusals.Refusal.{Refusal}
-use Rattle.history.specs.declared.refusals.Refusal.TheVariants.{Closed, Memory, Stranger, WornOut}
+use Rattle.history.specs.declared.refusals.Refusal.TheVariants.{Stranger, WornOut}
+use Rattle.history.specs.declared.refusals.WornWord.TheVariants.{Tail as OfTail}
 use Rattle.history.specs.declared.rests.Rest.{Rest}
 use Rattle.history.specs.Rests.{left_of, was_shut_of}
 use Rattle.history.specs.Queue.{Queue, empty}
@@ -26,7 +27,7 @@ use Rattle.history.proofs.Ending.{ends_there}
 use Rattle.job_results.specs.declared.jobs.Job.{Job}
 use Rattle.dispatcher.specs.declared.workers.Back.{Back}
 use Rattle.dispatcher.specs.declared.workers.End.{End}
-use Rattle.dispatcher.specs.declared.workers.End.TheVariants.{Finished, Stopped, Refused}
+use Rattle.dispatcher.specs.declared.workers.End.TheVariants.{Finished, Stopped, NoMemory, Refused}
 use Rattle.dispatcher.specs.declared.crews.JobsRun.{JobsRun}
 use Rattle.dispatcher.specs.Workers.{after_pushes}
 use Rattle.dispatcher.specs.WorkerTurns.{IsNoJob}
@@ -120,34 +121,34 @@ module _ (n : ℕ) where
       omega (arith, one, also, ih)
 
   module _ (jobs : List Job) (one : 1 ≤ n) (low : n ≤ length jobs) where
-    -- what ended a worker took no job's number
-    ended_none : (k k' : Known) (end : End) → EndsSo jobs k k' end → count_by (takes n) k'.mine ≡ count_by (takes n) k.mine
-    ended_none k k' Finished h = ap (count_by (takes n)) h.1
-    ended_none k k' Stopped h = ap (count_by (takes n)) h.1
-    ended_none k k' (Refused Closed) h = absurd h
-    ended_none k k' (Refused Memory) h = ap (count_by (takes n)) h
-    ended_none k k' (Refused (WornOut word)) h = ap (count_by (takes n)) h
-    ended_none k k' (Refused Stranger) h =
-        let v = h.0 in
-        let more = ap (count_by (takes n)) h.2 ∙ sum_by_push (λ e. cond (takes n e) 1 0) k.mine (Pop k.number v) in
-        let none = ap {B = ℕ} (λ b. cond b 1 0) (ne_eqb n v.body (no_job v.body h.1)) in
-        omega (arith, more, none)
-      where
-        no_job : (body : ℕ) → IsNoJob jobs body → n ≢ body
-        no_job body (inl e) same = absurd (omega (arith, e, same, one))
-        no_job body (inr l) same = absurd (omega (arith, l, same, low))
-    ended_none k k' (Refused _) h = absurd h
+    module _ {Q S : Type 0} (is_seat : Q → S → Type 0) (known : S → Known) (cause : Q → S → S → ℕ → Refusal → Type 0) (queue : Q) (stops : Type 0) (gated : ℕ → Type 0) where
+      -- what ended a worker took no job's number
+      ended_none : (before after : S) (end : End) → EndsSo is_seat known cause queue jobs stops before after end
+          → count_by (takes n) (known after).mine ≡ count_by (takes n) (known before).mine
+      ended_none before after Finished h = ap (count_by (takes n)) h.1
+      ended_none before after Stopped h = ap (count_by (takes n)) h.2
+      ended_none before after (NoMemory none) h = ap (count_by (takes n)) h
+      ended_none before after (Refused (WornOut word)) h = ap (count_by (takes n)) h.0
+      ended_none before after (Refused Stranger) h =
+          let v = h.0 in
+          let more = ap (count_by (takes n)) h.2 ∙ sum_by_push (λ e. cond (takes n e) 1 0) (known before).mine (Pop (known before).number v) in
+          let none = ap {B = ℕ} (λ b. cond b 1 0) (ne_eqb n v.body (no_job v.body h.1)) in
+          omega (arith, more, none)
+        where
+          no_job : (body : ℕ) → IsNoJob jobs body → n ≢ body
+          no_job body (inl e) same = absurd (omega (arith, e, same, one))
+          no_job body (inr l) same = absurd (omega (arith, l, same, low))
+      ended_none before after (Refused _) h = absurd h
 
-    module _ {Q S : Type 0} (is_seat : Q → S → Type 0) (known : S → Known) (queue : Q) where
-      back_times : (was : S) (w : Back S) → (known was).mine ≡ [] → IsBack is_seat known queue jobs was w → count_by (takes n) (known w.seat).mine ≡ times n (numbers_of w)
+      back_times : (was : S) (w : Back S) → (known was).mine ≡ [] → IsBack is_seat known cause queue jobs stops gated was w → count_by (takes n) (known w.seat).mine ≡ times n (numbers_of w)
       back_times was w unused b =
           let k = known was in
-          ended_none b.last (known w.seat) w.end b.ended
+          ended_none b.last w.seat w.end b.ended
           ∙ ap (count_by (takes n)) (b.done.mine ∙ ap (λ (es : List Entry). es ++ map (Pop k.number) b.done.values) unused)
           ∙ pops_times k.number b.done.values
           ∙ ap (times n) (sym (numbers_are jobs b.done.values w.results.items b.done.done))
 
-      workers_times : (takers : List S) (ws : List (Back S)) → AllZip (IsBack is_seat known queue jobs) takers ws
+      workers_times : (takers : List S) (ws : List (Back S)) → AllZip (IsBack is_seat known cause queue jobs stops gated) takers ws
           → All (λ k. k.mine ≡ []) (map known takers) → sum_by (λ k. count_by (takes n) k.mine) (map known (seats_in ws)) ≡ times n (numbers_in ws)
       workers_times [] [] all unused = refl
       workers_times [] (w ∷ ws) all unused = absurd all
@@ -161,10 +162,13 @@ module _ (n : ℕ) where
           omega (arith, first, this, ih, parts)
 
 -- what the submitter did to shut the queue, or not to
-shut_more : (k k' : Known) (unshut : Option Refusal) → EndsShutBy k k' unshut → (shuts : List ℕ) × (k'.mine ≡ k.mine ++ map Shut shuts)
-shut_more k k' None (inl d) = (k.number ∷ [], d.mine)
-shut_more k k' None (inr f) = ([], f.mine ∙ sym (append-nil k.mine))
-shut_more k k' (Some refusal) h = ([], h.0.mine ∙ sym (append-nil k.mine))
+module _ {Q S : Type 0} (is_seat : Q → S → Type 0) (known : S → Known) (cause : Q → S → S → ℕ → Refusal → Type 0) (queue : Q) (before after : S) where
+  shut_more : (unshut : Option Refusal) → EndsShutBy is_seat known cause queue before after unshut
+      → (shuts : List ℕ) × ((known after).mine ≡ (known before).mine ++ map Shut shuts)
+  shut_more None (inl d) = ((known before).number ∷ [], d.mine)
+  shut_more None (inr f) = ([], f.mine ∙ sym (append-nil (known before).mine))
+  shut_more (Some (WornOut OfTail)) h = ([], h.0.mine ∙ sym (append-nil (known before).mine))
+  shut_more (Some _) h = absurd h
 
 shuts_take : (n : ℕ) (shuts : List ℕ) → count_by (takes n) (map Shut shuts) ≡ 0
 shuts_take n [] = refl
@@ -174,8 +178,9 @@ shuts_push : (shuts : List ℕ) → pushed (map Shut shuts) ≡ []
 shuts_push [] = refl
 shuts_push (s ∷ ss) = shuts_push ss
 
-module _ {Q S : Type 0} (is_seat : Q → S → Type 0) (known : S → Known) (queue : Q) (permits : List Permit) (jobs : List Job) (giver : S) (takers : List S) (run : JobsRun S) (rest : Rest)
-    (h : HasRun is_seat known queue jobs giver takers run) (new : AreNewSeats permits known giver takers) (closed : Closes permits (map known (run.giver.seat ∷ seats_in run.workers.items)) rest) where
+module _ {Q S : Type 0} (is_seat : Q → S → Type 0) (known : S → Known) (push_cause pop_cause shut_cause : Q → S → S → ℕ → Refusal → Type 0) (queue : Q)
+    (permits : List Permit) (jobs : List Job) (stops : Type 0) (gated : ℕ → Type 0) (giver : S) (takers : List S) (run : JobsRun S) (rest : Rest)
+    (h : HasRun is_seat known push_cause pop_cause shut_cause queue jobs stops gated giver takers run) (new : AreNewSeats permits known giver takers) (closed : Closes permits (map known (run.giver.seat ∷ seats_in run.workers.items)) rest) where
   abbrev ws : List (Back S)
   ws = run.workers.items
 
@@ -186,7 +191,7 @@ module _ {Q S : Type 0} (is_seat : Q → S → Type 0) (known : S → Known) (qu
   back = map known (seats_in ws)
 
   -- the seats that came back have the numbers of those that were handed in
-  same_at : (ts : List S) (us : List (Back S)) → AllZip (IsBack is_seat known queue jobs) ts us → (i : ℕ) (k : Known)
+  same_at : (ts : List S) (us : List (Back S)) → AllZip (IsBack is_seat known pop_cause queue jobs stops gated) ts us → (i : ℕ) (k : Known)
       → slice_get (map known (seats_in us)) i ≡ Some k → (t : Known) × (slice_get (map known ts) i ≡ Some t) × (k.number ≡ t.number)
   same_at [] [] all i k at = absurd (let e : None ≡ Some k = at in cc)
   same_at [] (u ∷ us) all i k at = absurd all
@@ -204,7 +209,7 @@ module _ {Q S : Type 0} (is_seat : Q → S → Type 0) (known : S → Known) (qu
       let t = all_same_at j l at' in
       new.apart i j s.0 t.0 s.1 t.1 (sym s.2 ∙ same ∙ t.2)
 
-  back_at : (ts : List S) (us : List (Back S)) → AllZip (IsBack is_seat known queue jobs) ts us → (i n : ℕ)
+  back_at : (ts : List S) (us : List (Back S)) → AllZip (IsBack is_seat known pop_cause queue jobs stops gated) ts us → (i n : ℕ)
       → IsSomeAnd (slice_get (map known ts) i) (λ k. k.number ≡ n) → IsSomeAnd (slice_get (map known (seats_in us)) i) (λ k. k.number ≡ n)
   back_at [] [] all i n at = at
   back_at [] (u ∷ us) all i n at = absurd all
@@ -222,7 +227,7 @@ module _ {Q S : Type 0} (is_seat : Q → S → Type 0) (known : S → Known) (qu
   -- what the submitter did
   mine : (shuts : List ℕ) × (g.mine ≡ after_pushes [] (known giver).number h.given.offered.count ++ map Shut shuts)
   mine =
-      let s = shut_more h.given.last g run.giver.unshut h.given.shut in
+      let s = shut_more is_seat known shut_cause queue h.given.last run.giver.seat run.giver.unshut h.given.shut in
       let unused = All-head (λ (k : Known). k.mine ≡ []) (known giver) (map known takers) new.unused in (
         s.0,
         s.1 ∙ ap (λ (es : List Entry). es ++ map Shut s.0) (h.given.offered.pushed ∙ ap (λ (es : List Entry). after_pushes es (known giver).number h.given.offered.count) unused),
@@ -257,7 +262,7 @@ module _ {Q S : Type 0} (is_seat : Q → S → Type 0) (known : S → Known) (qu
         let first = sum_by-cons f g back in
         let none = given_none in
         let few = h.given.offered.few in
-        let workers = workers_times n jobs one (omega (arith, low, few)) is_seat known queue takers ws h.back (All-tail (λ (k : Known). k.mine ≡ []) (known giver) (map known takers) new.unused) in
+        let workers = workers_times n jobs one (omega (arith, low, few)) is_seat known pop_cause queue stops gated takers ws h.back (All-tail (λ (k : Known). k.mine ≡ []) (known giver) (map known takers) new.unused) in
         let took = taken_times n closed.history in
         let same = ap (λ (vs : List Taken). times n (map body_of vs)) (pushed-Leads closed.history (was_shut_of rest) (left_of rest) closed.leads) in
         let parts : times n (map body_of (popped closed.history ++ left_of rest)) ≡ times n (map body_of (popped closed.history)) + times n (map body_of (left_of rest)) =
@@ -266,14 +271,14 @@ module _ {Q S : Type 0} (is_seat : Q → S → Type 0) (known : S → Known) (qu
         omega (arith, all, first, none, workers, took, same, parts, total)
 
   -- nothing is left where a worker found the queue shut and empty
-  found_end : (ts : List S) (us : List (Back S)) → AllZip (IsBack is_seat known queue jobs) ts us
+  found_end : (ts : List S) (us : List (Back S)) → AllZip (IsBack is_seat known pop_cause queue jobs stops gated) ts us
       → All (λ k. IsPrefix k.seen closed.history) (map known (seats_in us)) → (i : ℕ) (w : Back S) → slice_get us i ≡ Some w → w.end ≡ Finished
       → left_of rest ≡ []
   found_end ts [] all begins i w at fin = absurd (let e : None ≡ Some w = at in cc)
   found_end [] (u ∷ us) all begins i w at fin = absurd all
   found_end (t ∷ ts) (u ∷ us) all begins zero w at fin =
       let k = known u.seat in
-      let ended : EndsSo jobs all.0.last k Finished = subst (EndsSo jobs all.0.last k) (ap (λ (b : Back S). b.end) (same_Some u w at) ∙ fin) all.0.ended in
+      let ended : EndsSo is_seat known pop_cause queue jobs stops all.0.last u.seat Finished = subst (EndsSo is_seat known pop_cause queue jobs stops all.0.last u.seat) (ap (λ (b : Back S). b.end) (same_Some u w at) ∙ fin) all.0.ended in
       let begun : IsPrefix k.seen closed.history = All-head (λ (k : Known). IsPrefix k.seen closed.history) k (map known (seats_in us)) begins in
       let after : Queue = record { values = left_of rest; shut = was_shut_of rest } in
       ap (λ (q : Queue). q.values) (sym (ends_there k.seen begun.0 empty after ended.0 (subst (λ es. Plays empty es after) (sym begun.1) closed.leads)))

@@ -1,7 +1,9 @@
 -- Which results were gathered, and over which queue the numbers of their jobs went.
-use Rattle.std.specs.Prelude.{◌≡◌, ◌⊎◌, ℕ, ◌+◌, ◌<◌, List, ◌∷◌, map, Option, IsSome, IsSomeAnd, slice_get}
+use Rattle.std.specs.Prelude.{◌≡◌, ◌⊎◌, ℕ, ◌+◌, ◌<◌, List, ◌∷◌, length, map, Option, IsSome, IsSomeAnd, slice_get}
 use Rattle.std.specs.List.{All, AllZip, Contains, flat_map}
 use Rattle.history.specs.declared.operations.Taken.{Taken}
+use Rattle.history.specs.declared.refusals.Refusal.{Refusal}
+use Rattle.history.specs.declared.refusals.Refusal.TheVariants.{Lost}
 use Rattle.history.specs.Seats.{Known}
 use Rattle.history.specs.Values.{popped}
 use Rattle.job_results.specs.declared.jobs.Job.{Job}
@@ -9,6 +11,9 @@ use Rattle.job_results.specs.declared.results.JobResult.{JobResult}
 use Rattle.job_results.specs.GatheredResults.{IsListed}
 use Rattle.job_results.specs.Results.{number_in}
 use Rattle.dispatcher.specs.declared.workers.Back.{Back}
+use Rattle.dispatcher.specs.declared.crews.JobsRun.{JobsRun}
+use Rattle.dispatcher.specs.Submissions.{WasUnshut}
+use Rattle.dispatcher.specs.Crews.{HasRun}
 
 -- the job at this place has a result
 abbrev pub IsFilled : List (Option JobResult) → (place : ℕ) → Type 0
@@ -68,3 +73,14 @@ IsKept is_seat known queue was seat = is_seat queue seat × ((known seat).number
 pub record WentOver {Q S : Type 0} (is_seat : Q → S → Type 0) (known : S → Known) (queue : Q) (giver : S) (takers : List S) (jobs : ℕ) (seats : List S) : Type 0 where
   pub kept : AllZip (IsKept is_seat known queue) (giver ∷ takers) seats
   pub taken : Came jobs (bodies_in known seats)
+
+-- jobs were run, and of one of them no worker brought back a result
+pub record WasLost {Q S : Type 0} (is_seat : Q → S → Type 0) (known : S → Known) (push_cause pop_cause shut_cause : Q → S → S → ℕ → Refusal → Type 0) (queue : Q) (jobs : List Job) (gated : ℕ → Type 0) (giver : S) (takers : List S) : Type 0 where
+  pub run : JobsRun S
+  pub ran : HasRun is_seat known push_cause pop_cause shut_cause queue jobs (WasUnshut is_seat known shut_cause queue) gated giver takers run
+  pub missing : Came (length jobs) (numbers_in run.workers.items) → ⊥
+
+-- a refusal by `Lost` has this cause
+abbrev pub LosesOnly : (cause : Type 0) → Refusal → Type 0
+LosesOnly cause Lost = cause
+LosesOnly cause _ = Unit {0}

@@ -26,6 +26,13 @@ TakesNumber k k' (Some body) = Takes k body k'
 abbrev pub IsNoJob : List Job → (number : ℕ) → Type 0
 IsNoJob jobs number = (number ≡ 0) ⊎ (length jobs < number)
 
+-- this job's result, of this number, was put at the end, and nothing else
+pub record PutsOne (job : Job) (number : ℕ) (out out' : List JobResult) : Type 0 where
+  pub result : JobResult
+  pub numbered : number_in result ≡ number
+  pub of : job_in result ≡ job
+  pub added : out' ≡ out ++ result ∷ []
+
 -- the result of the job of this number was put at the end, and nothing else
 pub record PutsResult (jobs : List Job) (number : ℕ) (out out' : List JobResult) : Type 0 where
   pub from_one : 1 ≤ number
@@ -55,3 +62,8 @@ HandsOn cause (Ok Stop) = cause Closed
 HandsOn cause (Err (WornOut word)) = cause (WornOut word)
 HandsOn cause (Err Busy) = cause Busy
 HandsOn cause _ = Unit {0}
+
+-- a gate was told of the job that a turn did
+abbrev pub IsTold : (gated : ℕ → Type 0) → Worked → Type 0
+IsTold gated (Did number) = gated number
+IsTold gated _ = Unit {0}

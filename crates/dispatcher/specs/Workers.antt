@@ -3,7 +3,7 @@ use Rattle.std.specs.Prelude.{◌≡◌, ◌<◌, ◌⊎◌, ℕ, zero, suc, Lis
 use Rattle.history.specs.declared.operations.Entry.{Entry}
 use Rattle.history.specs.declared.operations.Entry.TheVariants.{Push}
 use Rattle.history.specs.declared.refusals.Refusal.{Refusal}
-use Rattle.history.specs.declared.refusals.Refusal.TheVariants.{BadSize, Closed, Lost, Memory, WornOut}
+use Rattle.history.specs.declared.refusals.Refusal.TheVariants.{BadSize, Lost, Memory}
 use Rattle.history.specs.Seats.{Permit, Known, MayPush, MayPop}
 use Rattle.job_results.specs.declared.jobs.Job.{Job}
 
@@ -27,14 +27,6 @@ after_pushes mine seat (suc n) = after_pushes mine seat n ++ Push seat (suc n) �
 -- a seat pushed the numbers from 1 to this one, in order, each once, and had no other effect
 abbrev pub HasPushed : Known → (most : ℕ) → Known → Type 0
 HasPushed k most k' = k'.mine ≡ after_pushes k.mine k.number most
-
--- the push of a job's number may end so: no worker runs, it is no body's number, a word was worn out, or the queue was shut
-abbrev pub EndsPushOne : Refusal → Type 0
-EndsPushOne Lost = Unit {0}
-EndsPushOne BadSize = Unit {0}
-EndsPushOne (WornOut word) = Unit {0}
-EndsPushOne Closed = Unit {0}
-EndsPushOne _ = ⊥
 
 -- there is no taker, or there are more than 1,000,000 jobs
 abbrev pub IsBadSize : {S : Type 0} → (takers : List S) → List Job → Type 0

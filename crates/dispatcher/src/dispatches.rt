@@ -5,17 +5,19 @@ ghost use Rattle.job_results.specs.Jobs.{job_rows};
 ghost use Rattle.job_results.specs.Results.{row_of, HaveJobs};
 ghost use Rattle.blocking_queue.specs.Queues.{queue_of};
 ghost use Rattle.dispatcher.specs.Workers.{IsTaker, IsGiver, IsBadSize, StopsDispatch, StopsWorkers};
+ghost use Rattle.dispatcher.specs.Submissions.{WasUnshut};
 ghost use Rattle.dispatcher.specs.Crews.{HasRun, IsAsGiven, IsRefusedSize};
-ghost use Rattle.dispatcher.specs.Goings.{WentOver};
+ghost use Rattle.dispatcher.specs.Goings.{WentOver, WasLost, LosesOnly};
 
 use crate::crews::{JobsRun, Unrun, run};
 use crate::gate::Gate;
 use crate::results::{Dispatched, gathered, seats_for};
-use crate::workers::Signals;
+use crate::signals::{Excuse, Signals};
 use blocking_queue::BlockingQueue;
 use history::{Fifo, Refusal};
 use job_results::{Gather, Job, JobResult};
 use std::alloc::Global;
+use std::marker::Brand;
 use std::sync::Wait;
 use std::thread;
 use std::thread::Threads;
@@ -56,12 +58,16 @@ pub fn run_jobs<'a, R: Threads + Wait + Sync, Q: Fifo + Sync, G: Gate + Sync>(
 ) -> Result<JobsRun<'a, Q::Seat>, Unrun<Q::Seat>>
     requires giver { IsGiver Q.is_seat Q.permits Q.known (queue_of queue.now) giver }
     requires takers { All (IsTaker Q.is_seat Q.permits Q.known (queue_of queue.now)) takers.items }
-    //= jobs/run: Jobs that are run: the submitter pushed the numbers from 1 on, in order and each once, all of them unless it
-    //=   tells why not, and then shut the queue, found it shut, or tells why it couldn't. Each worker, in the order of the
-    //=   seats handed in, brings its seat back and the result of each job whose number it took, also where it was refused;
-    //=   and tells how it ended: the queue shut and empty, or empty; or what it was refused.
-    ensures run { IfOk result
-        (HasRun Q.is_seat Q.known (queue_of queue.now) jobs.now giver takers.items) }
+    //= jobs/run: Jobs that are run: the submitter pushed the numbers from 1 on, in order and each once, all of them or up to
+    //=   the first that wasn't pushed: a look told that no worker was left, or the push was refused, with the queue's
+    //=   cause. Then it shut the queue, found it shut, or was refused the shut, with the queue's cause. Each worker, in the
+    //=   order of the seats handed in, brings its seat back and the result of each job whose number it took, also where it
+    //=   was refused, and the gate was told of each. It ended since it found the queue shut and empty, or empty where a
+    //=   shut was refused; or was refused memory, or a pop, with the queue's cause; or took a number that no job has.
+    ensures run { IfOk result (HasRun Q.is_seat Q.known Q.push_cause Q.pop_cause Q.shut_cause
+        (queue_of queue.now) jobs.now
+        (WasUnshut Q.is_seat Q.known Q.shut_cause (queue_of queue.now)) (G.done gate.now)
+        giver takers.items) }
     //= jobs/unrun (unrun, sized, refusal): Refused, `run_jobs` gives the seats back as they were. `BadSize` comes exactly
     //=   where there is no taker or more than 1,000,000 jobs; else only `Memory`.
     ensures unrun { IfErr result (IsAsGiven giver takers) }
@@ -75,11 +81,11 @@ pub fn run_jobs<'a, R: Threads + Wait + Sync, Q: Fifo + Sync, G: Gate + Sync>(
             takers,
         });
     }
-    run_in_scope(rt, alloc, queue, giver, takers, jobs, gate)
+    run_with::<R, Q, G, Brand>(rt, alloc, queue, giver, takers, jobs, gate)
 }
 
-// Runs the workers in a scope of threads, which ends once each of them has ended.
-fn run_in_scope<'a, R: Threads + Wait + Sync, Q: Fifo + Sync, G: Gate + Sync>(
+// Runs the workers with signals of their own.
+fn run_with<'a, R: Threads + Wait + Sync, Q: Fifo + Sync, G: Gate + Sync, X: Excuse + Sync>(
     rt: &R,
     alloc: Global,
     queue: &BlockingQueue<Q>,
@@ -90,13 +96,42 @@ fn run_in_scope<'a, R: Threads + Wait + Sync, Q: Fifo + Sync, G: Gate + Sync>(
 ) -> Result<JobsRun<'a, Q::Seat>, Unrun<Q::Seat>>
     requires giver { IsGiver Q.is_seat Q.permits Q.known (queue_of queue.now) giver }
     requires takers { All (IsTaker Q.is_seat Q.permits Q.known (queue_of queue.now)) takers.items }
-    ensures run { IfOk result
-        (HasRun Q.is_seat Q.known (queue_of queue.now) jobs.now giver takers.items) }
+    requires excuse { WasUnshut Q.is_seat Q.known Q.shut_cause (queue_of queue.now) → X.cause }
+    ensures run { IfOk result (HasRun Q.is_seat Q.known Q.push_cause Q.pop_cause Q.shut_cause
+        (queue_of queue.now) jobs.now X.cause (G.done gate.now) giver takers.items) }
     ensures unrun { IfErr result (IsAsGiven giver takers) }
     ensures only_memory { IfErr result (λ unrun. unrun.refusal ≡ Refusal.Memory) }
 {
-    let signals = Signals::new();
-    let told = &signals;
+    let signals = Signals::<X>::new();
+    run_in_scope(rt, alloc, queue, giver, takers, jobs, gate, &signals)
+}
+
+// Runs the workers in a scope of threads, which ends once each of them has ended.
+fn run_in_scope<
+    's,
+    'a: 's,
+    R: Threads + Wait + Sync,
+    Q: Fifo + Sync,
+    G: Gate + Sync,
+    X: Excuse + Sync,
+>(
+    rt: &'s R,
+    alloc: Global,
+    queue: &'s BlockingQueue<Q>,
+    giver: Q::Seat,
+    takers: Vec<Q::Seat>,
+    jobs: &'a [Job],
+    gate: &'s G,
+    told: &'s Signals<X>,
+) -> Result<JobsRun<'a, Q::Seat>, Unrun<Q::Seat>>
+    requires giver { IsGiver Q.is_seat Q.permits Q.known (queue_of queue.now) giver }
+    requires takers { All (IsTaker Q.is_seat Q.permits Q.known (queue_of queue.now)) takers.items }
+    requires excuse { WasUnshut Q.is_seat Q.known Q.shut_cause (queue_of queue.now) → X.cause }
+    ensures run { IfOk result (HasRun Q.is_seat Q.known Q.push_cause Q.pop_cause Q.shut_cause
+        (queue_of queue.now) jobs.now X.cause (G.done gate.now) giver takers.items) }
+    ensures unrun { IfErr result (IsAsGiven giver takers) }
+    ensures only_memory { IfErr result (λ unrun. unrun.refusal ≡ Refusal.Memory) }
+{
     thread::scope(
         thread::scope_env(),
         rt,
@@ -104,8 +139,11 @@ fn run_in_scope<'a, R: Threads + Wait + Sync, Q: Fifo + Sync, G: Gate + Sync>(
             requires giver { IsGiver Q.is_seat Q.permits Q.known (queue_of queue.now) giver }
             requires takers { All (IsTaker Q.is_seat Q.permits Q.known (queue_of queue.now))
                 takers.items }
-            ensures run { IfOk result (HasRun Q.is_seat Q.known (queue_of queue.entry.now)
-                jobs.entry.now giver takers.items) }
+            requires excuse { WasUnshut Q.is_seat Q.known Q.shut_cause (queue_of queue.now)
+                → X.cause }
+            ensures run { IfOk result (HasRun Q.is_seat Q.known Q.push_cause Q.pop_cause
+                Q.shut_cause (queue_of queue.entry.now) jobs.entry.now X.cause
+                (G.done gate.entry.now) giver takers.items) }
             ensures unrun { IfErr result (IsAsGiven giver takers) }
             ensures only_memory { IfErr result (λ unrun. unrun.refusal ≡ Refusal.Memory) }
         { run(scope, rt, alloc, queue, giver, takers, jobs, gate, told) },
@@ -130,7 +168,7 @@ pub fn dispatch_keeping_seats<'a, R: Threads + Wait + Sync, Q: Fifo + Sync, G: G
 ) -> Result<Dispatched<'a, Q::Seat>, Refusal>
     requires giver { IsGiver Q.is_seat Q.permits Q.known (queue_of queue.now) giver }
     requires takers { All (IsTaker Q.is_seat Q.permits Q.known (queue_of queue.now)) takers.items }
-    //= jobs/kept (rows, same, went, sized, refusal): A dispatch that keeps the seats answers as `dispatch` does; with the
+    //= jobs/kept (rows, same, went, sized, refusal, lost): A dispatch that keeps the seats answers as `dispatch` does; with the
     //=   results come the seats, the queue's, each with the number that it had, the giver's first: the number of each job was
     //=   taken from the queue by one of them.
     ensures rows { IfOk result (λ d. map row_of d.results.items ≡ job_rows 1 jobs.now) }
@@ -139,6 +177,8 @@ pub fn dispatch_keeping_seats<'a, R: Threads + Wait + Sync, Q: Fifo + Sync, G: G
         (length jobs.now) d.seats.items) }
     ensures sized { (result ≡ Err Refusal.BadSize) ↔ IsBadSize takers.items jobs.now }
     ensures refusal { IfErr result StopsDispatch }
+    ensures lost { IfErr result (LosesOnly (WasLost Q.is_seat Q.known Q.push_cause Q.pop_cause
+        Q.shut_cause (queue_of queue.now) jobs.now (G.done gate.now) giver takers.items)) }
 {
     if is_bad_size(&takers, jobs) {
         return Err(Refusal::BadSize);
@@ -178,13 +218,15 @@ pub fn dispatch<'a, R: Threads + Wait + Sync, Q: Fifo + Sync, G: Gate + Sync>(
 ) -> Result<Vec<JobResult<'a>>, Refusal>
     requires giver { IsGiver Q.is_seat Q.permits Q.known (queue_of queue.now) giver }
     requires takers { All (IsTaker Q.is_seat Q.permits Q.known (queue_of queue.now)) takers.items }
-    //= jobs/dispatch (rows, same, sized, refusal): A dispatch answers each job's number, kind and value once, in the order
-    //=   of the jobs. `BadSize` comes exactly where there is no taker or more than 1,000,000 jobs; else `Lost` and
-    //=   `Memory`.
+    //= jobs/dispatch (rows, same, sized, refusal, lost): A dispatch answers each job's number, kind and value once, in the
+    //=   order of the jobs. `BadSize` comes exactly where there is no taker or more than 1,000,000 jobs; else `Lost`, only
+    //=   where jobs were run of which some worker brought back no result, and `Memory`.
     ensures rows { IfOk result (λ results. map row_of results.items ≡ job_rows 1 jobs.now) }
     ensures same { IfOk result (λ results. HaveJobs results.items jobs.now) }
     ensures sized { (result ≡ Err Refusal.BadSize) ↔ IsBadSize takers.items jobs.now }
     ensures refusal { IfErr result StopsDispatch }
+    ensures lost { IfErr result (LosesOnly (WasLost Q.is_seat Q.known Q.push_cause Q.pop_cause
+        Q.shut_cause (queue_of queue.now) jobs.now (G.done gate.now) giver takers.items)) }
 {
     match dispatch_keeping_seats(rt, alloc, queue, giver, takers, jobs, gate) {
         Ok(done) => {

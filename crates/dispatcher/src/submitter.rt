@@ -1,70 +1,97 @@
 //! The submitter: it pushes the numbers of the jobs, and then shuts the queue.
-ghost use Rattle.std.specs.Prelude.{◌≡◌, ◌≤◌, OnOk, OnErr, IfErr};
+ghost use Rattle.std.specs.Prelude.{◌≡◌, OnOk, OnErr, IfErr};
 ghost use Rattle.history.specs.Seats.{MayPush};
 ghost use Rattle.blocking_queue.specs.Queues.{queue_of};
-ghost use Rattle.dispatcher.specs.Workers.{IsGiver, HasPushedOne, EndsPushOne};
-ghost use Rattle.dispatcher.specs.Submissions.{HasOffered, EndsShutBy, HasGiven};
+ghost use Rattle.dispatcher.specs.Workers.{IsGiver, HasPushedOne};
+ghost use Rattle.dispatcher.specs.Submissions.{EndsPushOne, HasOffered, EndsShutBy, WasUnshut, HasGiven, refusal_of};
 
-use crate::workers::{NoneLeft, Signals};
+use crate::signals::{AllEnded, Excuse, NoneLeft, Signals};
 use blocking_queue::{BlockingQueue, InTime};
 use history::{Body, Fifo, Refusal};
 use std::sync::Wait;
+
+/// Why a number wasn't pushed.
+#[derive(Clone, Copy, Debug, PartialEq, Eq)]
+pub enum Unpushed {
+    /// No worker was left.
+    NoneLeft(NoneLeft),
+    /// It is no body's number, by `BadSize`; or its push was refused, by `WornOut` or `Closed`.
+    Refused(Refusal),
+}
+
+impl Unpushed {
+    /// The refusal: `Lost` where no worker was left. Takes no memory.
+    pub fn refusal(&self) -> Refusal
+        //= jobs/unpushed: Why a number wasn't pushed is told as a refusal too: `Lost` where no worker was left.
+        ensures { result ≡ refusal_of self.now }
+    {
+        match self {
+            Unpushed::NoneLeft(_) => Refusal::Lost,
+            Unpushed::Refused(refusal) => *refusal,
+        }
+    }
+}
 
 /// What the submitter brings back: its seat, why it pushed no more numbers, if it didn't push all, and why the queue couldn't
 /// be shut, if it couldn't.
 #[derive(Drop)]
 pub struct Given<S> {
     pub seat: S,
-    pub refused: Option<Refusal>,
+    pub refused: Option<Unpushed>,
     pub unshut: Option<Refusal>,
 }
 
 // Pushes one number while a worker runs, and sleeps while no node is free.
-fn push_one<R: Wait, Q: Fifo>(
+fn push_one<R: Wait, Q: Fifo, X: Excuse>(
     rt: &R,
     queue: &BlockingQueue<Q>,
     seat: &mut Q::Seat,
     number: u64,
     workers: usize,
-    signals: &Signals,
-) -> Result<(), Refusal>
+    signals: &Signals<X>,
+) -> Result<(), Unpushed>
     requires { IsGiver Q.is_seat Q.permits Q.known (queue_of queue.now) seat.old }
     ensures giver { IsGiver Q.is_seat Q.permits Q.known (queue_of queue.now) seat.new }
     ensures number { (Q.known seat.new).number ≡ (Q.known seat.old).number }
     ensures pushed { OnOk result (HasPushedOne (Q.known seat.old) number (Q.known seat.new)) }
     ensures kept { OnErr result ((Q.known seat.new).mine ≡ (Q.known seat.old).mine) }
-    ensures refusal { IfErr result EndsPushOne }
+    ensures refusal { IfErr result (EndsPushOne Q.is_seat Q.known Q.push_cause
+        (queue_of queue.now) workers number seat.old seat.new) }
 {
     let Some(body) = Body::new(number) else {
-        return Err(Refusal::BadSize);
+        return Err(Unpushed::Refused(Refusal::BadSize));
     };
-    if signals.ended() >= workers {
-        return Err(Refusal::Lost);
+    for _ in rt.forever() {
+        if let Some(none) = signals.none_left(workers) {
+            return Err(Unpushed::NoneLeft(none));
+        }
+        match queue.send_until(rt, seat, body, &AllEnded::new(signals, workers)) {
+            Ok(InTime::Done(())) => return Ok(()),
+            Ok(InTime::Late(_)) => {}
+            Err(refusal) => return Err(Unpushed::Refused(refusal)),
+        }
     }
-    match queue.send_until(rt, seat, body, &NoneLeft::new(signals, workers)) {
-        Ok(InTime::Done(())) => Ok(()),
-        Ok(InTime::Late(_)) => Err(Refusal::Lost),
-        Err(refusal) => Err(refusal),
-    }
+    unreachable!()
 }
 
-// Pushes 1 and so on to the number of jobs. Ends at the first push that is refused, and tells why.
-fn push_all<R: Wait, Q: Fifo>(
+// Pushes 1 and so on to the number of jobs. Ends at the first number that isn't pushed, and tells why.
+fn push_all<R: Wait, Q: Fifo, X: Excuse>(
     rt: &R,
     queue: &BlockingQueue<Q>,
     seat: &mut Q::Seat,
     jobs: usize,
     workers: usize,
-    signals: &Signals,
-) -> Option<Refusal>
+    signals: &Signals<X>,
+) -> Option<Unpushed>
     requires { IsGiver Q.is_seat Q.permits Q.known (queue_of queue.now) seat.old }
     ensures giver { IsGiver Q.is_seat Q.permits Q.known (queue_of queue.now) seat.new }
     ensures number { (Q.known seat.new).number ≡ (Q.known seat.old).number }
-    ensures offered { HasOffered (Q.known seat.old) jobs result (Q.known seat.new) }
+    ensures offered { HasOffered Q.is_seat Q.known Q.push_cause (queue_of queue.now) jobs workers
+        seat.old result seat.new }
 {
     for count in 0..jobs as u64 {
-        if let Err(refusal) = push_one(rt, queue, seat, count + 1, workers, signals) {
-            return Some(refusal);
+        if let Err(reason) = push_one(rt, queue, seat, count + 1, workers, signals) {
+            return Some(reason);
         }
     }
     None
@@ -76,7 +103,8 @@ fn shut<R: Wait, Q: Fifo>(rt: &R, queue: &BlockingQueue<Q>, seat: &mut Q::Seat) 
     requires role { MayPush (Q.permits (queue_of queue.now)) (Q.known seat.old).number }
     ensures seat { Q.is_seat (queue_of queue.now) seat.new }
     ensures number { (Q.known seat.new).number ≡ (Q.known seat.old).number }
-    ensures shut { EndsShutBy (Q.known seat.old) (Q.known seat.new) result }
+    ensures shut { EndsShutBy Q.is_seat Q.known Q.shut_cause (queue_of queue.now)
+        seat.old seat.new result }
 {
     match queue.shut(rt, seat) {
         Ok(()) | Err(Refusal::Closed) => None,
@@ -84,22 +112,24 @@ fn shut<R: Wait, Q: Fifo>(rt: &R, queue: &BlockingQueue<Q>, seat: &mut Q::Seat) 
     }
 }
 
-/// Pushes 1 and so on to the number of jobs, up to the first push that is refused, and then shuts the queue, where it isn't
-/// shut yet; or tells the workers that it can't be.
-pub(crate) fn submit<R: Wait, Q: Fifo>(
+/// Pushes 1 and so on to the number of jobs, up to the first that isn't pushed, and then shuts the queue, where it isn't shut
+/// yet; or tells the workers that it can't be.
+pub(crate) fn submit<R: Wait, Q: Fifo, X: Excuse>(
     rt: &R,
     queue: &BlockingQueue<Q>,
     mut seat: Q::Seat,
     jobs: usize,
     workers: usize,
-    signals: &Signals,
+    signals: &Signals<X>,
 ) -> Given<Q::Seat>
-    requires { IsGiver Q.is_seat Q.permits Q.known (queue_of queue.now) seat }
-    ensures { HasGiven Q.is_seat Q.known (queue_of queue.now) jobs seat result }
+    requires giver { IsGiver Q.is_seat Q.permits Q.known (queue_of queue.now) seat }
+    requires excuse { WasUnshut Q.is_seat Q.known Q.shut_cause (queue_of queue.now) → X.cause }
+    ensures { HasGiven Q.is_seat Q.known Q.push_cause Q.shut_cause (queue_of queue.now) jobs workers
+        seat result }
 {
     let refused = push_all(rt, queue, &mut seat, jobs, workers, signals);
     let unshut = shut(rt, queue, &mut seat);
-    if unshut.is_some() {
+    if let Some(_) = unshut {
         signals.give_up();
         queue.wake_all();
     }

@@ -2,7 +2,7 @@
 ghost use Rattle.std.specs.Prelude.{◌≡◌, ◌<◌, ◌≤◌, length, vec_len, vec_capacity, IfOk, IfErr, OnOk, OnErr};
 ghost use Rattle.history.specs.Seats.{MayPop};
 ghost use Rattle.history.specs.Answers.{PopRefused, StopsPop};
-ghost use Rattle.dispatcher.specs.WorkerTurns.{TakesNumber, IsNoJob, PutsResult, Works, WorksNot, HandsOn};
+ghost use Rattle.dispatcher.specs.WorkerTurns.{TakesNumber, IsNoJob, PutsResult, Works, WorksNot, HandsOn, IsTold, PutsOne};
 
 use crate::gate::Gate;
 use history::{Fifo, Refusal};
@@ -38,6 +38,15 @@ fn take_number<Q: Fifo>(queue: &Q, seat: &mut Q::Seat, turns: u32) -> Result<Opt
     Ok(Some(taken.body.number()))
 }
 
+// Does this job, whose number passed the gate: its result is put at the end of `out`, which has room.
+fn put_result<'a, G: Gate>(job: &'a Job, _gate: &G, out: &mut Vec<JobResult<'a>>, number: u64)
+    requires room { vec_len out.old < vec_capacity out.old }
+    requires begun { G.begun _gate.now number }
+    ensures { PutsOne job.now number out.old.items out.new.items }
+{
+    out.push_reserved(JobResult::new(number, job));
+}
+
 // Does the job of this number: its result is put at the end of `out`, which has room. Refused by `Stranger` where the number
 // is 0, or above that of the jobs.
 pub(crate) fn do_job<'a, G: Gate>(
@@ -48,6 +57,7 @@ pub(crate) fn do_job<'a, G: Gate>(
 ) -> Result<(), Refusal>
     requires { vec_len out.old < vec_capacity out.old }
     ensures put { OnOk result (PutsResult jobs.now number out.old.items out.new.items) }
+    ensures told { OnOk result (G.done gate.now number) }
     ensures refusal { IfErr result (λ refusal. refusal ≡ Refusal.Stranger) }
     ensures none { OnErr result (IsNoJob jobs.now number) }
     ensures refused { OnErr result (out.new.items ≡ out.old.items) }
@@ -59,7 +69,7 @@ pub(crate) fn do_job<'a, G: Gate>(
         return Err(Refusal::Stranger);
     };
     gate.before(number);
-    out.push_reserved(JobResult::new(number, job));
+    put_result(job, gate, out, number);
     gate.after(number);
     Ok(())
 }
@@ -100,6 +110,8 @@ pub fn work_one<'a, Q: Fifo, G: Gate>(
     //=   notes.
     ensures worked { IfOk result
         (Works jobs.now (Q.known seat.old) (Q.known seat.new) out.old.items out.new.items) }
+    //= jobs/told: A worker's turn that did a job told its gate of it by `after`, which asks for `before`.
+    ensures told { IfOk result (IsTold (G.done gate.now)) }
     //= jobs/refused_turn (refusal, caused, refused): A refused turn leaves the results. At `Memory` what the seat knows
     //=   stays; at `WornOut` and `Busy` nothing was taken, and it hands on, as at `Stop`; at `Stranger` a number was
     //=   taken that is 0 or above the jobs'.

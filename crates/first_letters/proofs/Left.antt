@@ -15,8 +15,8 @@ use Rattle.carriers.specs.Knowledge.{KnownOf, IsPermittedDeed}
 use Rattle.carriers.specs.Answers.{PushedOf}
 use Rattle.carriers.specs.Rests.{left_in}
 use Rattle.carriers.specs.Ends.{ClosesOf}
-use Rattle.deliveries.specs.Deliveries.{sent, taken_of, values_of}
-use Rattle.deliveries.proofs.Deliveries.{sent-RunsTo}
+use Rattle.carriers.specs.Deliveries.{sent, taken_of, values_of}
+use Rattle.carriers.proofs.Delivering.{sent-RunsTo}
 
 module _ {A : Type 0} where
   -- if none of these deeds, the first of which may be left out, is there, none of the others is

@@ -1,7 +1,7 @@
 //! An office that is closed with an order in it.
 ghost use Rattle.std.specs.Prelude.{◌≡◌, Some, IfOk, slice_get};
 ghost use Rattle.carriers.specs.Rests.{left_in};
-ghost use Rattle.deliveries.specs.Deliveries.{values_of};
+ghost use Rattle.carriers.specs.Deliveries.{values_of};
 
 use crate::orders::{Order, Orders};
 use carriers::RestOf;

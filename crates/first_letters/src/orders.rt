@@ -1,7 +1,7 @@
 //! Orders that are sent and read.
 use channels::{Receiver, Sender};
 use history::Refusal;
-use picked_values::ValueQueue;
+use picked::ValueQueue;
 use post_office::PostOffice;
 use std::alloc::Global;
 use std::sync::Wait;

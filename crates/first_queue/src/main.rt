@@ -5,7 +5,7 @@ ghost use Rattle.std.specs.List.{All};
 
 use carriers::{Carrier, ItemOf};
 use node_arena::Role;
-use picked_values::ValueQueue;
+use picked::ValueQueue;
 use std::io;
 
 #[derive(Debug, Drop)]

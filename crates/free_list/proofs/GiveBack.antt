@@ -26,12 +26,12 @@ use Rattle.node_arena.proofs.Noting.{none_due}
 use Rattle.node_arena.proofs.Paths.{added_is, ends_failed, kept_seat, now_kept, event, after, to_is, failed_last, now_holds}
 use Rattle.node_arena.proofs.Known.{by_known, empty_before}
 use Rattle.node_arena.proofs.Told.{was_in_range, actor_was_in_range, first_is_free, raised_names}
-use Rattle.arena_lines.specs.declared.outcomes.RowOutcome.{RowOutcome}
-use Rattle.arena_lines.specs.declared.outcomes.RowOutcome.TheVariants.{Goes, Ends}
-use Rattle.arena_lines.specs.declared.outcomes.Reply.TheVariants.{Done}
-use Rattle.arena_lines.proofs.Registers.{same_registers}
+use Rattle.free_list.specs.declared.outcomes.RowOutcome.{RowOutcome}
+use Rattle.free_list.specs.declared.outcomes.RowOutcome.TheVariants.{Goes, Ends}
+use Rattle.free_list.specs.declared.outcomes.Reply.TheVariants.{Done}
+use Rattle.free_list.proofs.Registers.{same_registers}
 use Rattle.free_list.specs.Registers.{Running}
-use Rattle.free_list.specs.declared.outcomes.Gave.TheVariants.{Back, Again}
+use Rattle.free_list.specs.declared.turns.Gave.TheVariants.{Back, Again}
 use Rattle.free_list.specs.Runs.{in_hand, gave_of, Frees, CallIsAt, StartsGive, Follows, GoesTo, Leaves}
 use Rattle.free_list.specs.Gives.{IsBack, GiveTurns, StandsAfterF1, Giving, GiveAnswers}
 use Rattle.free_list.proofs.Steps.{ref_free}

@@ -1,3 +1,5 @@
+pub mod Registers
+pub mod Spots
 pub mod Steps
 pub mod Ways
 pub mod Standing

@@ -23,11 +23,11 @@ use Rattle.node_arena.proofs.Paths.{no_walk, event, to_is, ended_at, stopped_at,
 use Rattle.node_arena.proofs.Known.{by_known, empty_before}
 use Rattle.node_arena.proofs.Told.{first_is_free}
 use Rattle.node_arena.proofs.Tracing.{traced_reached}
-use Rattle.arena_lines.specs.declared.outcomes.RowOutcome.{RowOutcome}
-use Rattle.arena_lines.specs.declared.outcomes.RowOutcome.TheVariants.{Goes, Ends}
-use Rattle.arena_lines.specs.declared.outcomes.Reply.TheVariants.{Refused as IsRefused}
-use Rattle.arena_lines.proofs.Registers.{same_registers}
-use Rattle.free_list.specs.declared.outcomes.Turn.TheVariants.{Took, Failed}
+use Rattle.free_list.specs.declared.outcomes.RowOutcome.{RowOutcome}
+use Rattle.free_list.specs.declared.outcomes.RowOutcome.TheVariants.{Goes, Ends}
+use Rattle.free_list.specs.declared.outcomes.Reply.TheVariants.{Refused as IsRefused}
+use Rattle.free_list.proofs.Registers.{same_registers}
+use Rattle.free_list.specs.declared.turns.Turn.TheVariants.{Took, Failed}
 use Rattle.free_list.specs.Registers.{Running}
 use Rattle.free_list.specs.Runs.{follow, in_hand, turn_of, AgreesAt, CallIsAt, Follows, GoesTo}
 use Rattle.free_list.specs.Takes.{WasThere, IsRefusedBy, Turns, StandsAfterN2}

@@ -13,7 +13,7 @@ use Rattle.node_arena.specs.declared.seats.Seat.{Seat}
 use Rattle.node_arena.specs.Seats.{IsReady, view, keeping, pocket_of}
 use Rattle.node_arena.specs.Turns.{failed_turns}
 use Rattle.node_arena.specs.Paths.{added, MetCause}
-use Rattle.free_list.specs.declared.outcomes.Turn.TheVariants.{Took, Failed, Refused}
+use Rattle.free_list.specs.declared.turns.Turn.TheVariants.{Took, Failed, Refused}
 use Rattle.node_arena.proofs.Paths.{added_is, last_held, ends_failed, kept_seat, now_kept}
 use Rattle.node_arena.proofs.Known.{empty_before}
 use Rattle.free_list.specs.Takes.{IsRefusedBy, TakeRefused, Turns, Trying, AnswersTake}

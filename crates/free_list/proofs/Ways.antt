@@ -11,10 +11,10 @@ use Rattle.node_arena.specs.Turns.{failed_turns}
 use Rattle.node_arena.specs.Paths.{ExtendsPath, added}
 use Rattle.node_arena.proofs.Noting.{AnswersSilently}
 use Rattle.node_arena.proofs.Paths.{no_pass, pass_then, then_stored, no_slots, then_slots, quiet_slots, added_is, ended_behind, stopped_behind, failed_behind, failed-append, event, pass_on}
-use Rattle.free_list.specs.declared.outcomes.Turn.{Turn}
-use Rattle.free_list.specs.declared.outcomes.Turn.TheVariants.{Took, Failed, Refused}
-use Rattle.free_list.specs.declared.outcomes.Gave.{Gave}
-use Rattle.free_list.specs.declared.outcomes.Gave.TheVariants.{Back, Again}
+use Rattle.free_list.specs.declared.turns.Turn.{Turn}
+use Rattle.free_list.specs.declared.turns.Turn.TheVariants.{Took, Failed, Refused}
+use Rattle.free_list.specs.declared.turns.Gave.{Gave}
+use Rattle.free_list.specs.declared.turns.Gave.TheVariants.{Back, Again}
 use Rattle.free_list.specs.Registers.{Running}
 use Rattle.free_list.specs.Runs.{Way, GoesTo, Leaves}
 use Rattle.free_list.specs.Takes.{Turned, Turns}

@@ -11,11 +11,11 @@ use Rattle.node_arena.specs.declared.seats.Seat.{Seat}
 use Rattle.node_arena.specs.Seats.{IsSeat, IsReady, KeepsName, KeepsSlots, view, pocket_of, failed_of}
 use Rattle.node_arena.specs.Turns.{failed_turns}
 use Rattle.node_arena.specs.Paths.{HadNoEffect, SeesNoMore, added, FailedAt, NowHolds, EndsFailed}
-use Rattle.arena_lines.specs.declared.outcomes.RowOutcome.{RowOutcome}
-use Rattle.arena_lines.specs.declared.outcomes.RowOutcome.TheVariants.{Goes, Ends}
+use Rattle.free_list.specs.declared.outcomes.RowOutcome.{RowOutcome}
+use Rattle.free_list.specs.declared.outcomes.RowOutcome.TheVariants.{Goes, Ends}
 use Rattle.free_list.specs.Registers.{Running}
-use Rattle.free_list.specs.declared.outcomes.Gave.{Gave}
-use Rattle.free_list.specs.declared.outcomes.Gave.TheVariants.{Back, Again}
+use Rattle.free_list.specs.declared.turns.Gave.{Gave}
+use Rattle.free_list.specs.declared.turns.Gave.TheVariants.{Back, Again}
 use Rattle.free_list.specs.Runs.{in_hand, StartsGive, giving, Way, GoesTo}
 
 -- a node is free, or set aside where Free's count is at the limit

@@ -14,14 +14,14 @@ use Rattle.node_arena.specs.declared.seats.Seat.{Seat}
 use Rattle.node_arena.specs.Seats.{IsBefore, IsReady, KeepsStored, KeepsName, KeepsSlots, DidStep, view, failed_of}
 use Rattle.node_arena.specs.Turns.{failed_turns}
 use Rattle.node_arena.specs.Paths.{Passes, HadNoEffect, SeesNoMore, added}
-use Rattle.arena_lines.specs.declared.outcomes.Reply.TheVariants.{Done, Refused as IsRefused}
-use Rattle.arena_lines.specs.declared.outcomes.RowOutcome.{RowOutcome}
-use Rattle.arena_lines.specs.declared.outcomes.RowOutcome.TheVariants.{Goes, Ends}
+use Rattle.free_list.specs.declared.outcomes.Reply.TheVariants.{Done, Refused as IsRefused}
+use Rattle.free_list.specs.declared.outcomes.RowOutcome.{RowOutcome}
+use Rattle.free_list.specs.declared.outcomes.RowOutcome.TheVariants.{Goes, Ends}
 use Rattle.free_list.specs.Registers.{Running}
-use Rattle.free_list.specs.declared.outcomes.Turn.{Turn}
-use Rattle.free_list.specs.declared.outcomes.Turn.TheVariants.{Took, Failed, Refused}
-use Rattle.free_list.specs.declared.outcomes.Gave.{Gave}
-use Rattle.free_list.specs.declared.outcomes.Gave.TheVariants.{Back, Again}
+use Rattle.free_list.specs.declared.turns.Turn.{Turn}
+use Rattle.free_list.specs.declared.turns.Turn.TheVariants.{Took, Failed, Refused}
+use Rattle.free_list.specs.declared.turns.Gave.{Gave}
+use Rattle.free_list.specs.declared.turns.Gave.TheVariants.{Back, Again}
 
 -- how a take sets out: its first turn begins an enqueue, and a later one goes on
 abbrev pub taking : ℕ → Prologue

@@ -12,11 +12,11 @@ use Rattle.node_arena.specs.declared.seats.Seat.{Seat}
 use Rattle.node_arena.specs.Seats.{IsSeat, IsBefore, view, pocket_of, failed_of}
 use Rattle.node_arena.specs.Turns.{failed_turns}
 use Rattle.node_arena.specs.Paths.{added, EndedAt, FailedAt, LastHeld, NowHolds, IsRefusedAt, MetCause, EndsFailed, IsSole}
-use Rattle.arena_lines.specs.declared.outcomes.RowOutcome.{RowOutcome}
-use Rattle.arena_lines.specs.declared.outcomes.RowOutcome.TheVariants.{Goes, Ends}
+use Rattle.free_list.specs.declared.outcomes.RowOutcome.{RowOutcome}
+use Rattle.free_list.specs.declared.outcomes.RowOutcome.TheVariants.{Goes, Ends}
 use Rattle.free_list.specs.Registers.{Running}
-use Rattle.free_list.specs.declared.outcomes.Turn.{Turn}
-use Rattle.free_list.specs.declared.outcomes.Turn.TheVariants.{Took, Failed, Refused}
+use Rattle.free_list.specs.declared.turns.Turn.{Turn}
+use Rattle.free_list.specs.declared.turns.Turn.TheVariants.{Took, Failed, Refused}
 use Rattle.free_list.specs.Runs.{taking, turn_of, Way, GoesTo, Leaves}
 
 -- a node was free or was never used

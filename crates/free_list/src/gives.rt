@@ -9,8 +9,8 @@ ghost use Rattle.node_arena.specs.Prologues.{continues};
 ghost use Rattle.free_list.specs.Runs.{CallIsAt, Follows, GoesTo, StartsGive, giving};
 ghost use Rattle.free_list.specs.Gives.{StandsAfterF1, GiveTurns, GiveAnswers, IsGivenBack, GiveBackRefused};
 
-use crate::outcomes::{ActorOf, Gave, given, registers};
-use arena_lines::{RowOutcome, access, first_row, frees, frees_aside, goes, onward, row};
+use crate::turns::{ActorOf, Gave, given, registers};
+use crate::{RowOutcome, access, first_row, frees, frees_aside, goes, onward, row};
 use counted_ref::CountedRefOf;
 use history::Refusal;
 use line_table::{Line, line_table};

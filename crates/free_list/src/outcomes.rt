@@ -1,98 +1,84 @@
-//! What a running call remembers, and what its turns come to.
+//! What a line leads to, by the words of the table's third column.
 ghost use Rattle.std.specs.Prelude.{◌≡◌};
-ghost use Rattle.free_list.specs.Runs.{in_hand, turn_of, gave_of};
+ghost use Rattle.history.specs.declared.refusals.Refusal.TheVariants.{WornOut, Closed};
+ghost use Rattle.node_arena.specs.Machine as machine;
 
-use arena_lines::{Reply, RowOutcome};
-use counted_ref::CountedRefOf;
-use history::Refusal;
-use line_table::Line;
-use node_arena::{ArenaOf, Held};
-use std::marker::Model;
+use history::{Refusal, WornWord};
+use line_table::{Kind, Line};
 
-/// The registers of a running call.
+/// What a running call is told.
 #[derive(Clone, Copy)]
-pub(crate) struct ActorOf<const B: u32> {
-    pub(crate) f: u32,
-    pub(crate) top: CountedRefOf<B>,
-    pub(crate) next: CountedRefOf<B>,
-    pub(crate) node: u32,
-    pub(crate) mark: u64,
-}
-
-impl<const B: u32> Model for ActorOf<B> {
-    ghost use Rattle.free_list.specs.Registers.{Running};
-
-    ghost Value = { Running };
-
-    ghost view = { λ a. record { f = a.f; top = a.top; next = a.next; node = a.node; mark = a.mark } };
-
-    ghost inverse = { λ a. record { f = a.f; top = a.top; next = a.next; node = a.node; mark = a.mark } };
-}
-
-/// What a turn of a take comes to.
-#[derive(Drop)]
-pub(crate) enum Turn {
-    /// A node came into the hand.
-    Took(Held),
-    /// The turn failed.
-    Failed,
-    /// The call ends with a refusal.
+pub enum Reply {
+    /// The body was pushed, the queue was shut, or the node is free or set aside.
+    Done,
+    /// The value of this word.
+    Value(u64),
+    Empty,
     Refused(Refusal),
 }
 
-/// What a turn of a give back comes to.
-#[derive(Drop)]
-pub(crate) enum Gave {
-    /// The node is free, or set aside.
-    Back,
-    /// The turn failed.
-    Again,
+/// What a line leads to.
+#[derive(Clone, Copy)]
+pub enum RowOutcome<A: Copy> {
+    /// The call goes on at a line, with these registers.
+    Goes(Line, A),
+    /// The call ends.
+    Ends(Reply),
 }
 
-/// Registers with this node and mark, and nothing read.
-pub(crate) fn registers<const B: u32, T>(arena: &ArenaOf<B, T>, node: u32, mark: u64) -> ActorOf<B>
-    ensures { in_hand result ≡ record { node = node; mark = mark } }
+#[inline(always)]
+pub fn goes<A: Copy>(line: Line, a: A) -> RowOutcome<A>
+    ensures { result ≡ RowOutcome.Goes line a }
 {
-    let null = arena.null();
-    ActorOf {
-        f: 0,
-        top: null,
-        next: null,
-        node,
-        mark,
-    }
+    RowOutcome::Goes(line, a)
 }
 
-impl<const B: u32> ActorOf<B> {
-    pub(crate) fn fills_hand(&mut self, node: u32, mark: u64)
-        ensures { self.new ≡ record self.old { node = node; mark = mark } }
-    {
-        self.node = node;
-        self.mark = mark;
-    }
-}
-
-/// The turn of a take that ends so.
-pub(crate) fn turned<const B: u32>(outcome: RowOutcome<ActorOf<B>>) -> Turn
-    ensures { result ≡ turn_of outcome.entry }
+#[inline(always)]
+pub fn ends<A: Copy>(reply: Reply, _: A) -> RowOutcome<A>
+    ensures { result ≡ RowOutcome.Ends reply }
 {
-    match outcome {
-        RowOutcome::Goes(Line::N1, _) => Turn::Failed,
-        RowOutcome::Goes(_, a) => Turn::Took(Held {
-            node: a.node,
-            mark: a.mark,
-        }),
-        RowOutcome::Ends(Reply::Refused(refusal)) => Turn::Refused(refusal),
-        RowOutcome::Ends(_) => Turn::Failed,
+    RowOutcome::Ends(reply)
+}
+
+/// A word is worn out.
+#[inline(always)]
+pub fn worn<A: Copy>(word: WornWord, a: A) -> RowOutcome<A>
+    ensures { result ≡ RowOutcome.Ends (Reply.Refused (WornOut word)) }
+{
+    ends(Reply::Refused(Refusal::WornOut(word)), a)
+}
+
+/// The queue is shut.
+#[inline(always)]
+pub fn closed<A: Copy>(a: A) -> RowOutcome<A>
+    ensures { result ≡ RowOutcome.Ends (Reply.Refused Closed) }
+{
+    ends(Reply::Refused(Refusal::Closed), a)
+}
+
+/// The node in hand is free or set aside: what frees a node is a call of its own.
+#[inline(always)]
+pub fn frees<A: Copy>(_: Kind, a: A) -> RowOutcome<A>
+    ensures { result ≡ RowOutcome.Ends Reply.Done }
+{
+    ends(Reply::Done, a)
+}
+
+/// The line at which a push begins that has its node.
+#[inline(always)]
+pub fn with_node(kind: Kind) -> Line
+    ensures { result ≡ machine.with_node kind }
+{
+    match kind {
+        Kind::NonBlocking => Line::E2,
+        Kind::TwoLock => Line::A1,
     }
 }
 
-/// The turn of a give back that ends so.
-pub(crate) fn given<const B: u32>(outcome: RowOutcome<ActorOf<B>>) -> Gave
-    ensures { result ≡ gave_of outcome.entry }
+/// The same.
+#[inline(always)]
+pub fn same<X: Copy>(x: X) -> X
+    ensures { result ≡ x }
 {
-    match outcome {
-        RowOutcome::Ends(_) => Gave::Back,
-        RowOutcome::Goes(..) => Gave::Again,
-    }
+    x
 }

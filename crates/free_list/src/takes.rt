@@ -9,8 +9,8 @@ ghost use Rattle.node_arena.specs.Prologues.{continues};
 ghost use Rattle.free_list.specs.Runs.{CallIsAt, Follows, GoesTo, taking};
 ghost use Rattle.free_list.specs.Takes.{StandsAfterN2, Turns, AnswersTake, IsTaken, TakeRefused, FailsFewer};
 
-use crate::outcomes::{ActorOf, Turn, registers, turned};
-use arena_lines::{Reply, RowOutcome, access, ends, first_row, goes, onward, row, with_node, worn};
+use crate::turns::{ActorOf, Turn, registers, turned};
+use crate::{Reply, RowOutcome, access, ends, first_row, goes, onward, row, with_node, worn};
 use history::{Refusal, WornWord};
 use line_table::{Line, line_table};
 use node_arena::{ArenaOf, Held, Seat, raised_unless_shut as raised};

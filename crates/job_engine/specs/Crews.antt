@@ -8,14 +8,14 @@ use Rattle.node_arena.specs.declared.roles.Role.TheVariants.{Giver, Taker}
 use Rattle.node_arena.specs.Plans.{Layout}
 use Rattle.node_arena.specs.NewArenas.{plan}
 use Rattle.node_arena.specs.Seats.{plan_of}
-use Rattle.any_queue.specs.Any.{AnyQueue, any_arena_of}
+use Rattle.picked.specs.Picked.{AnyQueue, any_arena_of}
 use Rattle.ring_queue.specs.declared.queue.RingQueue.{RingQueue}
 use Rattle.ring_queue.specs.declared.roles.Role.{Role as RingRole}
 use Rattle.ring_queue.specs.declared.roles.Role.TheVariants as ring
 use Rattle.ring_queue.specs.declared.seats.Seat.{Seat}
 use Rattle.ring_queue.specs.NewRings.{IsMade}
-use Rattle.either_queue.specs.declared.either.EitherQueue.{EitherQueue}
-use Rattle.either_queue.specs.declared.either.EitherQueue.TheVariants.{First, Second}
+use Rattle.picked.specs.declared.either.EitherQueue.{EitherQueue}
+use Rattle.picked.specs.declared.either.EitherQueue.TheVariants.{First, Second}
 use Rattle.line_table.specs.declared.kinds.QueueKind.{QueueKind}
 use Rattle.line_table.specs.declared.kinds.QueueKind.TheVariants.{Linked, Ring}
 use Rattle.dispatcher.specs.Workers.{IsTaker, IsGiver}

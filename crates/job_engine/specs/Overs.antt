@@ -4,12 +4,12 @@ use Rattle.std.specs.List.{All}
 use Rattle.history.specs.Seats.{Known}
 use Rattle.job_results.specs.declared.jobs.Job.{Job}
 use Rattle.node_arena.specs.Seats.{known_of}
-use Rattle.any_queue.specs.Any.{AnyQueue, IsAnySeat}
+use Rattle.picked.specs.Picked.{AnyQueue, IsAnySeat}
 use Rattle.ring_queue.specs.declared.queue.RingQueue.{RingQueue}
 use Rattle.ring_queue.specs.Queues.{IsNumberSeat}
 use Rattle.ring_queue.specs.Seats.{known_of as ring_known_of}
-use Rattle.either_queue.specs.declared.either.EitherQueue.{EitherQueue}
-use Rattle.either_queue.specs.declared.either.EitherQueue.TheVariants.{First, Second}
+use Rattle.picked.specs.declared.either.EitherQueue.{EitherQueue}
+use Rattle.picked.specs.declared.either.EitherQueue.TheVariants.{First, Second}
 use Rattle.dispatcher.specs.Goings.{Came, bodies_in}
 use Rattle.job_engine.specs.declared.crews.CrewSeats.{CrewSeats}
 use Rattle.job_engine.specs.declared.crews.CrewSeats.TheVariants.{Linked, Ring}

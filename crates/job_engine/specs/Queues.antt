@@ -1,6 +1,6 @@
 -- The queue over which jobs were done, and its seats.
-use Rattle.any_queue.specs.Any.{AnyQueue}
-use Rattle.either_queue.specs.declared.either.EitherQueue.{EitherQueue}
+use Rattle.picked.specs.Picked.{AnyQueue}
+use Rattle.picked.specs.declared.either.EitherQueue.{EitherQueue}
 use Rattle.ring_queue.specs.declared.queue.RingQueue.{RingQueue}
 use Rattle.job_engine.specs.declared.crews.CrewSeats.{CrewSeats}
 use Rattle.job_engine.specs.declared.crews.JobQueue.{JobQueue}

@@ -2,13 +2,13 @@
 ghost use Rattle.std.specs.Prelude.{◌≡◌, ◌≤◌, length, map, IfErr, IfOk};
 ghost use Rattle.std.specs.List.{All};
 ghost use Rattle.node_arena.specs.Seats.{plan_of};
-ghost use Rattle.any_queue.specs.Any.{any_arena_of};
+ghost use Rattle.picked.specs.Picked.{any_arena_of};
 ghost use Rattle.blocking_queue.specs.Queues.{queue_of};
 ghost use Rattle.job_results.specs.Jobs.{job_rows};
 ghost use Rattle.job_results.specs.Results.{row_of};
 ghost use Rattle.dispatcher.specs.Workers.{IsTaker, IsGiver, StopsWorkers};
 ghost use Rattle.dispatcher.specs.Goings.{WentOver};
-ghost use Rattle.any_queue.specs.Any.{IsAnySeat};
+ghost use Rattle.picked.specs.Picked.{IsAnySeat};
 ghost use Rattle.node_arena.specs.Seats.{known_of};
 ghost use Rattle.ring_queue.specs.Queues.{IsNumberSeat};
 ghost use Rattle.ring_queue.specs.Seats.{known_of as ring_known_of};
@@ -17,14 +17,13 @@ ghost use Rattle.job_engine.specs.Overs.{IsOver, WereOver};
 ghost use Rattle.job_engine.specs.Works.{AreSized};
 ghost use Rattle.job_engine.specs.Queues.{queue_in, seats_in};
 
-use any_queue::AnyQueue;
 use blocking_queue::BlockingQueue;
 use dispatcher::{Dispatched, Gate, dispatch_keeping_seats};
-use either_queue::EitherQueue;
 use history::{Fifo, Refusal};
 use job_results::{Job, JobResult};
 use line_table::{Kind, QueueKind};
 use node_arena::{MOST_COUNT, Role, Seat};
+use picked::{AnyQueue, EitherQueue};
 use ring_queue::{RingQueue, Role as RingRole, Seat as RingSeat};
 use std::alloc::Global;
 use std::sync::Wait;
@@ -38,6 +37,10 @@ const MOST_PLACE: u64 = (1 << 62) - 1;
 struct Open;
 
 impl Gate for Open {
+    ghost begun = { λ gate number. Unit {0} };
+
+    ghost done = { λ gate number. Unit {0} };
+
     fn before(&self, _number: u64) {}
 
     fn after(&self, _number: u64) {}

@@ -38,6 +38,7 @@ impl<T> Carrier for FullCarrier<T> {
     ghost use Rattle.history.specs.declared.refusals.Refusal.TheVariants.{NoNode, WornOut, Busy};
     ghost use Rattle.history.specs.declared.refusals.WornWord.TheVariants.{Tail};
     ghost use Rattle.mock_queues.specs.Permits.{one_permit};
+    ghost use Rattle.mock_queues.specs.Full.{closed_never};
     ghost use Rattle.mock_queues.specs.FullCarriers.{IsFullCarrierSeat, knows_empties, empties_are_sound};
 
     type Item = T;
@@ -57,6 +58,8 @@ impl<T> Carrier for FullCarrier<T> {
     ghost shut_cause = { λ _ _ _ _ refusal. refusal ≡ WornOut Tail };
 
     ghost sound = { λ _ seat _. empties_are_sound seat };
+
+    ghost closed_alike = { λ _ _ _ _. closed_never };
 
     ghost seat_prop = { λ _ _. Unit-prop };
 

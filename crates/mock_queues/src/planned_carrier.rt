@@ -46,6 +46,8 @@ impl<C: Carrier + Drop, P: Plan + Drop> Carrier for PlannedCarrier<C, P> {
 
     ghost sound = { λ q s h. C.sound (carrier_of q) s h };
 
+    ghost closed_alike = { λ _ _ _ _ cause. cause };
+
     ghost seat_prop = { λ q s. C.seat_prop (carrier_of q) s };
 
     fn try_push(

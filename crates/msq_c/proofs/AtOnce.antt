@@ -10,7 +10,7 @@ use Rattle.ring_queue.specs.Steps.{PushedAll}
 use Rattle.ring_queue.specs.Many.{AreEnough}
 use Rattle.ring_queue.specs.Queues.{push_causes, pop_causes}
 use Rattle.ring_queue.specs.Batches as ring
-use Rattle.either_queue.specs.Either.{second_of, as_second}
+use Rattle.picked.specs.Either.{second_of, as_second}
 use Rattle.msq_c.specs.Queues.{Queue, SeatOf}
 use Rattle.msq_c.specs.Batches.{TellsPush, AnswersPop}
 use Rattle.msq_c.proofs.Batches.{some_pushed, some_popped}

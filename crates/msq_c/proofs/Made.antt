@@ -9,23 +9,22 @@ use Rattle.node_arena.specs.declared.roles.Role.{Role}
 use Rattle.node_arena.specs.declared.seats.Seat.{Seat}
 use Rattle.node_arena.specs.Seats as arena
 use Rattle.node_arena.specs.NewArenas.{IsMade}
-use Rattle.owned_seats.specs.Owned.{queue_of, seat_of}
-use Rattle.owned_seats.proofs.SeatShares.{All-unmap}
-use Rattle.any_queue.specs.declared.picked.PickedQueue.{PickedQueue}
-use Rattle.any_queue.specs.Picked.{picked_arena_of, picked_permits_of}
+use Rattle.picked.specs.declared.picked.PickedQueue.{PickedQueue}
+use Rattle.picked.specs.Picked.{picked_arena_of, picked_permits_of}
+use Rattle.owned.specs.Owned.{seat_of}
+use Rattle.owned.proofs.SeatShares.{All-unmap}
 use Rattle.ring_queue.specs.declared.queue.RingQueue.{RingQueue}
 use Rattle.ring_queue.specs.declared.roles.Role.{Role as RingRole}
 use Rattle.ring_queue.specs.declared.seats.Seat.{Seat as RingSeat}
 use Rattle.ring_queue.specs.NewRings as ring
 use Rattle.ring_queue.specs.Queues.{permits_in}
 use Rattle.ring_queue.specs.Seats as rings
-use Rattle.either_queue.specs.declared.either.EitherQueue.TheVariants.{First, Second}
-use Rattle.either_queue.specs.Either.{first_of, second_of, as_first, as_second}
-use Rattle.either_queue.proofs.Within.{known_first, known_second}
+use Rattle.picked.specs.declared.either.EitherQueue.TheVariants.{First, Second}
+use Rattle.picked.specs.Either.{first_of, second_of, as_first, as_second}
 use Rattle.msq_c.specs.Queues.{Queue, SeatOf, known_of, permits_of}
 use Rattle.msq_c.specs.declared.seat_blocks.SeatBlock.{SeatBlock}
 use Rattle.msq_c.specs.declared.handles.MsqSeat.{MsqSeat}
-use Rattle.msq_c.specs.Blocks.{Owned, owned_in}
+use Rattle.msq_c.specs.Blocks.{Owned, queue_of, owned_in}
 use Rattle.msq_c.specs.Seats.{block_at, known_at}
 use Rattle.msq_c.specs.Made.{IsNew, AreUnused, ArePut, AreAsked, plan_for, places_for, kind_number, role_number, ring_role_number, seat_at}
 
@@ -38,7 +37,7 @@ module _ (kind nodes limit : ℕ) (numbers : List ℕ) (k : Kind) (roles : List 
 
   pub linked_unused : AreNew (picked_permits_of p) (map arena.known_of within) → AreNew (permits_of q) (map known_of seats)
   linked_unused new = subst (λ (x : Queue). AreNew (permits_of x) (map known_of seats)) (sym is)
-      (subst (AreNew (picked_permits_of p)) (sym (known_first arena.known_of rings.known_of seats within are)) new)
+      (subst (AreNew (picked_permits_of p)) (sym (ap (map known_of) are ∙ map-map known_of as_first within)) new)
 
 -- a new ring, and its seats
 module _ (values limit : ℕ) (numbers : List ℕ) (roles : List RingRole) (those : map ring_role_number roles ≡ numbers)
@@ -49,7 +48,7 @@ module _ (values limit : ℕ) (numbers : List ℕ) (roles : List RingRole) (thos
 
   pub ring_unused : AreNew (permits_in r) (map rings.known_of within) → AreNew (permits_of q) (map known_of seats)
   ring_unused new = subst (λ (x : Queue). AreNew (permits_of x) (map known_of seats)) (sym is)
-      (subst (AreNew (permits_in r)) (sym (known_second arena.known_of rings.known_of seats within are)) new)
+      (subst (AreNew (permits_in r)) (sym (ap (map known_of) are ∙ map-map known_of as_second within)) new)
 
 -- as many seats as numbers of roles
 pub many_new : (kind nodes limit : ℕ) (numbers : List ℕ) (q : Queue) (seats : List SeatOf) → IsNew kind nodes limit numbers q seats → length seats ≡ length numbers

@@ -8,18 +8,18 @@ use Rattle.history.specs.Ends.{Closes}
 use Rattle.history.specs.Seats.{Known}
 use Rattle.history.specs.declared.rests.Rest.{Rest}
 use Rattle.node_arena.specs.Ended.{HasRoomFor}
-use Rattle.owned_seats.specs.Owned.{queue_of, seat_of}
-use Rattle.owned_seats.proofs.SeatShares.{all_known}
-use Rattle.any_queue.specs.Picked.{picked_arena_of}
+use Rattle.picked.specs.Picked.{picked_arena_of}
+use Rattle.owned.specs.Owned.{seat_of}
+use Rattle.owned.proofs.SeatShares.{all_known}
 use Rattle.ring_queue.specs.Ends as ring
 use Rattle.ring_queue.specs.Queues.{permits_in}
-use Rattle.either_queue.specs.declared.either.EitherQueue.TheVariants.{First, Second}
-use Rattle.either_queue.specs.Ends.{HasEitherRoom, EitherAsks}
+use Rattle.picked.specs.declared.either.EitherQueue.TheVariants.{First, Second}
+use Rattle.picked.specs.EitherEnds.{HasEitherRoom, EitherAsks}
 use Rattle.msq_c.specs.declared.seat_blocks.EndRoom.{EndRoom}
 use Rattle.msq_c.specs.declared.handles.MsqSeat.{MsqSeat}
 use Rattle.msq_c.specs.declared.troubles.Trouble.{Trouble}
 use Rattle.msq_c.specs.Queues.{Queue, SeatOf, EndOf, known_of, permits_of, EndsWith, IsEnough}
-use Rattle.msq_c.specs.Blocks.{Owned, owned_in}
+use Rattle.msq_c.specs.Blocks.{Owned, queue_of, owned_in}
 use Rattle.msq_c.specs.Seats.{is_full, block_at, known_at, queue_at}
 use Rattle.msq_c.specs.Ends.{AreFull, AreOfOne, KeepSeats, owned_at, HasAnyRoom, HasRoomOf, ClosesHandles}
 

@@ -3,7 +3,7 @@ use Rattle.std.proofs.Common.{◌≡◌, ℕ, ◌-◌, ◌<◌, ◌≤◌, ◌^�
 use Rattle.std.proofs.lemmas.Bool.{ltb-true}
 use Rattle.std.proofs.lemmas.Nat.{pow_pos}
 use Rattle.counted_ref.specs.Ref.{IsSplit, reserved_node, count_bits}
-use Rattle.any_queue.specs.Splits.{bits_for, greatest_count}
+use Rattle.picked.specs.Splits.{bits_for, greatest_count}
 use Rattle.msq_c.specs.Made.{count_for}
 
 -- what holds of each of five splits where that has enough numbers, and of the last one anyhow, holds of the split for so many nodes

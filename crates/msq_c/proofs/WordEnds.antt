@@ -11,10 +11,10 @@ use Rattle.node_arena.specs.declared.ended.Ended.{Ended}
 use Rattle.node_arena.specs.declared.seats.Seat.{Seat}
 use Rattle.value_queue.specs.Ends.{LeavesValues}
 use Rattle.value_queue.specs.ValuesSeen.{known_by}
-use Rattle.any_values.specs.declared.any.AnyValues.{AnyValues}
-use Rattle.any_values.specs.Any.{arena_of, permits_of}
-use Rattle.owned_values.specs.Owned.{queue_of, seat_of}
-use Rattle.owned_values.proofs.SeatShares.{All-unmap}
+use Rattle.picked.specs.declared.kind_values.AnyValues.{AnyValues}
+use Rattle.picked.specs.AnyValues.{arena_of, permits_of}
+use Rattle.owned.specs.Owned.{queue_of, seat_of}
+use Rattle.owned.proofs.SeatShares.{All-unmap}
 use Rattle.msq_c.specs.declared.troubles.Trouble.{Trouble}
 use Rattle.msq_c.specs.WordBlocks.{Owned, Own, owned_in, queue_in}
 use Rattle.msq_c.specs.WordSeats.{known_at, queue_at}

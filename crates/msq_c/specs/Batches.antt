@@ -5,9 +5,9 @@ use Rattle.history.specs.declared.operations.Taken.{Taken}
 use Rattle.history.specs.declared.refusals.Refusal.{Refusal}
 use Rattle.history.specs.Seats.{Known, MayPush, MayPop}
 use Rattle.history.specs.Answers.{StopsPush, StopsPop, PushRefused, PopRefused, FoundEmpty}
-use Rattle.any_queue.specs.Picked.{PickedPushRefused, PickedPopRefused}
+use Rattle.picked.specs.Picked.{PickedPushRefused, PickedPopRefused}
 use Rattle.ring_queue.specs.Queues.{push_causes, pop_causes}
-use Rattle.either_queue.specs.Either.{EitherCause}
+use Rattle.picked.specs.Either.{EitherCause}
 use Rattle.msq_c.specs.Queues.{Queue, SeatOf, IsRing, known_of, permits_of}
 use Rattle.msq_c.specs.Many.{Makes, PushesFirst, pops}
 

@@ -5,35 +5,47 @@ use Rattle.history.specs.declared.operations.Taken.{Taken}
 use Rattle.history.specs.Limits.{body_bits}
 use Rattle.history.specs.Seats.{Permit, Known, MayPush, MayPop}
 use Rattle.history.specs.Answers.{StopsPush, StopsPop, StopsShut, PushRefused, PopRefused}
-use Rattle.owned_seats.specs.declared.seats.OwnedSeat.{OwnedSeat}
-use Rattle.owned_seats.specs.Owned.{queue_of, seat_of}
-use Rattle.history.specs.declared.queues.Fifo.{Ghosts}
-use Rattle.any_queue.specs.Picked.{IsPickedSeat, PickedPushRefused, PickedPopRefused, PickedShutRefused}
+use Rattle.picked.specs.Picked.{IsPickedSeat, PickedPushRefused, PickedPopRefused, PickedShutRefused}
+use Rattle.owned.specs.declared.seats.OwnedSeat.{OwnedSeat}
+use Rattle.owned.specs.Owned.{seat_of}
+use Rattle.owned.specs.Owned as owned
+use Rattle.carriers.specs.declared.queues.Carrier.{Ghosts}
+use Rattle.carriers.specs.declared.numbered.Numbers.{Numbers}
+use Rattle.carriers.specs.Numbers.{fifo_of}
+use Rattle.carriers.specs.DeedsOfNumbers.{known_by_deeds}
 use Rattle.ring_queue.specs.Queues.{IsNumberSeat, push_causes, pop_causes, shut_causes}
-use Rattle.either_queue.specs.Either.{IsEitherSeat, EitherCause}
+use Rattle.picked.specs.Either.{IsEitherSeat, EitherCause}
 use Rattle.msq_c.specs.declared.seat_blocks.SeatBlock.{SeatBlock}
 use Rattle.msq_c.specs.declared.troubles.Trouble.{Trouble}
 use Rattle.msq_c.specs.declared.troubles.Trouble.TheVariants.{Refused, BadSize, NoRole}
 use Rattle.msq_c.specs.Queues.{Queue, SeatOf, known_of, permits_of}
 
--- what a queue of any kind names as a queue with seats
-abbrev pub fifo : Ghosts Queue SeatOf
-fifo = record {
-  is_seat = IsEitherSeat IsPickedSeat IsNumberSeat;
-  permits = permits_of;
-  known = known_of;
-  push_cause = EitherCause PickedPushRefused push_causes;
-  pop_cause = EitherCause PickedPopRefused pop_causes;
-  shut_cause = EitherCause PickedShutRefused shut_causes;
+-- what a queue of any kind names as one of values that are numbers
+abbrev pub numbers : Ghosts (Numbers Queue) ℕ SeatOf
+numbers = record {
+  is_seat = λ q s. IsEitherSeat IsPickedSeat IsNumberSeat (fifo_of q) s;
+  permits = λ q. permits_of (fifo_of q);
+  known = λ s. known_by_deeds (known_of s);
+  push_cause = λ q s t turns refusal. EitherCause PickedPushRefused push_causes (fifo_of q) s t turns refusal;
+  pop_cause = λ q s t turns refusal. EitherCause PickedPopRefused pop_causes (fifo_of q) s t turns refusal;
+  shut_cause = λ q s t turns refusal. EitherCause PickedShutRefused shut_causes (fifo_of q) s t turns refusal;
 }
 
 -- a seat of a queue of any kind, with its share
 abbrev pub Owned : Type 0
-Owned = OwnedSeat Queue SeatOf fifo
+Owned = OwnedSeat (Numbers Queue) ℕ SeatOf numbers
+
+-- the queue of such a seat
+abbrev pub queue_of : Owned → Queue
+queue_of s = fifo_of (owned.queue_of s)
 
 -- the seat with its share
 abbrev pub owned_in : SeatBlock → Owned
 owned_in s = s.owned
+
+-- the queue of a seat, as one of values
+abbrev pub numbers_in : SeatBlock → Numbers Queue
+numbers_in s = owned.queue_of s.owned
 
 -- the queue of a seat
 abbrev pub queue_in : SeatBlock → Queue

@@ -5,9 +5,9 @@ use Rattle.history.specs.Ends.{Closes}
 use Rattle.history.specs.declared.refusals.Refusal.TheVariants.{Memory}
 use Rattle.history.specs.declared.rests.Rest.{Rest}
 use Rattle.node_arena.specs.Ended.{HasRoomFor}
-use Rattle.any_queue.specs.Picked.{picked_arena_of}
+use Rattle.picked.specs.Picked.{picked_arena_of}
 use Rattle.ring_queue.specs.Ends as ring
-use Rattle.either_queue.specs.Ends.{HasEitherRoom}
+use Rattle.picked.specs.EitherEnds.{HasEitherRoom}
 use Rattle.msq_c.specs.declared.seat_blocks.EndRoom.{EndRoom}
 use Rattle.msq_c.specs.declared.handles.MsqSeat.{MsqSeat}
 use Rattle.msq_c.specs.declared.troubles.Trouble.{Trouble}

@@ -1,8 +1,8 @@
 -- What a seat answers that is told whether to keep its nodes.
 use Rattle.std.specs.Prelude.{◌≡◌, Bool, Result, OnOk, IfErr}
 use Rattle.node_arena.specs.Seats.{told_to_keep}
-use Rattle.either_queue.specs.declared.either.EitherSeat.TheVariants.{First, Second}
-use Rattle.either_queue.specs.Either.{as_first, as_second}
+use Rattle.picked.specs.declared.either.EitherSeat.TheVariants.{First, Second}
+use Rattle.picked.specs.Either.{as_first, as_second}
 use Rattle.msq_c.specs.declared.handles.MsqSeat.{MsqSeat}
 use Rattle.msq_c.specs.declared.troubles.Trouble.{Trouble}
 use Rattle.msq_c.specs.declared.troubles.Trouble.TheVariants.{NoHandle}

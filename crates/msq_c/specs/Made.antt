@@ -12,23 +12,23 @@ use Rattle.node_arena.specs.declared.roles.Role.{Role}
 use Rattle.node_arena.specs.declared.roles.Role.TheVariants.{Giver, Taker, Both}
 use Rattle.node_arena.specs.Plans.{Layout}
 use Rattle.node_arena.specs.NewArenas.{IsMade}
-use Rattle.owned_seats.specs.Owned.{queue_of, seat_of}
-use Rattle.any_queue.specs.Splits.{bits_for, greatest_count, limited_plan}
-use Rattle.any_queue.specs.declared.picked.PickedQueue.{PickedQueue}
-use Rattle.any_queue.specs.Picked.{picked_arena_of}
+use Rattle.picked.specs.Splits.{bits_for, greatest_count, limited_plan}
+use Rattle.picked.specs.declared.picked.PickedQueue.{PickedQueue}
+use Rattle.picked.specs.Picked.{picked_arena_of}
+use Rattle.owned.specs.Owned.{seat_of}
 use Rattle.ring_queue.specs.declared.queue.RingQueue.{RingQueue}
 use Rattle.ring_queue.specs.declared.roles.Role.{Role as RingRole}
 use Rattle.ring_queue.specs.declared.roles.Role.TheVariants as ring_role
 use Rattle.ring_queue.specs.declared.seats.Seat.{Seat as RingSeat}
 use Rattle.ring_queue.specs.NewRings as ring
-use Rattle.either_queue.specs.declared.either.EitherQueue.TheVariants.{First, Second}
-use Rattle.either_queue.specs.Either.{as_first, as_second}
+use Rattle.picked.specs.declared.either.EitherQueue.TheVariants.{First, Second}
+use Rattle.picked.specs.Either.{as_first, as_second}
 use Rattle.msq_c.specs.declared.seat_blocks.SeatBlock.{SeatBlock}
 use Rattle.msq_c.specs.declared.handles.MsqSeat.{MsqSeat}
 use Rattle.msq_c.specs.declared.troubles.Trouble.{Trouble}
 use Rattle.msq_c.specs.declared.troubles.Trouble.TheVariants.{Refused, BadSize, InUse}
 use Rattle.msq_c.specs.Queues.{Queue, SeatOf, known_of, permits_of}
-use Rattle.msq_c.specs.Blocks.{Owned, seat_in}
+use Rattle.msq_c.specs.Blocks.{Owned, queue_of, seat_in}
 use Rattle.msq_c.specs.Ends.{AreFull, AreEmpty}
 use Rattle.msq_c.specs.Seats.{block_at, known_at, queue_at}
 

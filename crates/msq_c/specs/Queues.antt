@@ -6,18 +6,18 @@ use Rattle.node_arena.specs.declared.ended.Ended.{Ended}
 use Rattle.node_arena.specs.declared.seats.Seat.{Seat}
 use Rattle.node_arena.specs.Ended.{Leaves}
 use Rattle.node_arena.specs.Seats as arena
-use Rattle.any_queue.specs.declared.picked.PickedQueue.{PickedQueue}
-use Rattle.any_queue.specs.Picked.{picked_arena_of, picked_permits_of}
+use Rattle.picked.specs.declared.picked.PickedQueue.{PickedQueue}
+use Rattle.picked.specs.Picked.{picked_arena_of, picked_permits_of}
 use Rattle.ring_queue.specs.declared.queue.RingQueue.{RingQueue}
 use Rattle.ring_queue.specs.declared.seats.Seat.{Seat as RingSeat}
 use Rattle.ring_queue.specs.Queues.{permits_in}
 use Rattle.ring_queue.specs.Seats as ring
-use Rattle.either_queue.specs.declared.either.EitherQueue.{EitherQueue}
-use Rattle.either_queue.specs.declared.either.EitherQueue.TheVariants.{First, Second}
-use Rattle.either_queue.specs.declared.either.EitherSeat.{EitherSeat}
-use Rattle.either_queue.specs.declared.ends.EitherEnd.{EitherEnd}
-use Rattle.either_queue.specs.Either.{either_permits, either_known}
-use Rattle.either_queue.specs.Ends.{EitherEnds}
+use Rattle.picked.specs.declared.either.EitherQueue.{EitherQueue}
+use Rattle.picked.specs.declared.either.EitherQueue.TheVariants.{First, Second}
+use Rattle.picked.specs.declared.either.EitherSeat.{EitherSeat}
+use Rattle.picked.specs.declared.either_seats.EitherEnd.{EitherEnd}
+use Rattle.picked.specs.Either.{either_permits, either_known}
+use Rattle.picked.specs.EitherEnds.{EitherEnds}
 
 -- a queue of any kind: of nodes, or a ring
 abbrev pub Queue : Type 0

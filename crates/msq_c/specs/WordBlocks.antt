@@ -7,17 +7,17 @@ use Rattle.carriers.specs.Knowledge.{KnownOf}
 use Rattle.carriers.specs.Answers.{PushRefusedOf, PopRefusedOf}
 use Rattle.node_arena.specs.declared.seats.Seat.{Seat}
 use Rattle.value_queue.specs.ValuesSeen.{known_by}
-use Rattle.any_values.specs.declared.any.AnyValues.{AnyValues}
-use Rattle.any_values.specs.Any.{permits_of, PushCause, PopCause, ShutCause}
-use Rattle.owned_values.specs.declared.seats.ValueSeat.{ValueSeat}
-use Rattle.owned_values.specs.Owned.{queue_of, seat_of}
+use Rattle.picked.specs.declared.kind_values.AnyValues.{AnyValues}
+use Rattle.picked.specs.AnyValues.{permits_of, PushCause, PopCause, ShutCause}
+use Rattle.owned.specs.declared.seats.OwnedSeat.{OwnedSeat}
+use Rattle.owned.specs.Owned.{queue_of, seat_of}
 use Rattle.msq_c.specs.declared.word_blocks.WordsBlock.{WordsBlock}
 use Rattle.msq_c.specs.declared.troubles.Trouble.{Trouble}
 use Rattle.msq_c.specs.declared.troubles.Trouble.TheVariants.{Refused, BadSize, NoRole}
 
 -- a seat of a queue of such values, with its share
 abbrev pub Owned : (T : Type 0) → Ghosts (AnyValues T) T (Seat T) → Type 0
-Owned T g = ValueSeat (AnyValues T) T (Seat T) g
+Owned T g = OwnedSeat (AnyValues T) T (Seat T) g
 
 -- the same, as a handle owns it
 abbrev pub Own : (T : Type 0) → Ghosts (AnyValues T) T (Seat T) → Type 0

@@ -9,10 +9,10 @@ use Rattle.node_arena.specs.declared.ended.Ended.{Ended}
 use Rattle.node_arena.specs.declared.seats.Seat.{Seat}
 use Rattle.value_queue.specs.declared.ends.Room.{Room}
 use Rattle.value_queue.specs.Ends.{HasRoom, LeavesValues}
-use Rattle.any_values.specs.declared.any.AnyValues.{AnyValues}
-use Rattle.any_values.specs.Any.{arena_of, permits_of}
-use Rattle.owned_values.specs.declared.ends.EndRoom.{EndRoom}
-use Rattle.owned_values.specs.Unended.{HasEndRoom}
+use Rattle.picked.specs.declared.kind_values.AnyValues.{AnyValues}
+use Rattle.picked.specs.AnyValues.{arena_of, permits_of}
+use Rattle.owned.specs.declared.ends.EndRoom.{EndRoom}
+use Rattle.owned.specs.Unended.{HasEndRoom}
 use Rattle.msq_c.specs.declared.troubles.Trouble.{Trouble}
 use Rattle.msq_c.specs.declared.troubles.Trouble.TheVariants.{Refused, BadSize, NoHandle, InUse, Raced}
 use Rattle.msq_c.specs.WordBlocks.{Owned, Own, owned_in}

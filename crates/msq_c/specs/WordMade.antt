@@ -10,10 +10,10 @@ use Rattle.node_arena.specs.Plans.{Layout}
 use Rattle.node_arena.specs.NewArenas.{IsMade}
 use Rattle.value_queue.specs.Queues.{AreNewOf}
 use Rattle.value_queue.specs.ValuesSeen.{known_by}
-use Rattle.any_values.specs.declared.any.AnyValues.{AnyValues}
-use Rattle.any_values.specs.Splits.{limited_plan}
-use Rattle.any_values.specs.Any.{arena_of, permits_of}
-use Rattle.owned_values.specs.Owned.{queue_of, seat_of}
+use Rattle.picked.specs.declared.kind_values.AnyValues.{AnyValues}
+use Rattle.picked.specs.Splits.{value_limited_plan as limited_plan}
+use Rattle.picked.specs.AnyValues.{arena_of, permits_of}
+use Rattle.owned.specs.Owned.{queue_of, seat_of}
 use Rattle.msq_c.specs.declared.troubles.Trouble.{Trouble}
 use Rattle.msq_c.specs.declared.troubles.Trouble.TheVariants.{Refused, BadSize, InUse}
 use Rattle.msq_c.specs.Made.{kind_number, role_number, count_for, Asks, IsOutOfRange}

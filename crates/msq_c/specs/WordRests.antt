@@ -6,7 +6,7 @@ use Rattle.carriers.specs.declared.rests.RestOf.{RestOf}
 use Rattle.carriers.specs.Rests.{left_in, taken_in, whole_in, was_shut_in}
 use Rattle.node_arena.specs.declared.ended.Ended.{Ended}
 use Rattle.node_arena.specs.declared.seats.Seat.{Seat}
-use Rattle.any_values.specs.declared.any.AnyValues.{AnyValues}
+use Rattle.picked.specs.declared.kind_values.AnyValues.{AnyValues}
 use Rattle.msq_c.specs.declared.rests.MsqRest.{MsqRest}
 use Rattle.msq_c.specs.declared.troubles.Trouble.{Trouble}
 use Rattle.msq_c.specs.Values.{count_told, AreLaid}

@@ -3,8 +3,8 @@ use Rattle.std.specs.Prelude.{ℕ}
 use denote.Builtin.{u64}
 use denote.RattleType.{RattleType}
 use Rattle.node_arena.specs.contracts.seats.Seat as seat
-use Rattle.any_values.specs.contracts.any.AnyValues as any
-use Rattle.any_values.specs.contracts.any_calls.AnyValuesCarrier.TheImpl as carrier
+use Rattle.picked.specs.contracts.kind_values.AnyValues as any
+use Rattle.picked.specs.contracts.kind_values.AnyValuesCarrier.TheImpl as carrier
 use Rattle.msq_c.specs.contracts.words.MsqWords as words
 use Rattle.msq_c.specs.contracts.word_blocks.WordsBlock as own
 use Rattle.msq_c.specs.declared.words.MsqWords.{MsqWords}

@@ -6,7 +6,7 @@ use Rattle.carriers.specs.Knowledge.{KnownOf}
 use Rattle.carriers.specs.Answers.{PushedOf, PopAnswersOf, DidShutOf, MeetsOf}
 use Rattle.carriers.specs.declared.items.ItemOf.{ItemOf}
 use Rattle.node_arena.specs.declared.seats.Seat.{Seat}
-use Rattle.any_values.specs.declared.any.AnyValues.{AnyValues}
+use Rattle.picked.specs.declared.kind_values.AnyValues.{AnyValues}
 use Rattle.msq_c.specs.declared.troubles.Trouble.{Trouble}
 use Rattle.msq_c.specs.declared.troubles.Trouble.TheVariants.{NoHandle}
 use Rattle.msq_c.specs.WordBlocks.{Own, queue_in, known_in, RefusesPush, RefusesPop, RefusesShut}

@@ -2,8 +2,9 @@
 ghost use Rattle.std.specs.Prelude.{◌≡◌, ◌+◌, ◌++◌, ◌∷◌, [], map, length, true, IfOk, IfErr, OnOk, MatchBool};
 ghost use Rattle.std.specs.List.{All};
 ghost use Rattle.history.specs.Ends.{Closes};
-ghost use Rattle.owned_seats.specs.Owned.{queue_of, seat_of};
+ghost use Rattle.owned.specs.Owned.{seat_of};
 ghost use Rattle.msq_c.specs.Queues.{known_of, permits_of, EndsWith};
+ghost use Rattle.msq_c.specs.Blocks.{queue_of};
 ghost use Rattle.msq_c.specs.Seats.{is_full, block_at, queue_at};
 ghost use Rattle.msq_c.specs.Ends.{AreFull, AreEmpty, AreOfOne, KeepSeats, owned_at};
 ghost use Rattle.msq_c.specs.Ends.{HasAnyRoom, HasRoomOf, IsRoomless, RefusesRoom};
@@ -12,10 +13,11 @@ ghost use Rattle.msq_c.specs.Ends.{ClosesHandles, IsMemory, RefusesClose};
 use crate::handles::MsqSeat;
 use crate::seat_blocks::{EndRoom, Queue};
 use crate::troubles::Trouble;
-use either_queue::EitherEnd;
+use carriers::Numbers;
 use history::{Refusal, Rest};
 use node_arena::Ended;
-use owned_seats::OwnedSeat;
+use owned::OwnedSeat;
+use picked::EitherEnd;
 use std::alloc::Global;
 
 /// What an end of a queue gives beside the rest.
@@ -72,7 +74,7 @@ fn empties(alloc: Global, like: &[MsqSeat]) -> Result<Vec<MsqSeat>, Trouble>
 }
 
 // The seats of full handles, which are left empty; where memory is refused, as they were.
-fn take_all(alloc: Global, slots: &mut [MsqSeat]) -> Result<Vec<OwnedSeat<Queue>>, Trouble>
+fn take_all(alloc: Global, slots: &mut [MsqSeat]) -> Result<Vec<OwnedSeat<Numbers<Queue>>>, Trouble>
     requires { AreFull slots.old }
     ensures taken { IfOk result (λ owned. owned.items ≡ map owned_at slots.old) }
     ensures empty { OnOk result (AreEmpty slots.new) }
@@ -92,8 +94,8 @@ fn take_all(alloc: Global, slots: &mut [MsqSeat]) -> Result<Vec<OwnedSeat<Queue>
 // Ends the queue of these seats, the last one and others.
 fn ended(
     room: EndRoom,
-    last: OwnedSeat<Queue>,
-    others: Vec<OwnedSeat<Queue>>,
+    last: OwnedSeat<Numbers<Queue>>,
+    others: Vec<OwnedSeat<Numbers<Queue>>>,
 ) -> Result<(Rest, End), Trouble>
     requires room { HasAnyRoom (queue_of last) (length others.items + 1) room }
     requires others { All (λ s. queue_of s ≡ queue_of last) others.items }
@@ -104,7 +106,10 @@ fn ended(
 {
     let EndRoom { rest, seats } = room;
     match last.into_queue(seats, others) {
-        Ok((queue, seats)) => Ok(queue.close_with(rest, seats)),
+        Ok((numbers, seats)) => {
+            let queue = numbers.into_queue();
+            Ok(queue.close_with(rest, seats))
+        }
         Err(_) => Err(Trouble::Raced),
     }
 }

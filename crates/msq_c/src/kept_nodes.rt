@@ -4,8 +4,9 @@ ghost use Rattle.msq_c.specs.Keeps.{TellsKeeps, AnswersKeep};
 use crate::handles::MsqSeat;
 use crate::seat_blocks::{Queue, QueueSeat};
 use crate::troubles::Trouble;
-use either_queue::{EitherQueue, EitherSeat};
-use owned_seats::Act;
+use carriers::Numbers;
+use owned::Act;
+use picked::{EitherQueue, EitherSeat};
 use std::alloc::Global;
 
 /// To keep nodes, or to keep none; of a ring, which has none, nothing.
@@ -14,15 +15,15 @@ pub(crate) struct KeepsNodes {
     keeps: bool,
 }
 
-impl Act<Queue> for KeepsNodes {
+impl Act<Numbers<Queue>> for KeepsNodes {
     type Told = ();
 
     ghost asks = { λ _ _ _. Unit {0} };
 
     ghost tells = { λ act _ s _ t. TellsKeeps act.keeps s t };
 
-    fn act(self, queue: &Queue, seat: &mut QueueSeat) {
-        match (queue, seat) {
+    fn act(self, queue: &Numbers<Queue>, seat: &mut QueueSeat) {
+        match (queue.queue(), seat) {
             (EitherQueue::First(_), EitherSeat::First(seat)) => seat.keep_nodes(self.keeps),
             (EitherQueue::Second(_), EitherSeat::Second(_)) => {}
             _ => unreachable!(),

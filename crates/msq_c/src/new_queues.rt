@@ -2,8 +2,8 @@
 ghost use Rattle.std.specs.Prelude.{◌≡◌, ◌<◌, ◌≤◌, ◌^◌, map, length, IfOk, IfErr, OnOk, OnErr, MatchBool};
 ghost use Rattle.std.specs.List.{All};
 ghost use Rattle.history.specs.Openings.{AreNew};
-ghost use Rattle.either_queue.specs.Either.{IsEitherSeat};
-ghost use Rattle.any_queue.specs.Picked.{IsPickedSeat};
+ghost use Rattle.picked.specs.Either.{IsEitherSeat};
+ghost use Rattle.picked.specs.Picked.{IsPickedSeat};
 ghost use Rattle.ring_queue.specs.Queues.{IsNumberSeat};
 ghost use Rattle.msq_c.specs.Queues.{known_of, permits_of};
 ghost use Rattle.msq_c.specs.Ends.{AreEmpty, IsMemory};
@@ -17,12 +17,12 @@ use crate::handles::MsqSeat;
 use crate::ring_acts::AT_ONCE;
 use crate::seat_blocks::{Queue, QueueSeat, SeatBlock};
 use crate::troubles::Trouble;
-use any_queue::{PickedQueue, bits_for};
-use either_queue::EitherQueue;
+use carriers::Numbers;
 use history::{MOST_ACTOR, Refusal, Taken};
 use line_table::Kind;
 use node_arena::{Role, most_count, most_node};
-use owned_seats::{OwnedSeat, deal};
+use owned::{OwnedSeat, deal};
+use picked::{EitherQueue, PickedQueue, bits_for};
 use ring_queue::{MOST_SEATS, RingQueue, Role as RingRole};
 use std::alloc::Global;
 
@@ -251,7 +251,7 @@ fn seats_of(
     nodes: u32,
     limit: u64,
     numbers: &[u8],
-) -> Result<(Vec<OwnedSeat<Queue>>, Spacer), Trouble>
+) -> Result<(Vec<OwnedSeat<Numbers<Queue>>>, Spacer), Trouble>
     requires { Asks kind nodes limit numbers.now }
     ensures unused { IfOk result
         (λ made. AreUnused kind nodes limit numbers.now made.0.items) }
@@ -259,17 +259,18 @@ fn seats_of(
 {
     let (queue, seats) = new_queue(alloc, kind, nodes, limit, numbers)?;
     let spacer = spacer_for(alloc, nodes)?;
-    let Ok(owned) = deal(alloc, queue, seats) else {
+    let numbers = Numbers::new(queue);
+    let Ok(owned) = deal(alloc, numbers, seats) else {
         return Err(Trouble::Refused(Refusal::Memory));
     };
     Ok((owned, spacer))
 }
 
 // Room for what a seat pops at one step: of a ring for as many as that may be, and else for none.
-fn room_for(alloc: Global, seat: &OwnedSeat<Queue>) -> Result<Vec<Taken>, Trouble>
+fn room_for(alloc: Global, seat: &OwnedSeat<Numbers<Queue>>) -> Result<Vec<Taken>, Trouble>
     ensures { IfErr result IsMemory }
 {
-    let size = match seat.queue() {
+    let size = match seat.queue().queue() {
         EitherQueue::First(_) => 0,
         EitherQueue::Second(_) => AT_ONCE,
     };
@@ -282,7 +283,7 @@ fn room_for(alloc: Global, seat: &OwnedSeat<Queue>) -> Result<Vec<Taken>, Troubl
 // Each seat in a block of its own.
 fn boxed(
     alloc: Global,
-    owned: Vec<OwnedSeat<Queue>>,
+    owned: Vec<OwnedSeat<Numbers<Queue>>>,
 ) -> Result<Vec<Box<SeatBlock, Global>>, Trouble>
     ensures boxes { IfOk result (λ boxes. map (λ b. owned_in b.value) boxes.items ≡ owned.items) }
     ensures only_memory { IfErr result IsMemory }

@@ -3,11 +3,11 @@ ghost use Rattle.std.specs.Prelude.{◌≡◌, IfOk, IfErr, OnOk, MatchBool};
 ghost use Rattle.history.specs.Answers.{Pushed, PopAnswers, DidShut, Meets};
 
 use crate::troubles::Trouble;
-use any_queue::PickedQueue;
-use either_queue::{EitherQueue, EitherRoom, EitherSeat};
+use carriers::Numbers;
 use history::{Body, Refusal, Taken};
 use node_arena::Seat;
-use owned_seats::{Act, Look, OwnedSeat};
+use owned::{Act, Look, OwnedSeat};
+use picked::{EitherQueue, EitherRoom, EitherSeat, PickedQueue};
 use ring_queue::{RingQueue, Seat as RingSeat};
 use std::alloc::Global;
 
@@ -33,18 +33,18 @@ pub(crate) const APART: usize = 16;
 #[repr(C)]
 #[derive(Drop)]
 pub struct SeatBlock {
-    pub(crate) owned: OwnedSeat<Queue>,
+    pub(crate) owned: OwnedSeat<Numbers<Queue>>,
     pub(crate) room: Vec<Taken>,
     apart: [u64; APART],
 }
 
 impl SeatBlock {
-    ghost use Rattle.msq_c.specs.Blocks.{queue_in, seat_in, known_in, owned_in};
+    ghost use Rattle.msq_c.specs.Blocks.{numbers_in, queue_in, seat_in, known_in, owned_in};
     ghost use Rattle.msq_c.specs.Blocks.{RefusesPush, RefusesPop, RefusesShut};
     ghost use Rattle.msq_c.specs.Queues.{IsEnough, IsRing};
     ghost use Rattle.msq_c.specs.Ends.{HasAnyRoom, IsRoomless};
 
-    pub(crate) fn new(owned: OwnedSeat<Queue>, room: Vec<Taken>) -> SeatBlock
+    pub(crate) fn new(owned: OwnedSeat<Numbers<Queue>>, room: Vec<Taken>) -> SeatBlock
         ensures { owned_in result ≡ owned }
     {
         SeatBlock {
@@ -54,7 +54,7 @@ impl SeatBlock {
         }
     }
 
-    pub(crate) fn into_owned(self) -> OwnedSeat<Queue>
+    pub(crate) fn into_owned(self) -> OwnedSeat<Numbers<Queue>>
         ensures { result ≡ owned_in self }
     {
         let SeatBlock {
@@ -69,7 +69,7 @@ impl SeatBlock {
     pub(crate) fn is_ring(&self) -> bool
         ensures { MatchBool result (IsRing (queue_in self.now)) (¬ IsRing (queue_in self.now)) }
     {
-        match self.owned.queue() {
+        match self.owned.queue().queue() {
             EitherQueue::First(_) => false,
             EitherQueue::Second(_) => true,
         }
@@ -91,7 +91,7 @@ impl SeatBlock {
         }
         match self.owned.try_push(body, turns) {
             Ok(()) => Ok(()),
-            Err(refusal) => Err(Trouble::Refused(refusal)),
+            Err(unpushed) => Err(Trouble::Refused(unpushed.refusal)),
         }
     }
 
@@ -108,7 +108,8 @@ impl SeatBlock {
             return Err(Trouble::NoRole);
         }
         match self.owned.try_pop(turns) {
-            Ok(taken) => Ok(taken),
+            Ok(Some(front)) => Ok(Some(front.into_taken())),
+            Ok(None) => Ok(None),
             Err(refusal) => Err(Trouble::Refused(refusal)),
         }
     }
@@ -140,17 +141,17 @@ impl SeatBlock {
         self.owned.meet(&mut other.owned)
     }
 
-    pub(crate) fn look<L: Look<Queue>>(&mut self) -> L::Told
+    pub(crate) fn look<L: Look<Numbers<Queue>>>(&mut self) -> L::Told
         ensures queue { queue_in self.new ≡ queue_in self.old }
-        ensures told { L.tells (queue_in self.old) (known_in self.old) result (known_in self.new) }
+        ensures told { L.tells (numbers_in self.old) (seat_in self.old) result (seat_in self.new) }
     {
         self.owned.look::<L>()
     }
 
-    pub(crate) fn act<A: Act<Queue>>(&mut self, act: A) -> A::Told
-        requires { A.asks act (queue_in self.old) (seat_in self.old) }
+    pub(crate) fn act<A: Act<Numbers<Queue>>>(&mut self, act: A) -> A::Told
+        requires { A.asks act (numbers_in self.old) (seat_in self.old) }
         ensures queue { queue_in self.new ≡ queue_in self.old }
-        ensures told { A.tells act (queue_in self.old) (seat_in self.old) result (seat_in self.new) }
+        ensures told { A.tells act (numbers_in self.old) (seat_in self.old) result (seat_in self.new) }
     {
         self.owned.act(act)
     }
@@ -160,7 +161,7 @@ impl SeatBlock {
         ensures { MatchBool result (IsEnough (queue_in self.now) count)
             (¬ IsEnough (queue_in self.now) count) }
     {
-        match self.owned.queue() {
+        match self.owned.queue().queue() {
             EitherQueue::First(_) => true,
             EitherQueue::Second(ring) => count == ring.seat_count(),
         }
@@ -175,7 +176,7 @@ impl SeatBlock {
             return Err(Trouble::InUse);
         }
         match (
-            self.owned.queue().room(alloc, count),
+            self.owned.queue().queue().room(alloc, count),
             Vec::with_capacity(alloc, count),
         ) {
             (Ok(rest), Ok(seats)) => Ok(EndRoom { rest, seats }),

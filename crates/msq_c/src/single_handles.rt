@@ -6,7 +6,7 @@ ghost use Rattle.msq_c.specs.WordRows.{OwnOne, one_row};
 use crate::parts::Parts;
 use crate::slots::Slot;
 use crate::word_blocks::WordsBlock;
-use any_values::AnyValues;
+use picked::AnyValues;
 use std::alloc::Global;
 use std::marker::Model;
 use std::ptr;

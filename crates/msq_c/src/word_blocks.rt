@@ -4,26 +4,26 @@ ghost use Rattle.carriers.specs.Answers.{PushedOf, PopAnswersOf, DidShutOf, Meet
 
 use crate::seat_blocks::APART;
 use crate::troubles::Trouble;
-use any_values::AnyValues;
 use carriers::{Carrier, ItemOf};
-use owned_values::{EndRoom, Look, ValueSeat};
+use owned::{EndRoom, Look, OwnedSeat};
+use picked::AnyValues;
 use std::alloc::Global;
 
 /// A seat of a queue of words, with its share of the queue, which lies first: include/msq_words.h compares these.
 #[repr(C)]
 #[derive(Drop)]
 pub struct WordsBlock<C: Carrier + Drop> {
-    owned: ValueSeat<C>,
+    owned: OwnedSeat<C>,
     apart: [u64; APART],
 }
 
 impl<T: Send + Drop> WordsBlock<AnyValues<T>> {
-    ghost use Rattle.msq_c.specs.WordBlocks.{queue_in, known_in, owned_in};
+    ghost use Rattle.msq_c.specs.WordBlocks.{queue_in, seat_in, known_in, owned_in};
     ghost use Rattle.msq_c.specs.WordBlocks.{RefusesPush, RefusesPop, RefusesShut};
     ghost use Rattle.msq_c.specs.Ends.{IsMemory};
     ghost use Rattle.msq_c.specs.WordEnds.{HasAnyRoom};
 
-    pub(crate) fn new(owned: ValueSeat<AnyValues<T>>) -> WordsBlock<AnyValues<T>>
+    pub(crate) fn new(owned: OwnedSeat<AnyValues<T>>) -> WordsBlock<AnyValues<T>>
         ensures { owned_in result ≡ owned }
     {
         WordsBlock {
@@ -32,7 +32,7 @@ impl<T: Send + Drop> WordsBlock<AnyValues<T>> {
         }
     }
 
-    pub(crate) fn into_owned(self) -> ValueSeat<AnyValues<T>>
+    pub(crate) fn into_owned(self) -> OwnedSeat<AnyValues<T>>
         ensures { result ≡ owned_in self }
     {
         let WordsBlock { owned, apart: _ } = self;
@@ -103,7 +103,7 @@ impl<T: Send + Drop> WordsBlock<AnyValues<T>> {
 
     pub(crate) fn look<L: Look<AnyValues<T>>>(&mut self) -> L::Told
         ensures queue { queue_in self.new ≡ queue_in self.old }
-        ensures told { L.tells (queue_in self.old) (known_in self.old) result (known_in self.new) }
+        ensures told { L.tells (queue_in self.old) (seat_in self.old) result (seat_in self.new) }
     {
         self.owned.look::<L>()
     }

@@ -4,8 +4,8 @@ ghost use Rattle.msq_c.specs.WordSeats.{AnswersPush, AnswersPop, AnswersShut, An
 use crate::slots::{Slot, lift};
 use crate::troubles::Trouble;
 use crate::word_blocks::WordsBlock;
-use any_values::AnyValues;
 use carriers::ItemOf;
+use picked::AnyValues;
 use std::alloc::Global;
 
 /// A push by a handle.

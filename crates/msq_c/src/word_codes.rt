@@ -15,7 +15,7 @@ use crate::troubles::{EMPTY, UNCOUNTED};
 use crate::word_blocks::WordsBlock;
 use crate::words::Item;
 use crate::{word_calls, word_ends, word_looks, word_rests};
-use any_values::AnyValues;
+use picked::AnyValues;
 use std::alloc::Global;
 
 /// A pop by a handle, whose value is written where there is one.

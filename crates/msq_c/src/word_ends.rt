@@ -4,8 +4,8 @@ ghost use Rattle.std.specs.List.{All};
 ghost use Rattle.carriers.specs.Ends.{ClosesOf};
 ghost use Rattle.value_queue.specs.ValuesSeen.{known_by};
 ghost use Rattle.value_queue.specs.Ends.{LeavesValues};
-ghost use Rattle.any_values.specs.Any.{arena_of, permits_of};
-ghost use Rattle.owned_values.specs.Owned.{queue_of, seat_of};
+ghost use Rattle.picked.specs.AnyValues.{arena_of, permits_of};
+ghost use Rattle.owned.specs.Owned.{queue_of, seat_of};
 ghost use Rattle.msq_c.specs.Ends.{IsMemory};
 ghost use Rattle.msq_c.specs.WordSeats.{queue_at};
 ghost use Rattle.msq_c.specs.WordEnds.{AreFull, AreEmpty, AreOfOne, KeepSeats, owned_at};
@@ -15,11 +15,11 @@ ghost use Rattle.msq_c.specs.WordEnds.{ClosesHandles, RefusesClose};
 use crate::slots::{Slot, lift};
 use crate::troubles::Trouble;
 use crate::word_blocks::WordsBlock;
-use any_values::AnyValues;
 use carriers::RestOf;
 use history::Refusal;
 use node_arena::Ended;
-use owned_values::{EndRoom, ValueSeat};
+use owned::{EndRoom, OwnedSeat};
+use picked::AnyValues;
 use std::alloc::Global;
 
 // Whether each handle is full.
@@ -115,7 +115,7 @@ fn empties<T: Send + Drop, H: Slot<WordsBlock<AnyValues<T>>>>(
 fn take_all<T: Send + Drop, H: Slot<WordsBlock<AnyValues<T>>>>(
     alloc: Global,
     slots: &mut [H],
-) -> Result<Vec<ValueSeat<AnyValues<T>>>, Trouble>
+) -> Result<Vec<OwnedSeat<AnyValues<T>>>, Trouble>
     requires { AreFull H.holds slots.old }
     ensures taken { IfOk result (λ owned. owned.items ≡ map (owned_at H.own) slots.old) }
     ensures empty { OnOk result (AreEmpty H.holds slots.new) }
@@ -135,8 +135,8 @@ fn take_all<T: Send + Drop, H: Slot<WordsBlock<AnyValues<T>>>>(
 // Ends the queue of these seats, the last one and others.
 fn ended<T: Send + Drop>(
     room: EndRoom<AnyValues<T>>,
-    last: ValueSeat<AnyValues<T>>,
-    others: Vec<ValueSeat<AnyValues<T>>>,
+    last: OwnedSeat<AnyValues<T>>,
+    others: Vec<OwnedSeat<AnyValues<T>>>,
 ) -> Result<(RestOf<T>, Ended<T>), Trouble>
     requires room { HasAnyRoom (queue_of last) (length others.items) room }
     requires others { All (λ s. queue_of s ≡ queue_of last) others.items }

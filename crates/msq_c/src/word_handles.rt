@@ -7,7 +7,7 @@ use crate::parts::Parts;
 use crate::slots::Slot;
 use crate::word_blocks::WordsBlock;
 use crate::words::MsqWords;
-use any_values::AnyValues;
+use picked::AnyValues;
 use std::alloc::Global;
 use std::marker::Model;
 use std::ptr;

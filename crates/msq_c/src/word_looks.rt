@@ -2,26 +2,24 @@
 ghost use Rattle.msq_c.specs.WordLooks.{TellsEmptiness, TellsLen, AnswersLook};
 
 use crate::bounds::MsqLen;
-use crate::looks::widened;
 use crate::slots::{Slot, lift};
 use crate::troubles::Trouble;
 use crate::word_blocks::WordsBlock;
-use any_values::AnyValues;
-use node_arena::Seat;
-use owned_values::Look;
-use ring_queue::RingEmptiness;
+use node_arena::{Emptiness, Seat};
+use owned::Look;
+use picked::AnyValues;
 use std::alloc::Global;
 
 /// A look at whether the queue is empty.
 pub(crate) struct ForWords;
 
 impl<T: Send + Drop> Look<AnyValues<T>> for ForWords {
-    type Told = RingEmptiness;
+    type Told = Emptiness;
 
     ghost tells = { TellsEmptiness };
 
-    fn look(queue: &AnyValues<T>, seat: &mut Seat<T>) -> RingEmptiness {
-        widened(queue.emptiness(seat))
+    fn look(queue: &AnyValues<T>, seat: &mut Seat<T>) -> Emptiness {
+        queue.emptiness(seat)
     }
 }
 
@@ -62,7 +60,7 @@ fn look<T: Send + Drop, L: Look<AnyValues<T>>, H: Slot<WordsBlock<AnyValues<T>>>
 pub(crate) fn emptiness<T: Send + Drop, H: Slot<WordsBlock<AnyValues<T>>>>(
     alloc: Global,
     slot: &mut H,
-) -> Result<RingEmptiness, Trouble>
+) -> Result<Emptiness, Trouble>
     ensures { AnswersLook H.holds H.own TellsEmptiness slot.old slot.new result }
 {
     look::<T, ForWords, H>(alloc, slot)

@@ -11,11 +11,11 @@ use crate::new_queues::{Spacer, are_asked, count_for, hand_over, kind_of, roles_
 use crate::slots::Slot;
 use crate::troubles::Trouble;
 use crate::word_blocks::WordsBlock;
-use any_values::AnyValues;
 use history::Refusal;
 use line_table::Kind;
 use node_arena::Role;
-use owned_values::{ValueSeat, deal};
+use owned::{OwnedSeat, deal};
+use picked::AnyValues;
 use std::alloc::Global;
 
 /// The number of the last kind that a queue of words can be of.
@@ -28,7 +28,7 @@ fn seats_of<T: Send + Drop>(
     nodes: u32,
     limit: u64,
     roles: &[Role],
-) -> Result<(Vec<ValueSeat<AnyValues<T>>>, Spacer), Trouble>
+) -> Result<(Vec<OwnedSeat<AnyValues<T>>>, Spacer), Trouble>
     requires { IsPlanned (plan_for kind nodes limit roles.now) }
     ensures unused { IfOk result
         (λ made. AreUnused (plan_for kind nodes limit roles.now) made.0.items) }
@@ -48,7 +48,7 @@ fn seats_of<T: Send + Drop>(
 // Each seat in a block of its own.
 fn boxed<T: Send + Drop>(
     alloc: Global,
-    owned: Vec<ValueSeat<AnyValues<T>>>,
+    owned: Vec<OwnedSeat<AnyValues<T>>>,
 ) -> Result<Vec<Box<WordsBlock<AnyValues<T>>, Global>>, Trouble>
     ensures boxes { IfOk result (λ boxes. map (λ b. owned_in b.value) boxes.items ≡ owned.items) }
     ensures only_memory { IfErr result IsMemory }
@@ -87,7 +87,7 @@ fn sealed<T: Send + Drop, H: Slot<WordsBlock<AnyValues<T>>>>(
 // Handles with the seats of a new queue.
 fn made<T: Send + Drop, H: Slot<WordsBlock<AnyValues<T>>>>(
     alloc: Global,
-    owned: Vec<ValueSeat<AnyValues<T>>>,
+    owned: Vec<OwnedSeat<AnyValues<T>>>,
 ) -> Result<Vec<H>, Trouble>
     ensures made { (z : Layout) → AreUnused z owned.items →
         IfOk result (λ h. AreMade H.holds H.own z h.items) }

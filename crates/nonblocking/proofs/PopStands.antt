@@ -19,9 +19,9 @@ use Rattle.node_arena.proofs.Paths.{settled, goes_on}
 use Rattle.node_arena.proofs.Told.{head_is_not_worn}
 use Rattle.nonblocking.specs.Values.{IsNonBlocking}
 use Rattle.node_arena.specs.Machine.{value_of}
-use Rattle.arena_lines.specs.declared.outcomes.RowOutcome.{RowOutcome}
-use Rattle.arena_lines.specs.declared.outcomes.RowOutcome.TheVariants.{Goes, Ends}
-use Rattle.arena_lines.specs.declared.outcomes.Reply.TheVariants.{Empty as IsEmpty, Refused as IsRefused}
+use Rattle.free_list.specs.declared.outcomes.RowOutcome.{RowOutcome}
+use Rattle.free_list.specs.declared.outcomes.RowOutcome.TheVariants.{Goes, Ends}
+use Rattle.free_list.specs.declared.outcomes.Reply.TheVariants.{Empty as IsEmpty, Refused as IsRefused}
 use Rattle.nonblocking.specs.Pops.{Running, AgreesAt, CallIsAt}
 use Rattle.nonblocking.proofs.PopSteps.{ref_d2, ref_d3, ref_d4, ref_d5, value_d12, ref_d13}
 

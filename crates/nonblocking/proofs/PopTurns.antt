@@ -27,13 +27,13 @@ use Rattle.node_arena.proofs.Paths.{ran_on, then_shut_empty, shut_empty_on, no_w
 use Rattle.node_arena.proofs.Paths.{stopped_behind, failed_behind, failed-append, event, walk_one, walk_on, act_on, stopped_at}
 use Rattle.nonblocking.specs.Values.{IsNonBlocking}
 use Rattle.node_arena.specs.Machine.{value_of}
-use Rattle.arena_lines.specs.declared.outcomes.RowOutcome.{RowOutcome}
-use Rattle.arena_lines.specs.declared.outcomes.RowOutcome.TheVariants.{Goes, Ends}
-use Rattle.arena_lines.specs.declared.outcomes.Reply.TheVariants.{Done as IsDone, Value as IsValue, Empty as IsEmpty, Refused as IsRefused}
+use Rattle.free_list.specs.declared.outcomes.RowOutcome.{RowOutcome}
+use Rattle.free_list.specs.declared.outcomes.RowOutcome.TheVariants.{Goes, Ends}
+use Rattle.free_list.specs.declared.outcomes.Reply.TheVariants.{Done as IsDone, Value as IsValue, Empty as IsEmpty, Refused as IsRefused}
 use Rattle.nonblocking.specs.declared.pop_outcomes.Turn.{Turn}
 use Rattle.nonblocking.specs.declared.pop_outcomes.Turn.TheVariants as turn
 use Rattle.nonblocking.specs.Pops.{Running, Stops, turn_of, CallIsAt, Follows, TurnFailed, FrontRead, ReadsFront, Turned, TurnMoves, Turns}
-use Rattle.arena_lines.proofs.Registers.{same_registers}
+use Rattle.free_list.proofs.Registers.{same_registers}
 use Rattle.nonblocking.proofs.FailedTurns.{turns_then, fails_last}
 use Rattle.nonblocking.proofs.PopStands.{stands_d2, after_d2, after_d3, after_d4, AfterD5, after_d5, after_d10, never_d12, after_d12, Won, won_d13, Lost, lost_d13}
 

@@ -23,14 +23,14 @@ use Rattle.node_arena.proofs.Paths.{then_shut, event, walk_on, walk_silent, shut
 use Rattle.node_arena.specs.Loads.{GivesSlot}
 use Rattle.node_arena.proofs.Loads.{gives_slot, gives_then, then_gives}
 use Rattle.node_arena.specs.Machine.{value_of}
-use Rattle.arena_lines.specs.declared.outcomes.RowOutcome.{RowOutcome}
-use Rattle.arena_lines.specs.declared.outcomes.RowOutcome.TheVariants.{Goes, Ends}
-use Rattle.arena_lines.specs.declared.outcomes.Reply.{Reply}
-use Rattle.arena_lines.specs.declared.outcomes.Reply.TheVariants.{Done as IsDone, Value as IsValue, Empty as IsEmpty, Refused as IsRefused}
+use Rattle.free_list.specs.declared.outcomes.RowOutcome.{RowOutcome}
+use Rattle.free_list.specs.declared.outcomes.RowOutcome.TheVariants.{Goes, Ends}
+use Rattle.free_list.specs.declared.outcomes.Reply.{Reply}
+use Rattle.free_list.specs.declared.outcomes.Reply.TheVariants.{Done as IsDone, Value as IsValue, Empty as IsEmpty, Refused as IsRefused}
 use Rattle.nonblocking.specs.declared.push_outcomes.Turn.{Turn}
 use Rattle.nonblocking.specs.declared.push_outcomes.Turn.TheVariants.{Pushed, Failed, Refused as TurnRefused}
 use Rattle.nonblocking.specs.Pushes.{Running, in_hand, follow, CallIsAt, Follows, GoesOn, TurnFailed, FoundWorn, SawShut, Stops, Filled, Fills, TailRead, ReadsTail, Turned, TurnMoves, Turns}
-use Rattle.arena_lines.proofs.Registers.{same_registers}
+use Rattle.free_list.proofs.Registers.{same_registers}
 use Rattle.nonblocking.proofs.FailedTurns.{turns_then, fails_last}
 use Rattle.nonblocking.proofs.PushStands.{after_e2, after_e5, after_e6, after_e13, after_e17, Worn, AfterE3, after_e3, AfterE7, after_e7, AfterE9, after_e9}
 

@@ -18,10 +18,10 @@ use Rattle.node_arena.proofs.Noting.{IsSilent}
 use Rattle.node_arena.proofs.Paths.{walk_then, then_act, then_stored, then_slots, quiet_slots, then_shut, stopped_behind, failed_behind}
 use Rattle.node_arena.proofs.Paths.{failed-append, event, walk_on, walk_silent, shut_on, act_on, stopped_at}
 use Rattle.node_arena.proofs.Loads.{shut_slots}
-use Rattle.arena_lines.specs.declared.outcomes.RowOutcome.{RowOutcome}
-use Rattle.arena_lines.specs.declared.outcomes.RowOutcome.TheVariants.{Goes, Ends}
-use Rattle.arena_lines.specs.declared.outcomes.Reply.TheVariants.{Done as IsDone, Value as IsValue, Empty as IsEmpty, Refused as IsRefused}
-use Rattle.arena_lines.proofs.Registers.{same_registers}
+use Rattle.free_list.specs.declared.outcomes.RowOutcome.{RowOutcome}
+use Rattle.free_list.specs.declared.outcomes.RowOutcome.TheVariants.{Goes, Ends}
+use Rattle.free_list.specs.declared.outcomes.Reply.TheVariants.{Done as IsDone, Value as IsValue, Empty as IsEmpty, Refused as IsRefused}
+use Rattle.free_list.proofs.Registers.{same_registers}
 use Rattle.nonblocking.specs.declared.shut_outcomes.Turn.{Turn}
 use Rattle.nonblocking.specs.declared.shut_outcomes.Turn.TheVariants as turn
 use Rattle.nonblocking.specs.Shuts.{Running, turn_of, HasPocket, CallIsAt, Follows, Stops, EndRead, ReadsEnd, Turned, Turns}

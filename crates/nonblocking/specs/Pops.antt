@@ -25,10 +25,10 @@ use Rattle.node_arena.specs.Paths.{ExtendsPath, FindsShutEmpty, Acts, FailedAt, 
 use Rattle.node_arena.specs.Machine.{value_of}
 use Rattle.arena_queue.specs.Answers.{PopsWithoutNode}
 use Rattle.nonblocking.specs.Worn.{pop_worn}
-use Rattle.arena_lines.specs.declared.outcomes.RowOutcome.{RowOutcome}
-use Rattle.arena_lines.specs.declared.outcomes.RowOutcome.TheVariants.{Goes, Ends}
-use Rattle.arena_lines.specs.declared.outcomes.Reply.{Reply}
-use Rattle.arena_lines.specs.declared.outcomes.Reply.TheVariants.{Value as IsValue, Empty as IsEmpty, Refused as IsRefused}
+use Rattle.free_list.specs.declared.outcomes.RowOutcome.{RowOutcome}
+use Rattle.free_list.specs.declared.outcomes.RowOutcome.TheVariants.{Goes, Ends}
+use Rattle.free_list.specs.declared.outcomes.Reply.{Reply}
+use Rattle.free_list.specs.declared.outcomes.Reply.TheVariants.{Value as IsValue, Empty as IsEmpty, Refused as IsRefused}
 use Rattle.nonblocking.specs.declared.pop_outcomes.Turn.{Turn}
 use Rattle.nonblocking.specs.declared.pop_outcomes.Turn.TheVariants as turn
 

@@ -8,7 +8,7 @@ ghost use Rattle.node_arena.specs.Seats.{role_of};
 ghost use Rattle.nonblocking.specs.Pops.{popping, CallIsAt, Follows};
 
 use crate::pop_outcomes::ActorOf;
-use arena_lines::{
+use free_list::{
     Reply, RowOutcome, access, closed, effect, ends, first_row, goes, notes, onward, row, worn,
 };
 use history::WornWord;

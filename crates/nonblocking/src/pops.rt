@@ -12,8 +12,7 @@ ghost use Rattle.arena_queue.specs.Answers.{PopsWithoutNode};
 
 use crate::pop_lines::{d2, d3, d4, d5, d10, d12, d13};
 use crate::pop_outcomes::{ActorOf, Turn, blank, turned};
-use arena_lines::RowOutcome;
-use free_list::give_back;
+use free_list::{RowOutcome, give_back};
 use history::{Refusal, Taken};
 use line_table::Line;
 use node_arena::{ArenaOf, Seat, value_of};

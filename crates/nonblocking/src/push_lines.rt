@@ -9,7 +9,7 @@ ghost use Rattle.node_arena.specs.Seats.{role_of};
 ghost use Rattle.nonblocking.specs.Pushes.{pushing, CallIsAt, Follows};
 
 use crate::push_outcomes::ActorOf;
-use arena_lines::{
+use free_list::{
     Reply, RowOutcome, access, closed_with_node, effect, ends, goes, onward, row, worn_aside,
     worn_with_node,
 };

@@ -2,8 +2,8 @@
 ghost use Rattle.std.specs.Prelude.{◌≡◌, Some};
 ghost use Rattle.nonblocking.specs.Pushes.{registers_of};
 
-use arena_lines::Reply;
 use counted_ref::CountedRefOf;
+use free_list::Reply;
 use history::Refusal;
 use node_arena::{ArenaOf, Held};
 use std::marker::Model;

@@ -13,7 +13,7 @@ ghost use Rattle.arena_queue.specs.Answers.{PushesWithNode};
 
 use crate::push_lines::{e2, e3, e5, e6, e7, e9, e13, e17};
 use crate::push_outcomes::{ActorOf, Turn, registers};
-use arena_lines::{Reply, RowOutcome};
+use free_list::{Reply, RowOutcome};
 use history::{Body, Refusal};
 use line_table::Line;
 use node_arena::{ArenaOf, Held, Seat, word_of};

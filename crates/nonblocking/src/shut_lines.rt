@@ -7,7 +7,7 @@ ghost use Rattle.node_arena.specs.Seats.{role_of};
 ghost use Rattle.nonblocking.specs.Shuts.{shutting, CallIsAt, Follows};
 
 use crate::shut_outcomes::ActorOf;
-use arena_lines::{
+use free_list::{
     Reply, RowOutcome, access, closed, effect, ends, first_row, goes, onward, row, worn,
 };
 use history::WornWord;

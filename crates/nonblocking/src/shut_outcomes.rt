@@ -2,8 +2,8 @@
 ghost use Rattle.std.specs.Prelude.{◌≡◌};
 ghost use Rattle.nonblocking.specs.Shuts.{turn_of};
 
-use arena_lines::{Reply, RowOutcome};
 use counted_ref::CountedRefOf;
+use free_list::{Reply, RowOutcome};
 use history::Refusal;
 use node_arena::ArenaOf;
 use std::marker::Model;

@@ -10,7 +10,7 @@ ghost use Rattle.arena_queue.specs.Answers.{AnswersShut};
 
 use crate::shut_lines::{s1, s2, s3, s4, s5};
 use crate::shut_outcomes::{ActorOf, Turn, blank, turned};
-use arena_lines::RowOutcome;
+use free_list::RowOutcome;
 use history::Refusal;
 use line_table::Line;
 use node_arena::{ArenaOf, Seat};

@@ -4,10 +4,10 @@ ghost use Rattle.parallel_sum.specs.Sums.{sum_in};
 ghost use Rattle.parallel_sum.specs.Levels.{AreAdded, FailsSo};
 
 use crate::pairs::{Overflow, Pair};
-use executor::run_all;
 use std::alloc::Global;
 use std::sync::Wait;
 use std::thread::Threads;
+use tasks::run_all;
 
 /// Why there is no sum.
 #[derive(Clone, Copy, Debug, PartialEq, Eq)]

@@ -8,10 +8,10 @@ use Rattle.carriers.specs.declared.rests.RestOf.{RestOf}
 use Rattle.carriers.specs.Knowledge.{KnownOf}
 use Rattle.carriers.specs.Ends.{ClosesOf}
 use Rattle.carriers.specs.Rests.{left_in, was_shut_in, whole_in}
-use Rattle.deliveries.specs.Ends.{DeliversOf}
-use Rattle.deliveries.specs.Together.{pushed_by, popped_by}
-use Rattle.deliveries.proofs.Deliveries.{all-deliver}
-use Rattle.deliveries.proofs.Together.{handed_over_once}
+use Rattle.carriers.specs.Delivered.{DeliversOf}
+use Rattle.carriers.specs.Together.{pushed_by, popped_by}
+use Rattle.carriers.proofs.Delivering.{all-deliver}
+use Rattle.carriers.proofs.Together.{handed_over_once}
 use Rattle.channels.specs.declared.sender.Sender.{Sender}
 use Rattle.channels.specs.declared.receiver.Receiver.{Receiver}
 use Rattle.channels.specs.Handles.{sender_queue, receiver_queue}

@@ -10,23 +10,22 @@ use Rattle.channels.proofs.sender.Sender.TheSendSync.{the_send as sender_send, t
 use Rattle.channels.proofs.receiver.Receiver.TheSendSync.{the_send as receiver_send, the_field_send as held_receiver_send}
 use Rattle.node_arena.specs.contracts.seats.Seat as seat
 use Rattle.node_arena.proofs.seats.Seat.TheSendSync.{the_send as seat_send}
-use Rattle.picked_values.specs.contracts.queue.ValueQueue as queue
-use Rattle.picked_values.proofs.queue.ValueQueue.TheSendSync.{the_send as queue_send, the_sync as queue_sync}
+use Rattle.picked.proofs.Threads.{queue_row, queue_send, queue_sync}
 
-module _ (T : RattleType) (send : IsSend T) (g : Ghosts (queue.the_row T).Denot T.Denot (seat.the_row T).Denot) where
-  pub sender_goes : IsSend (sender.the_row (queue.the_row T) T (seat.the_row T) g)
-  sender_goes = sender_send (queue.the_row T) T (seat.the_row T) g (queue_send T send) (seat_send T send) (queue_sync T send)
+module _ (T : RattleType) (send : IsSend T) (g : Ghosts (queue_row T).Denot T.Denot (seat.the_row T).Denot) where
+  pub sender_goes : IsSend (sender.the_row (queue_row T) T (seat.the_row T) g)
+  sender_goes = sender_send (queue_row T) T (seat.the_row T) g (queue_send T send) (seat_send T send) (queue_sync T send)
 
-  pub receiver_goes : IsSend (receiver.the_row (queue.the_row T) T (seat.the_row T) g)
-  receiver_goes = receiver_send (queue.the_row T) T (seat.the_row T) g (queue_send T send) (seat_send T send) (queue_sync T send)
+  pub receiver_goes : IsSend (receiver.the_row (queue_row T) T (seat.the_row T) g)
+  receiver_goes = receiver_send (queue_row T) T (seat.the_row T) g (queue_send T send) (seat_send T send) (queue_sync T send)
 
   -- and so may one that a closure holds
-  pub sender_held : IsSend (as_row (sender.the_field (queue.the_row T) T (seat.the_row T) g))
+  pub sender_held : IsSend (as_row (sender.the_field (queue_row T) T (seat.the_row T) g))
   sender_held =
-      as_row_send (sender.the_field (queue.the_row T) T (seat.the_row T) g)
-      (held_sender_send (queue.the_row T) T (seat.the_row T) g (queue_send T send) (seat_send T send) (queue_sync T send))
+      as_row_send (sender.the_field (queue_row T) T (seat.the_row T) g)
+      (held_sender_send (queue_row T) T (seat.the_row T) g (queue_send T send) (seat_send T send) (queue_sync T send))
 
-  pub receiver_held : IsSend (as_row (receiver.the_field (queue.the_row T) T (seat.the_row T) g))
+  pub receiver_held : IsSend (as_row (receiver.the_field (queue_row T) T (seat.the_row T) g))
   receiver_held =
-      as_row_send (receiver.the_field (queue.the_row T) T (seat.the_row T) g)
-      (held_receiver_send (queue.the_row T) T (seat.the_row T) g (queue_send T send) (seat_send T send) (queue_sync T send))
+      as_row_send (receiver.the_field (queue_row T) T (seat.the_row T) g)
+      (held_receiver_send (queue_row T) T (seat.the_row T) g (queue_send T send) (seat_send T send) (queue_sync T send))

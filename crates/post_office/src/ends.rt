@@ -4,8 +4,8 @@ ghost use Rattle.std.specs.List.{All, IsDistinct};
 ghost use Rattle.std.specs.List.Sorted.{IsPermutation};
 ghost use Rattle.carriers.specs.Ends.{ClosesOf};
 ghost use Rattle.carriers.specs.Rests.{left_in, whole_in};
-ghost use Rattle.deliveries.specs.Ends.{DeliversOf};
-ghost use Rattle.deliveries.specs.Together.{pushed_by, popped_by};
+ghost use Rattle.carriers.specs.Delivered.{DeliversOf};
+ghost use Rattle.carriers.specs.Together.{pushed_by, popped_by};
 ghost use Rattle.channels.specs.Handles.{sender_queue, sender_seat, receiver_queue, receiver_seat};
 
 use crate::offices::PostOffice;

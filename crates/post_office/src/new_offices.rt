@@ -4,8 +4,8 @@ ghost use Rattle.history.specs.Seats.{MayPop};
 ghost use Rattle.node_arena.specs.NewArenas.{NewRefused};
 ghost use Rattle.channels.specs.Handles.{sender_seat, receiver_seat};
 ghost use Rattle.value_queue.specs.ValuesSeen.{known_by};
-ghost use Rattle.picked_values.specs.Queues.{permits_of};
-ghost use Rattle.picked_values.specs.Splits.{picked_plan};
+ghost use Rattle.picked.specs.Values.{permits_of};
+ghost use Rattle.picked.specs.Splits.{non_blocking_plan};
 ghost use Rattle.post_office.specs.Offices.{office_queue, AreOf};
 ghost use Rattle.post_office.specs.Roles.{roles_of, office_roles, newcomers};
 
@@ -13,7 +13,7 @@ use crate::offices::{Desks, PostOffice};
 use channels::{Receiver, Sender};
 use history::Refusal;
 use node_arena::Role;
-use picked_values::ValueQueue;
+use picked::ValueQueue;
 use std::alloc::Global;
 
 /// How many senders and receivers there may be together: the seats are 65,535 at most.
@@ -121,7 +121,8 @@ impl<T: Send + Drop> PostOffice<ValueQueue<T>> {
         ensures takers { IfOk result (λ r. (n : ℕ) → MayPop (permits_of (office_queue r.0)) n
             → (senders < n) × (n ≤ senders + receivers)) }
         ensures refused { IfErr result (λ refusal. (refusal ≡ Refusal.Memory)
-            ⊎ NewRefused (picked_plan (max (min (places + (senders + receivers) + 1) 4294967295) 2)
+            ⊎ NewRefused
+            (non_blocking_plan (max (min (places + (senders + receivers) + 1) 4294967295) 2)
             (office_roles senders receivers)) refusal) }
     {
         if senders.saturating_add(receivers) > MOST_HANDLES {

@@ -5,9 +5,9 @@ use Rattle.history.specs.declared.operations.Entry.TheVariants.{Push}
 use Rattle.history.specs.declared.operations.Taken.{Taken}
 use Rattle.history.specs.declared.refusals.Refusal.{Refusal}
 use Rattle.history.specs.Seats.{Known}
-use Rattle.draining.specs.Drained.{DrainedUntilShut, values_of}
-use Rattle.draining.proofs.Owning.{own_until_shut}
-use Rattle.draining.proofs.Shutting.{ends_shut}
+use Rattle.carriers.specs.Drained.{DrainedUntilShut, values_of}
+use Rattle.carriers.proofs.Owning.{own_until_shut}
+use Rattle.carriers.proofs.Shutting.{ends_shut}
 use Rattle.renewed_queues.specs.Deeds.{pushes_from, Gave, Took}
 
 -- one number more

@@ -5,7 +5,7 @@ use Rattle.history.specs.declared.operations.Entry.TheVariants.{Push}
 use Rattle.history.specs.declared.operations.Taken.{Taken}
 use Rattle.history.specs.Entries.{Leads}
 use Rattle.history.specs.Seats.{Known}
-use Rattle.draining.specs.Drained.{HasPopped}
+use Rattle.carriers.specs.Drained.{HasPopped}
 
 -- the pushes of so many numbers from this one on by a seat
 abbrev pub pushes_from : (seat first count : ℕ) → List Entry

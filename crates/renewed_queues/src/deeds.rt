@@ -2,7 +2,7 @@
 ghost use Rattle.std.specs.Prelude.{IfErr, OnOk};
 ghost use Rattle.renewed_queues.specs.Deeds.{Gave, Took};
 
-use draining::FifoExt;
+use carriers::FifoExt;
 use history::{Body, Fifo, Refusal, Taken};
 use std::sync::Wait;
 

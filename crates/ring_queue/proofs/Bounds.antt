@@ -8,12 +8,13 @@ use Rattle.history.specs.Seats.{Known}
 use Rattle.history.specs.Answers.{SeesMore}
 use Rattle.history.proofs.Learning.{sees_itself, sees_then}
 use Rattle.history.proofs.Sums.{pushes-Leads}
-use Rattle.ring_queue.specs.declared.lengths.RingEmptiness.TheVariants.{Empty, ShutEmpty, Holds, Moved}
-use Rattle.ring_queue.specs.declared.lengths.Len.{Len}
+use Rattle.node_arena.specs.declared.emptiness.Emptiness.TheVariants.{Empty, ShutEmpty, Holds, Moved}
+use Rattle.node_arena.specs.declared.lengths.Len.{Len}
+use Rattle.node_arena.specs.Looks.{WasMeanwhile, LeadsToSome, FoundSo}
 use Rattle.ring_queue.specs.Words.{tail_word}
 use Rattle.ring_queue.specs.Plans.{Layout}
-use Rattle.ring_queue.specs.Steps.{LeadsToSome, HoldsSoMany}
-use Rattle.ring_queue.specs.Lengths.{WasMeanwhile, FoundSo, WasSoLong, LeavesPushes}
+use Rattle.ring_queue.specs.Steps.{HoldsSoMany}
+use Rattle.ring_queue.specs.Lengths.{WasSoLong, LeavesPushes}
 
 pops_grow : (k k' : Known) → SeesMore k k' → count_by is_pop k.seen ≤ count_by is_pop k'.seen
 pops_grow k k' f = let e : count_by is_pop k'.seen ≡ count_by is_pop k.seen + count_by is_pop f.between = ap (count_by is_pop) f.seen ∙ sum_by-append _ k.seen f.between in omega (arith, e)
@@ -34,10 +35,10 @@ module _ (z : Layout) (k b c : Known) (n head : ℕ) (first : SeesMore k b) (cou
   none_there at = let more = pops_grow b c next in let places = h.places in omega (arith, at, places, more, counts)
 
   -- Tail is at Head
-  pub empty_found : head < 2 ^ 62 → n ≡ head → FoundSo z k Empty c
+  pub empty_found : head < 2 ^ 62 → n ≡ head → FoundSo k Empty c
   empty_found small at = go h.shut refl
     where
-      go : (s : Bool) → h.shut ≡ s → FoundSo z k Empty c
+      go : (s : Bool) → h.shut ≡ s → FoundSo k Empty c
       go true f = absurd (let bit : n ≡ n % 2 ^ 62 + 2 ^ 62 = h.bit ∙ ap (tail_word (n % 2 ^ 62)) f in omega (arith, bit, at, small))
       go false f = (
         c.seen,
@@ -46,10 +47,10 @@ module _ (z : Layout) (k b c : Known) (n head : ℕ) (first : SeesMore k b) (cou
       )
 
   -- and the queue is shut
-  pub shut_empty_found : head < 2 ^ 62 → n ≡ head + 2 ^ 62 → FoundSo z k ShutEmpty c
+  pub shut_empty_found : head < 2 ^ 62 → n ≡ head + 2 ^ 62 → FoundSo k ShutEmpty c
   shut_empty_found small at = go h.shut refl
     where
-      go : (s : Bool) → h.shut ≡ s → FoundSo z k ShutEmpty c
+      go : (s : Bool) → h.shut ≡ s → FoundSo k ShutEmpty c
       go false f = absurd (let bit : n ≡ n % 2 ^ 62 = h.bit ∙ ap (tail_word (n % 2 ^ 62)) f in omega (arith, bit, at))
       go true f = (
         c.seen,
@@ -58,7 +59,7 @@ module _ (z : Layout) (k b c : Known) (n head : ℕ) (first : SeesMore k b) (cou
       )
 
   -- Head, read again, isn't below Tail
-  pub moved_found : (d : Known) (last : ℕ) → SeesMore c d → last ≡ z.slots + count_by is_pop d.seen → n % 2 ^ 62 ≢ head → n % 2 ^ 62 ≤ last → FoundSo z k Moved d
+  pub moved_found : (d : Known) (last : ℕ) → SeesMore c d → last ≡ z.slots + count_by is_pop d.seen → n % 2 ^ 62 ≢ head → n % 2 ^ 62 ≤ last → FoundSo k Moved d
   moved_found d last later counted apart le =
       let before = pops_grow k b first in
       let more = pops_grow b c next in
@@ -66,11 +67,11 @@ module _ (z : Layout) (k b c : Known) (n head : ℕ) (first : SeesMore k b) (cou
       record { more = sees_then k c d sees later; pops = omega (arith, before, more, places, counted, counts, apart, le) }
 
   -- or it is
-  pub holds_found : (d : Known) → SeesMore c d → LeadsToSome d.seen → FoundSo z k Holds d
+  pub holds_found : (d : Known) → SeesMore c d → LeadsToSome d.seen → FoundSo k Holds d
   holds_found d later some = let all = sees_then k c d sees later in (d.seen, was_meanwhile k d d all (sees_itself d), some)
 
   -- the length lies between what Tail is above Head as it was read again, and as it was read first
-  pub so_long : (d : Known) (last : ℕ) (len : Len) → SeesMore c d → last ≡ z.slots + count_by is_pop d.seen → len.least ≡ n % 2 ^ 62 - last → len.most ≡ n % 2 ^ 62 - head → WasSoLong z k len d
+  pub so_long : (d : Known) (last : ℕ) (len : Len) → SeesMore c d → last ≡ z.slots + count_by is_pop d.seen → len.least ≡ n % 2 ^ 62 - last → len.most ≡ n % 2 ^ 62 - head → WasSoLong k len d
   so_long d last len later counted least most =
       let before = pops_grow k b first in
       let more = pops_grow b c next in

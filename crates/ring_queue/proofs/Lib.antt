@@ -37,3 +37,4 @@ pub mod Vacant
 pub mod ValueEnds
 pub mod Closed
 pub mod Courses
+pub mod Alone

@@ -11,6 +11,7 @@ use Rattle.history.specs.Entries.{Leads, LeadsTo, LeadsToShut, is_push, is_pop}
 use Rattle.history.specs.Seats.{IsNoted}
 use Rattle.history.specs.Answers.{SeesMore, FoundShut, FoundEmpty, FoundShutEmpty}
 use Rattle.history.proofs.Sums.{pushes-Leads}
+use Rattle.node_arena.specs.Looks.{LeadsToSome}
 use Rattle.ring_queue.specs.Words.{face, parity, slot_word, tail_word}
 use Rattle.ring_queue.specs.Plans.{Layout}
 use Rattle.ring_queue.specs.Paths.{C1, P2, P4, P5, Event, reading, Step, Ran, RunsOn, accessed, added_by}
@@ -18,7 +19,7 @@ use Rattle.ring_queue.specs.Rows.{head_line, finds_filled, finds_late, finds_ahe
 use Rattle.ring_queue.specs.Rows.{reads_tail as row_reads_tail, reads_head as row_reads_head, finds_end as row_end}
 use Rattle.ring_queue.specs.Knowledge.{Stage, rests, found, unfilled, head_due, SeatView, known_by}
 use Rattle.ring_queue.specs.Rule.{IsFilled, Lies, CellOk, SeatOk, Stands, put, Ring}
-use Rattle.ring_queue.specs.Steps.{Rests, IsAhead, LeadsToSome, HoldsSoMany, TailFound, TailSeen, HeadFound, FrontFound, NextFound, EndFound, Learns}
+use Rattle.ring_queue.specs.Steps.{Rests, IsAhead, HoldsSoMany, TailFound, TailSeen, HeadFound, FrontFound, NextFound, EndFound, Learns}
 use Rattle.ring_queue.proofs.Numbers.{same_place, parity_turns, face_parity}
 use Rattle.ring_queue.proofs.Puts.{same_or_not}
 use Rattle.ring_queue.proofs.Histories.{noted_empty, noted_shut, all_one_note}

@@ -89,7 +89,7 @@ module _ (z : Layout) (words : List ℕ) (seats : ℕ → SeatView) (r : Ring z 
       ap r.log e ∙ (r.in_order (p - z.slots) (omega (arith, le, lt)) ∙ ap (λ b. if b then None else slice_get (pushed r.history) (p - z.slots)) (sym (le-ltb p z.slots le))))
       (λ no. r.first_lap p (omega (arith, no)) ∙ ap (λ b. if b then None else slice_get (pushed r.history) (p - z.slots)) (sym (lt-ltb p z.slots (omega (arith, no)))))
 
-  tail_there : tail_in words ≡ r.tail
+  pub tail_there : tail_in words ≡ r.tail
   tail_there = ap (λ t. t % 2 ^ 62) r.tail_is ∙ tail_is_in r.tail r.shut small
 
   pub shows_slot : (i : ℕ) → i < z.slots → ShowsSlot z words seats r.history i

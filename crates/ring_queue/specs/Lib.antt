@@ -25,3 +25,4 @@ pub mod OneProof
 pub mod Beside
 pub mod Hands
 pub mod Courses
+pub mod Alone

@@ -8,6 +8,7 @@ use Rattle.history.specs.declared.operations.Taken.{Taken}
 use Rattle.history.specs.Entries.{is_push, is_pop, Leads}
 use Rattle.history.specs.Seats.{Known, IsSound}
 use Rattle.history.specs.Answers.{Adds, FoundEmpty, FoundShut, FoundShutEmpty, SeesMore}
+use Rattle.node_arena.specs.Looks.{LeadsToSome}
 use Rattle.ring_queue.specs.Words.{parity, slot_word, tail_word}
 use Rattle.ring_queue.specs.Plans.{Layout, permits_of}
 use Rattle.ring_queue.specs.Paths.{C1, C3, C4, P2, P3, P4, P5, S10, Event, reading, writing, Step, RunsOn, sees, added_by}
@@ -36,13 +37,6 @@ pub record WasSince (P : List Entry → Type 0) (old seen : List Entry) : Type 0
   pub rest : List Entry
   pub parts : seen ≡ (old ++ between) ++ rest
   pub was : P (old ++ between)
-
--- entries lead from the empty queue to one with a value at least
-pub record LeadsToSome (es : List Entry) : Type 0 where
-  pub shut : Bool
-  pub front : Taken
-  pub others : List Taken
-  pub leads : Leads es shut (front ∷ others)
 
 -- where so much was read in Tail, the queue held so many values: as many as there were places, but for those that were taken; and it
 -- was shut by the bit

@@ -1,6 +1,7 @@
 //! Laws of rings at any moment, and of their lines. Each is the contract of a function that does nothing.
 ghost use Rattle.ring_queue.specs.Moments.{EachMomentIsLinearizable, NamesWhoHoldsUp, SlotsAreDetermined};
 ghost use Rattle.ring_queue.specs.Shares.{OthersPay};
+ghost use Rattle.ring_queue.specs.Alone.{OthersHoldUpNoPush};
 ghost use Rattle.ring_queue.specs.Courses.{EachStepAddsItsAccess, StepsComeInOrder};
 ghost use Rattle.ring_queue.specs.Courses.{WhatWasSeenIsSeen, EachCourseIsOfOneRun};
 ghost use Rattle.ring_queue.specs.Courses.{WhatWasDoneComesFirst, EachLineTells};
@@ -108,4 +109,15 @@ pub fn others_pay_for_failed_turns()
     //=   with its own pushes, no more than all pushes; and the exchanges of Head that it lost are, with its own pops, no more than all
     //=   pops. So each was lost to an effect of another seat.
     ensures { OthersPay }
+{}
+
+/// Wherever others stopped, also within a push, a seat that has no place to fill ends alone: a push with four
+/// accesses where there is room, a pop with three where the front place is filled, and one that finds no value
+/// with three. So a stopped push holds up pops alone, from its own place on.
+pub fn others_hold_up_no_push()
+    //= ring/alone: In each state of the rule, so whichever threads stopped, a seat that has no place to fill
+    //=   may make these accesses alone, each by its row, and rests then: the four of a push, where the words
+    //=   have room; the three of a pop, where the word of the front place is of its lap; and the three of a
+    //=   pop that finds no value, where Tail is at Head.
+    ensures { OthersHoldUpNoPush }
 {}

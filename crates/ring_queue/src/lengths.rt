@@ -1,31 +1,13 @@
 //! How many values a ring holds, and whether it is empty, without taking anything.
 ghost use Rattle.ring_queue.specs.Seats.{KeepsName, KeepsSlots, known_of};
 ghost use Rattle.ring_queue.specs.Queues.{IsNumberSeat, IsRingSeat};
-ghost use Rattle.ring_queue.specs.Lengths.{FoundSo, WasSoLong, LeavesPushes};
+ghost use Rattle.node_arena.specs.Looks.{FoundSo};
+ghost use Rattle.ring_queue.specs.Lengths.{WasSoLong, LeavesPushes};
 
 use crate::places::SHUT;
 use crate::queue::RingQueue;
 use crate::seats::Seat;
-
-/// How many values a ring held at one moment: at least and at most so many.
-#[derive(Clone, Copy, Debug, PartialEq, Eq)]
-pub struct Len {
-    pub least: u64,
-    pub most: u64,
-}
-
-/// What a seat found that looked whether its ring is empty, of a moment no older than what it had seen before.
-#[derive(Clone, Copy, Debug, PartialEq, Eq)]
-pub enum RingEmptiness {
-    /// At that moment it held no value, and wasn't shut.
-    Empty,
-    /// At that moment it held no value, and was shut: nothing comes any more.
-    ShutEmpty,
-    /// At that moment it held a value at least.
-    Holds,
-    /// Pops took effect while the seat looked, so it saw no such moment.
-    Moved,
-}
+use node_arena::{Emptiness, Len};
 
 impl<T> RingQueue<T> {
     /// Whether the ring is empty, as it was at a moment no older than what the seat had seen before; or that pops took effect
@@ -34,21 +16,21 @@ impl<T> RingQueue<T> {
     ///
     /// ```rust
     /// match queue.emptiness(&mut seat) {
-    ///     RingEmptiness::Empty | RingEmptiness::Holds => {}
+    ///     Emptiness::Empty | Emptiness::Holds => {}
     ///     // Nothing comes any more.
-    ///     RingEmptiness::ShutEmpty => return,
+    ///     Emptiness::ShutEmpty => return,
     ///     // Others are popping: look again.
-    ///     RingEmptiness::Moved => backoff.snooze(),
+    ///     Emptiness::Moved => backoff.snooze(),
     /// }
     /// ```
-    pub fn emptiness(&self, seat: &mut Seat<T>) -> RingEmptiness
+    pub fn emptiness(&self, seat: &mut Seat<T>) -> Emptiness
         requires { IsNumberSeat self.now seat.old }
         ensures seat { IsNumberSeat self.now seat.new }
         ensures name { KeepsName seat.old seat.new }
         //= ring/emptiness (seat, name, found): A seat that looks whether its ring is empty is told so, shut or not, or that it
         //=   holds a value, as it was after some history that begins with what the seat had seen and that it has now seen; or
         //=   that Head moved, and then it has seen more pops than before. It is in no call, as before.
-        ensures found { FoundSo self.now.plan (known_of seat.old) result (known_of seat.new) }
+        ensures found { FoundSo (known_of seat.old) result (known_of seat.new) }
     {
         self.emptiness_in(seat)
     }
@@ -69,7 +51,7 @@ impl<T> RingQueue<T> {
         //= ring/len (seat, name, long): A seat that looks how long its ring is is told two bounds, between which the length was
         //=   after some history that begins with what the seat had seen and that it has now seen. They are at most as far apart
         //=   as the pops that it has newly seen. It is in no call, as before.
-        ensures long { WasSoLong self.now.plan (known_of seat.old) result (known_of seat.new) }
+        ensures long { WasSoLong (known_of seat.old) result (known_of seat.new) }
     {
         self.len_in(seat)
     }
@@ -94,29 +76,29 @@ impl<T> RingQueue<T> {
     }
 
     /// Whether the ring is empty, as `emptiness` tells, of a ring that carries values too. Takes no memory and doesn't wait.
-    pub fn emptiness_in(&self, seat: &mut Seat<T>) -> RingEmptiness
+    pub fn emptiness_in(&self, seat: &mut Seat<T>) -> Emptiness
         requires { IsRingSeat self.now seat.old }
         ensures seat { IsRingSeat self.now seat.new }
         //= ring/look_slots: A look at how many values a ring holds, or how many pushes it has left, moves no slot.
         ensures slots { KeepsSlots seat.old seat.new }
         ensures name { KeepsName seat.old seat.new }
         //= ring/emptiness (seat, name, found)
-        ensures found { FoundSo self.now.plan (known_of seat.old) result (known_of seat.new) }
+        ensures found { FoundSo (known_of seat.old) result (known_of seat.new) }
     {
         self.look_at_head(seat);
         let tail = self.see_tail(seat);
         if tail == seat.head {
-            return RingEmptiness::Empty;
+            return Emptiness::Empty;
         }
         if tail == seat.head + SHUT {
-            return RingEmptiness::ShutEmpty;
+            return Emptiness::ShutEmpty;
         }
         self.look_at_head(seat);
         let places = seat.tail;
         if places <= seat.head {
-            return RingEmptiness::Moved;
+            return Emptiness::Moved;
         }
-        RingEmptiness::Holds
+        Emptiness::Holds
     }
 
     /// How many values the ring holds, as `len` tells, of a ring that carries values too. Takes no memory and doesn't wait.
@@ -127,7 +109,7 @@ impl<T> RingQueue<T> {
         ensures slots { KeepsSlots seat.old seat.new }
         ensures name { KeepsName seat.old seat.new }
         //= ring/len (seat, name, long)
-        ensures long { WasSoLong self.now.plan (known_of seat.old) result (known_of seat.new) }
+        ensures long { WasSoLong (known_of seat.old) result (known_of seat.new) }
     {
         self.look_at_head(seat);
         let first = seat.head;

@@ -24,7 +24,6 @@ mod slots;
 mod views;
 
 pub use batches::MOST_AT_ONCE;
-pub use lengths::{Len, RingEmptiness};
 pub use new_rings::MOST_SEATS;
 pub use queue::RingQueue;
 pub use roles::Role;

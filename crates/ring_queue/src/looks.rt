@@ -2,7 +2,8 @@
 ghost use Rattle.std.specs.Prelude.{◌≡◌, ℕ, ◌<◌, List, [], ◌∷◌, length, ◌%◌, ◌^◌, ◌≤◌, IfSome, IsNone};
 ghost use Rattle.history.specs.Answers.{SeesMore};
 ghost use Rattle.ring_queue.specs.Knowledge.{rests, found, unfilled, head_due};
-ghost use Rattle.ring_queue.specs.Steps.{HoldsSoMany, LeadsToSome, WasLate};
+ghost use Rattle.node_arena.specs.Looks.{LeadsToSome};
+ghost use Rattle.ring_queue.specs.Steps.{HoldsSoMany, WasLate};
 ghost use Rattle.ring_queue.specs.Lengths.{HeadCounts};
 ghost use Rattle.ring_queue.specs.Seats.{IsReady, KeepsName, KeepsSlots, known_of, view};
 ghost use Rattle.ring_queue.specs.Turns.{Tried};

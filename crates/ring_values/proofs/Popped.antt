@@ -16,9 +16,10 @@ use Rattle.ring_queue.proofs.Moved.{has_taken}
 use Rattle.value_queue.specs.ValuesSeen.{told}
 use Rattle.value_queue.specs.Runs.{as_item}
 use Rattle.ring_values.specs.Carried.{carries_of}
-use Rattle.ring_values.specs.ValuesSeen.{known_by}
+use Rattle.ring_values.specs.ValuesSeen.{known_by, sight}
 use Rattle.ring_values.specs.Pops.{TakesOut}
-use Rattle.ring_values.proofs.Learned.{pop-deed}
+use Rattle.value_queue.proofs.Learned.{pop-deed}
+use Rattle.ring_values.specs.Sound.{clear}
 use Rattle.ring_values.proofs.Pushed.{value_is}
 
 -- a seat knows the same of values
@@ -38,5 +39,6 @@ module _ {T : Type 0} (r : RingQueue T) (carries : carries_of r ≡ true) (s x :
       let value : took.0 ≡ front.value = value_is x.token.me.1 taken.body took.0 front.value (has_taken r.plan r.table.shared.table_id taken s x it.sits none carries takes).out t.value.out in
       let its : as_item (item taken.from took.0) ≡ front = (λ i. record { from = sym t.from i; value = value i }) in
       let deed : AddsDeed (known_by s) (did_pop (view s).number (as_item (item taken.from took.0))) (known_by x) =
-      pop-deed r carries s x is it (Pop (view s).number taken) (item taken.from took.0) took.3 adds in
+      pop-deed (sight s) (sight x) (clear r carries s is) (clear r carries x it) (Pop (view s).number taken) (item taken.from took.0) took.3.adds.between took.3.adds.deeds
+      took.3.stood.0 took.3.stood.1 took.3.stood.2 adds in
       subst (λ q. AddsDeed (known_by s) (did_pop (view s).number front) q) (sym (known_still x y t.keeps)) (subst (λ q. AddsDeed (known_by s) (did_pop (view s).number q) (known_by x)) its deed)

@@ -24,9 +24,11 @@ use Rattle.ring_queue.specs.Seats.{HasNoSlot, KeepsName, KeepsSlots, deeds_of, k
 use Rattle.ring_queue.specs.Steps.{IsFull, IsWorn}
 use Rattle.ring_queue.specs.Queues.{IsRingSeat}
 use Rattle.ring_values.specs.Carried.{carries_of}
-use Rattle.ring_values.specs.ValuesSeen.{GoesOn, known_by}
+use Rattle.value_queue.specs.Sights.{GoesOn}
+use Rattle.value_queue.proofs.Learned.{push-deed, push_refused-deeds}
+use Rattle.ring_values.specs.ValuesSeen.{known_by, sight}
+use Rattle.ring_values.specs.Sound.{clear}
 use Rattle.ring_values.specs.Pushes.{HasLoad, PutsSlot, PushCaused, AnswersPush}
-use Rattle.ring_values.proofs.Learned.{push-deed, push_refused-deeds}
 
 -- a slot has one value
 pub value_is : {T : Type 0} (held : List (ℕ × Option T)) (slot : ℕ) (x y : T) → held ≡ (slot, Some x) ∷ [] → held ≡ (slot, Some y) ∷ [] → x ≡ y
@@ -83,7 +85,7 @@ module _ {T : Type 0} (r : RingQueue T) (carries : carries_of r ≡ true) (s : S
   no_slot unpushed l =
       let k = l.keeps in
       let busy : Busy ≡ unpushed.refusal = sym l.back.0 in
-      let goes : GoesOn s u = record { between = []; deeds = k.deeds ∙ sym (append-nil (deeds_of s)) } in
+      let goes : GoesOn (sight s) (sight u) = record { between = []; deeds = k.deeds ∙ sym (append-nil (deeds_of s)) } in
       let sees : SeesMore (known_of s) (known_of u) = subst (λ (q : Known). SeesMore (known_of s) q) (sym (known_same k)) (sees_itself (known_of s)) in
       record {
         ready = l.ready;
@@ -91,7 +93,7 @@ module _ {T : Type 0} (r : RingQueue T) (carries : carries_of r ≡ true) (s : S
         name = record { number = k.number; role = k.role };
         pushed = tt;
         back = l.back.1;
-        refused = subst (λ q. PushRefusedOf (known_by s) q (known_by u)) busy (push_refused-deeds r carries s u is l.ready Busy goes sees);
+        refused = subst (λ q. PushRefusedOf (known_by s) q (known_by u)) busy (push_refused-deeds (sight s) (sight u) (clear r carries s is) (clear r carries u l.ready) Busy goes sees);
         refusal = subst StopsPush busy tt;
         caused = subst (PushCaused r s u turns) busy (inl l.back.3);
       }
@@ -114,7 +116,7 @@ module _ {T : Type 0} (r : RingQueue T) (carries : carries_of r ≡ true) (s : S
           ready = p.ready;
           none_out = p.none_out;
           name = name_since p.name;
-          pushed = push-deed r carries s x is p.ready (Push (view s).number got.slot) value adds (subst (λ (q : Known). numbers.Pushed q got.slot (known_of x)) (known_same k) p.added);
+          pushed = push-deed (sight s) (sight x) (clear r carries s is) (clear r carries x p.ready) (Push (view s).number got.slot) value adds.between adds.deeds (subst (λ (q : Known). numbers.Pushed q got.slot (known_of x)) (known_same k) p.added);
           back = tt;
           refused = tt;
           refusal = tt;
@@ -125,14 +127,14 @@ module _ {T : Type 0} (r : RingQueue T) (carries : carries_of r ≡ true) (s : S
     pub value_back : (unpushed : Unpushed T) → PutsSlot r u x got.slot (turns - got.failed) (Err unpushed) → AnswersPush r s x value turns (Err unpushed)
     value_back unpushed p =
         let kept = p.back.1 in
-        let goes : GoesOn s x = record { between = kept.between; deeds = kept.deeds ∙ ap (λ ds. ds ++ kept.between) k.deeds } in
+        let goes : GoesOn (sight s) (sight x) = record { between = kept.between; deeds = kept.deeds ∙ ap (λ ds. ds ++ kept.between) k.deeds } in
         record {
           ready = p.ready;
           none_out = p.none_out;
           name = name_since p.name;
           pushed = tt;
           back = value_is u.token.me.1 got.slot unpushed.value value p.back.0.out l.loaded.0.out;
-          refused = push_refused-deeds r carries s x is p.ready unpushed.refusal goes (subst (λ (q : Known). numbers.PushRefused q unpushed.refusal (known_of x)) (known_same k) p.refused);
+          refused = push_refused-deeds (sight s) (sight x) (clear r carries s is) (clear r carries x p.ready) unpushed.refusal goes (subst (λ (q : Known). numbers.PushRefused q unpushed.refusal (known_of x)) (known_same k) p.refused);
           refusal = p.refusal;
           caused = by_cause unpushed.refusal p.caused;
         }

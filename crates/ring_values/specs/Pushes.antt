@@ -13,7 +13,8 @@ use Rattle.ring_queue.specs.Causes as ring
 use Rattle.ring_queue.specs.Hands.{HasSlot, KeepsKnown, FailedTries, PushesFrom}
 use Rattle.ring_queue.specs.Seats.{HasNoSlot, KeepsName, known_of}
 use Rattle.ring_queue.specs.Queues.{IsRingSeat}
-use Rattle.ring_values.specs.ValuesSeen.{GoesOn, known_by}
+use Rattle.value_queue.specs.Sights.{GoesOn}
+use Rattle.ring_values.specs.ValuesSeen.{known_by, sight}
 
 -- a push has its value in a slot, after some failed tries at others, or each of so many tries failed and the value came back
 pub record HasLoad {T : Type 0} (r : RingQueue T) (s t : Seat T) (value : T) (turns : ℕ) (out : Result Got (Unpushed T)) : Type 0 where
@@ -29,7 +30,7 @@ pub record PutsSlot {T : Type 0} (r : RingQueue T) (s t : Seat T) (slot turns : 
   pub name : KeepsName s t
   pub added : OnOk out (numbers.Pushed (known_of s) slot (known_of t))
   pub pushed : OnOk out (PushesFrom slot s t)
-  pub back : IfErr out (λ unpushed. HasSlot r.plan s slot (Some unpushed.value) × GoesOn s t)
+  pub back : IfErr out (λ unpushed. HasSlot r.plan s slot (Some unpushed.value) × GoesOn (sight s) (sight t))
   pub refused : IfErr out (λ unpushed. numbers.PushRefused (known_of s) unpushed.refusal (known_of t))
   pub refusal : IfErr out (λ unpushed. StopsPush unpushed.refusal)
   pub caused : IfErr out (λ unpushed. ring.PushCaused r.plan s t turns unpushed.refusal)

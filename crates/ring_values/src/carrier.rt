@@ -49,6 +49,8 @@ impl<T: Send> Carrier for RingValues<T> {
 
     ghost sound = { λ q s h. sound-seat (ring_of q) q.carries s h.ready };
 
+    ghost closed_alike = { λ _ _ _ _ cause. cause };
+
     ghost seat_prop = { λ q s. IsQueueSeat-prop q s };
 
     /// Refusals: those of a push of a number, with their causes; and `Busy` also where turns failed at slots that others have: a push

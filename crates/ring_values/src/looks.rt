@@ -1,8 +1,11 @@
 //! What a seat can see of its queue without taking anything.
-ghost use Rattle.ring_values.specs.Looks.{FoundSoOf, WasSoLongOf, LeavesPushesOf};
+ghost use Rattle.value_queue.specs.Looks.{FoundSoOf};
+ghost use Rattle.ring_values.specs.Looks.{WasSoLongOf, LeavesPushesOf};
+ghost use Rattle.ring_values.specs.ValuesSeen.{known_by};
 
 use crate::queue::RingValues;
-use ring_queue::{Len, RingEmptiness, Seat};
+use node_arena::{Emptiness, Len};
+use ring_queue::Seat;
 
 impl<T> RingValues<T> {
     ghost use Rattle.ring_queue.specs.Seats.{KeepsName};
@@ -13,14 +16,14 @@ impl<T> RingValues<T> {
     ///
     /// ```rust
     /// match queue.emptiness(&mut seat) {
-    ///     RingEmptiness::Empty | RingEmptiness::Holds => {}
+    ///     Emptiness::Empty | Emptiness::Holds => {}
     ///     // Nothing comes any more.
-    ///     RingEmptiness::ShutEmpty => return,
+    ///     Emptiness::ShutEmpty => return,
     ///     // Others are popping: look again.
-    ///     RingEmptiness::Moved => backoff.snooze(),
+    ///     Emptiness::Moved => backoff.snooze(),
     /// }
     /// ```
-    pub fn emptiness(&self, seat: &mut Seat<T>) -> RingEmptiness
+    pub fn emptiness(&self, seat: &mut Seat<T>) -> Emptiness
         requires { IsQueueSeat self.now seat.old }
         ensures seat { IsQueueSeat self.now seat.new }
         ensures name { KeepsName seat.old seat.new }
@@ -28,7 +31,7 @@ impl<T> RingValues<T> {
         //=   not, or that it holds a value, as it was after some deeds that begin with those that the seat had seen and that it
         //=   has now seen; or that Head moved, and then it has seen more pops than before. It is in no call, as before, with no
         //=   slot.
-        ensures found { FoundSoOf (plan_of self.now) seat.old seat.new result }
+        ensures found { FoundSoOf (known_by seat.old) result (known_by seat.new) }
     {
         self.ring.emptiness_in(seat)
     }
@@ -48,7 +51,7 @@ impl<T> RingValues<T> {
         //= ring_values/len (seat, name, long): A seat that looks how long its ring of values is is told two bounds, between
         //=   which the length was after some deeds that begin with those that the seat had seen and that it has now seen. They
         //=   are at most as far apart as the pops that it has newly seen. It is in no call, as before, with no slot.
-        ensures long { WasSoLongOf (plan_of self.now) seat.old seat.new result }
+        ensures long { WasSoLongOf seat.old seat.new result }
     {
         self.ring.len_in(seat)
     }

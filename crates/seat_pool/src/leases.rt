@@ -10,7 +10,6 @@ use crate::parts::Part;
 use crate::places::{Give, Home, Token};
 use crate::pools::Store;
 use history::{Body, Fifo, Refusal, Taken};
-use owned_seats::Look;
 use std::alloc::Global;
 use std::snapshot::Snapshot;
 use std::sync::{Arc, Wait};
@@ -218,24 +217,6 @@ impl<Q: Fifo + Drop> Lease<Q> {
         };
         let held = pool.find(self.held.part)?;
         Some(Lease { pool, held })
-    }
-
-    /// Looks at the queue, as `L` does by a seat of it.
-    ///
-    /// ```rust
-    /// if lease.look::<LooksForLength>().is_some_and(|len| len.least > 1000) {
-    ///     start_another_worker();
-    /// }
-    /// ```
-    pub fn look<L: Look<Q>>(&mut self) -> L::Told
-        //= leases/looks (same, number, told): A look by a lease tells what that look at the queue tells its seat, and stays the
-        //=   lease of this seat.
-        ensures same { IsSameLease self.old self.new }
-        ensures number { (Q.known (seat_of self.new)).number ≡ (Q.known (seat_of self.old)).number }
-        ensures told { L.tells (queue_of self.old)
-            (Q.known (seat_of self.old)) result (Q.known (seat_of self.new)) }
-    {
-        L::look(&self.pool.home.queue, &mut self.held.seat)
     }
 
     /// What the seat may do. Takes no memory and doesn't wait.

@@ -9,7 +9,7 @@ use Rattle.std.proofs.lemmas.List.Sorted.{All-permutation, IsPermutation-sym, su
 use Rattle.tasks.specs.declared.answers.Done.{Done}
 use Rattle.tasks.specs.declared.runs.Numbered.{Numbered}
 use Rattle.tasks.specs.Tasks.{IsDoneOf}
-use Rattle.fed_pool.specs.Answered.{numbered, AnsweredOnce}
+use Rattle.tasks.specs.Answered.{numbered, AnsweredOnce}
 use Rattle.split_sum.specs.declared.ranges.Range.{Range}
 use Rattle.split_sum.specs.declared.ranges.Part.{Part}
 use Rattle.split_sum.specs.declared.ranges.Part.TheVariants.{Sum, Halves}

@@ -3,11 +3,10 @@ ghost use Rattle.std.specs.Prelude.{◌≡◌, ◌+◌, false, ◌++◌, ◌∷�
 ghost use Rattle.split_sum.specs.Squares.{squares_of};
 
 use crate::ranges::{NoRoom, Part, Range};
-use fed_pool::{Feed, run_feed};
 use std::alloc::Global;
 use std::sync::Wait;
 use std::thread::Threads;
-use tasks::Done;
+use tasks::{Done, Feed, run_feed};
 
 /// How many ranges may wait to be run, at most.
 const ROOM: u32 = 100;

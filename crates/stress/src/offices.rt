@@ -3,7 +3,7 @@ use crate::loads::Load;
 use crate::tallies::Tally;
 use channels::{Receiver, Sender};
 use history::Refusal;
-use picked_values::ValueQueue;
+use picked::ValueQueue;
 use post_office::PostOffice;
 use std::alloc::Global;
 use std::sync::Wait;

@@ -1,5 +1,27 @@
-pub mod Lying
-pub mod Gathering
-pub mod Working
-pub mod Histories
-pub mod Telling
+mod Lying
+mod Gathering
+mod Working
+mod Histories
+mod Telling
+mod Parting
+mod Seats
+mod Finishing
+mod Ending
+mod Closed
+mod Settling
+mod NewCrews
+mod Permuting
+mod Deeds
+mod Zipping
+mod Rounds
+mod Handing
+mod Going
+mod Together
+mod Lines
+mod FedTelling
+mod Posting
+mod FedSeats
+mod FedEnding
+mod Closing
+mod FedClosed
+mod Starting

@@ -128,3 +128,9 @@ module _ {X Y : Type 0} where
   zip-push R [] (w ∷ ys) x y all h = absurd all
   zip-push R (z ∷ xs) [] x y all h = absurd all
   zip-push R (z ∷ xs) (w ∷ ys) x y all h = (all.0, zip-push R xs ys x y all.1 h)
+
+-- one more of each, whatever the lists are then called
+pub zip-pushed : {X Y : Type 0} (R : X → Y → Type 0) (xs : List X) (ys : List Y) {all : List X} {all' : List Y} {x : X} {y : Y} → AllZip R xs ys → R x y
+    → all ≡ xs ++ x ∷ [] → all' ≡ ys ++ y ∷ [] → AllZip R all all'
+zip-pushed R xs ys {all' = all'} {x = x} {y = y} h k one other =
+    subst (λ l. AllZip R l all') (sym one) (subst (λ l. AllZip R (xs ++ x ∷ []) l) (sym other) (zip-push R xs ys x y h k))

@@ -2,3 +2,15 @@ pub mod Tasks
 pub mod Turns
 pub mod Gathers
 pub mod Offers
+pub mod Crews
+pub mod Parts
+pub mod Pools
+pub mod Settled
+pub mod Roles
+pub mod Answered
+pub mod Feeds
+pub mod Posts
+pub mod Workers
+pub mod Leaders
+pub mod FedPools
+pub mod Ends

@@ -1,11 +1,11 @@
 -- What the submitter does.
-use Rattle.std.specs.Prelude.{◌≡◌, ◌⊎◌, ℕ, ◌<◌, List, [], ◌++◌, map, length, Option, Some, None, slice_get, slice_set}
+use Rattle.std.specs.Prelude.{◌≡◌, ◌⊎◌, ℕ, ◌<◌, List, [], ◌++◌, map, length, Option, Some, None, IfSome, slice_get, slice_set}
 use Rattle.std.specs.List.{All, Any}
 use Rattle.history.specs.declared.refusals.Refusal.{Refusal}
 use Rattle.history.specs.Answers.{EndsShut}
 use Rattle.carriers.specs.Deeds.{did_push}
 use Rattle.carriers.specs.Knowledge.{KnownOf}
-use Rattle.carriers.specs.Answers.{PushedOf, SeesMoreOf, DidShutOf, FoundShutOf}
+use Rattle.carriers.specs.Answers.{PushedOf, SeesMoreOf, DidShutOf, FoundShutOf, EndsByTryOf}
 use Rattle.tasks.specs.declared.answers.Done.{Done}
 use Rattle.tasks.specs.declared.answers.Outcome.{Outcome}
 use Rattle.tasks.specs.declared.answers.Outcome.TheVariants.{Answered}
@@ -50,11 +50,13 @@ module _ {T A : Type 0} (answers : T → A → Type 0) where
     pub each : (n : ℕ) → n < most → Any (λ x. x.number ≡ n) pushed ⊎ Any (λ d. d.number ≡ n) ran
     pub here : refused ≡ None → ran ≡ []
 
--- the submitter offered each task, and then shut the queue, found it shut, or tells why it couldn't
-pub record HasLed {Q S T A : Type 0} (is_seat : Q → S → Type 0) (known : S → KnownOf (Numbered T)) (answers : T → A → Type 0)
-    (queue : Q) (tasks : List T) (was : S) (slots : List (Option (Outcome T A))) (led : Led S T A) : Type 0 where
+-- the submitter offered each task, and then shut the queue, found it shut, or tells why it couldn't, with the cause of a try of 8
+-- turns
+pub record HasLed {Q S T A : Type 0} (is_seat : Q → S → Type 0) (known : S → KnownOf (Numbered T)) (cause : Q → S → S → ℕ → Refusal → Type 0)
+    (answers : T → A → Type 0) (queue : Q) (tasks : List T) (was : S) (slots : List (Option (Outcome T A))) (led : Led S T A) : Type 0 where
   pub seat : is_seat queue led.seat
   pub number : (known led.seat).number ≡ (known was).number
-  pub middle : KnownOf (Numbered T)
-  pub offered : HasOffered answers tasks (length tasks) led.refused (known was) middle slots (slots_in led.gather)
-  pub shut : EndsShutBy middle (known led.seat) led.unshut
+  pub middle : S
+  pub offered : HasOffered answers tasks (length tasks) led.refused (known was) (known middle) slots (slots_in led.gather)
+  pub shut : EndsShutBy (known middle) (known led.seat) led.unshut
+  pub caused : IfSome led.unshut (EndsByTryOf is_seat known cause queue middle led.seat 8)

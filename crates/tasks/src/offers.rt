@@ -5,12 +5,12 @@ ghost use Rattle.history.specs.Answers.{EndsPush};
 ghost use Rattle.carriers.specs.Answers.{PushedOf, EndsByTryOf};
 ghost use Rattle.blocking_carrier.specs.Queues.{queue_of};
 ghost use Rattle.tasks.specs.Gathers.{slots_in};
-ghost use Rattle.tasks.specs.Offers.{RanHere, OffersNext, HasOffered, EndsShutBy, HasLed};
+ghost use Rattle.tasks.specs.Offers.{RanHere, OffersNext, HasOffered, HasLed};
 
 use crate::answers::Outcome;
 use crate::gathers::Gather;
 use crate::runs::{Numbered, Task};
-use crate::turns::Stop;
+use crate::stops::{Stop, Unshut, shut_or_stop};
 use blocking_carrier::BlockingCarrier;
 use carriers::{Carrier, Unpushed};
 use history::Refusal;
@@ -121,29 +121,6 @@ pub fn offer_all<R: Wait, T: Task, C: Carrier<Item = Numbered<T>>>(
     refused
 }
 
-// Shuts the queue, which wakes the workers that sleep; where it can't be shut, tells them to stop, and tells why.
-fn shut_or_stop<R: Wait, C: Carrier>(
-    rt: &R,
-    queue: &BlockingCarrier<C>,
-    seat: &mut C::Seat,
-    stop: &Stop,
-) -> Option<Refusal>
-    requires seat { C.is_seat (queue_of queue.now) seat.old }
-    requires role { MayPush (C.permits (queue_of queue.now)) (C.known seat.old).number }
-    ensures seat { C.is_seat (queue_of queue.now) seat.new }
-    ensures number { (C.known seat.new).number ≡ (C.known seat.old).number }
-    ensures shut { EndsShutBy (C.known seat.old) (C.known seat.new) result }
-{
-    match queue.shut(rt, seat) {
-        Ok(()) | Err(Refusal::Closed) => None,
-        Err(refusal) => {
-            stop.tell();
-            queue.wake_all();
-            Some(refusal)
-        }
-    }
-}
-
 /// Offers each of these tasks, and then shuts the queue; where it can't be shut, tells the workers to stop. The seat may
 /// push.
 ///
@@ -154,14 +131,15 @@ pub fn lead<R: Wait, T: Task, C: Carrier<Item = Numbered<T>>>(
     mut seat: C::Seat,
     tasks: Vec<T>,
     mut gather: Gather<T, Result<T::Output, T::Error>>,
-    stop: &Stop,
+    stop: &Stop<Unshut>,
 ) -> Led<C::Seat, T, Result<T::Output, T::Error>>
     requires seat { C.is_seat (queue_of queue.now) seat }
     requires role { MayPush (C.permits (queue_of queue.now)) (C.known seat).number }
     requires slots { length (slots_in gather) ≡ length tasks.items }
-    //= tasks/led: The submitter offers each task, and then shuts the queue, or finds it shut; or it tells why it couldn't.
-    ensures { HasLed C.is_seat C.known T.answers (queue_of queue.now) tasks.items seat
-        (slots_in gather) result }
+    //= tasks/led: The submitter offers each task, and then shuts the queue, or finds it shut; or it tells why it couldn't,
+    //=   with the cause of a shut of 8 turns.
+    ensures { HasLed C.is_seat C.known C.shut_cause T.answers (queue_of queue.now) tasks.items
+        seat (slots_in gather) result }
 {
     let refused = offer_all(rt, queue, &mut seat, tasks, &mut gather);
     let unshut = shut_or_stop(rt, queue, &mut seat, stop);

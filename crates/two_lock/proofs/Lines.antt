@@ -1,8 +1,8 @@
 -- Outcomes that are the same go on at the same line.
 use Rattle.std.proofs.Common.{◌≡◌, ap}
 use Rattle.line_table.specs.declared.lines.Line.{Line}
-use Rattle.arena_lines.specs.declared.outcomes.RowOutcome.{RowOutcome}
-use Rattle.arena_lines.specs.declared.outcomes.RowOutcome.TheVariants.{Goes, Ends}
+use Rattle.free_list.specs.declared.outcomes.RowOutcome.{RowOutcome}
+use Rattle.free_list.specs.declared.outcomes.RowOutcome.TheVariants.{Goes, Ends}
 use Rattle.two_lock.specs.Pushes.{Running}
 
 line_or : Line → RowOutcome Running → Line

@@ -23,10 +23,10 @@ use Rattle.node_arena.proofs.Paths.{no_walk, walk_then, then_stored, no_slots, t
 use Rattle.node_arena.proofs.Paths.{failed_behind, kept_seat, event, walk_on, to_is, failed_last}
 use Rattle.node_arena.proofs.Loads.{still_bare, kept_slots}
 use Rattle.two_lock.specs.Values.{IsTwoLock}
-use Rattle.arena_lines.specs.declared.outcomes.RowOutcome.{RowOutcome}
-use Rattle.arena_lines.specs.declared.outcomes.RowOutcome.TheVariants.{Goes, Ends}
-use Rattle.arena_lines.specs.declared.outcomes.Reply.{Reply}
-use Rattle.arena_lines.specs.declared.outcomes.Reply.TheVariants.{Done as IsDone, Value as IsValue, Empty as IsEmpty, Refused as IsRefused}
+use Rattle.free_list.specs.declared.outcomes.RowOutcome.{RowOutcome}
+use Rattle.free_list.specs.declared.outcomes.RowOutcome.TheVariants.{Goes, Ends}
+use Rattle.free_list.specs.declared.outcomes.Reply.{Reply}
+use Rattle.free_list.specs.declared.outcomes.Reply.TheVariants.{Done as IsDone, Value as IsValue, Empty as IsEmpty, Refused as IsRefused}
 use Rattle.two_lock.specs.Pops.{Running, popping, has_lock, Follows, PopsUnderLock, Trying}
 use Rattle.two_lock.specs.Worn.{pop_worn}
 use Rattle.arena_queue.specs.Answers.{PopsWithoutNode}

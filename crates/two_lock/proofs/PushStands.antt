@@ -14,7 +14,7 @@ use Rattle.node_arena.specs.declared.seats.Seat.{Seat}
 use Rattle.node_arena.specs.Seats.{DidStep, view}
 use Rattle.node_arena.proofs.Known.{empty_before}
 use Rattle.node_arena.proofs.Paths.{settled, goes_on}
-use Rattle.arena_lines.specs.declared.outcomes.Reply.TheVariants.{Done, Refused as IsRefused}
+use Rattle.free_list.specs.declared.outcomes.Reply.TheVariants.{Done, Refused as IsRefused}
 use Rattle.two_lock.specs.Pushes.{Running, in_hand, told_by, HasNode, AgreesAt, CallIsAt}
 use Rattle.two_lock.proofs.PushSteps.{ref_a4, ref_a5}
 

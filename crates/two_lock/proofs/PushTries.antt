@@ -25,14 +25,14 @@ use Rattle.node_arena.proofs.Paths.{then_slots, quiet_slots, added_is, added_pat
 use Rattle.node_arena.proofs.Paths.{walk_on, pass_on, act_on, to_is, failed_last}
 use Rattle.two_lock.specs.Values.{IsTwoLock}
 use Rattle.node_arena.specs.Machine.{value_of}
-use Rattle.arena_lines.specs.declared.outcomes.RowOutcome.{RowOutcome}
-use Rattle.arena_lines.specs.declared.outcomes.RowOutcome.TheVariants.{Goes}
-use Rattle.arena_lines.specs.declared.outcomes.Reply.TheVariants.{Done, Refused as IsRefused}
+use Rattle.free_list.specs.declared.outcomes.RowOutcome.{RowOutcome}
+use Rattle.free_list.specs.declared.outcomes.RowOutcome.TheVariants.{Goes}
+use Rattle.free_list.specs.declared.outcomes.Reply.TheVariants.{Done, Refused as IsRefused}
 use Rattle.two_lock.specs.Pushes.{Running, registers_of, in_hand, told_by, has_lock, CallIsAt, Follows, PushesUnderLock, Trying}
 use Rattle.two_lock.specs.Worn.{push_worn}
 use Rattle.arena_queue.specs.Answers.{PushWithNodeCaused, PushesWithNode}
 use Rattle.node_arena.proofs.Values.{value_of-word}
-use Rattle.arena_lines.proofs.Registers.{same_registers}
+use Rattle.free_list.proofs.Registers.{same_registers}
 use Rattle.two_lock.proofs.PushStands.{after_a1, after_a2, won_a3, lost_a3, after_a4, won_a5, lost_a5, after_a6, after_a7, shut_a7}
 use Rattle.two_lock.proofs.Lines.{same_line}
 

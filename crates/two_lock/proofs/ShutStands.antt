@@ -17,7 +17,7 @@ use Rattle.node_arena.specs.Seats.{DidStep, view}
 use Rattle.node_arena.proofs.Paths.{settled, goes_on}
 use Rattle.node_arena.proofs.Reading.{read_back}
 use Rattle.node_arena.proofs.Told.{was_fits}
-use Rattle.arena_lines.specs.declared.outcomes.Reply.TheVariants.{Done, Refused as IsRefused}
+use Rattle.free_list.specs.declared.outcomes.Reply.TheVariants.{Done, Refused as IsRefused}
 use Rattle.two_lock.specs.Pushes.{told_by}
 use Rattle.two_lock.specs.Shuts.{Running, AgreesAt, KeepsPocket, CallIsAt}
 

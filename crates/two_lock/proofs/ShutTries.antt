@@ -21,10 +21,10 @@ use Rattle.node_arena.proofs.Paths.{no_walk, walk_then, then_act, act_then, then
 use Rattle.node_arena.proofs.Paths.{added_path, ends_failed, failed-append, failed_behind, last_held, stopped_behind, event, walk_on, pass_on, act_on}
 use Rattle.node_arena.proofs.Paths.{shut_on, stopped_at, to_is, failed_last}
 use Rattle.node_arena.proofs.Loads.{shut_slots}
-use Rattle.arena_lines.specs.declared.outcomes.RowOutcome.{RowOutcome}
-use Rattle.arena_lines.specs.declared.outcomes.RowOutcome.TheVariants.{Goes}
-use Rattle.arena_lines.specs.declared.outcomes.Reply.TheVariants.{Done, Refused as IsRefused}
-use Rattle.arena_lines.proofs.Registers.{same_registers}
+use Rattle.free_list.specs.declared.outcomes.RowOutcome.{RowOutcome}
+use Rattle.free_list.specs.declared.outcomes.RowOutcome.TheVariants.{Goes}
+use Rattle.free_list.specs.declared.outcomes.Reply.TheVariants.{Done, Refused as IsRefused}
+use Rattle.free_list.proofs.Registers.{same_registers}
 use Rattle.arena_queue.specs.Answers.{Shuts, ShutCaused, FailsFewer, AnswersShut}
 use Rattle.two_lock.specs.Values.{IsTwoLock}
 use Rattle.two_lock.specs.Pushes.{told_by}

@@ -25,12 +25,12 @@ use Rattle.node_arena.proofs.Known.{empty_before}
 use Rattle.node_arena.proofs.PrologueTraces.{prefix_then}
 use Rattle.node_arena.proofs.Paths.{ran_on, then_shut_empty, shut_empty_on, walk_then, then_act, act_then, then_stored, then_slots, quiet_slots, event, walk_on, pass_on, act_on, stopped_at}
 use Rattle.node_arena.specs.Machine.{value_of}
-use Rattle.arena_lines.specs.declared.outcomes.RowOutcome.{RowOutcome}
-use Rattle.arena_lines.specs.declared.outcomes.RowOutcome.TheVariants.{Goes, Ends}
-use Rattle.arena_lines.specs.declared.outcomes.Reply.{Reply}
-use Rattle.arena_lines.specs.declared.outcomes.Reply.TheVariants.{Value as IsValue, Empty as IsEmpty, Refused as IsRefused}
+use Rattle.free_list.specs.declared.outcomes.RowOutcome.{RowOutcome}
+use Rattle.free_list.specs.declared.outcomes.RowOutcome.TheVariants.{Goes, Ends}
+use Rattle.free_list.specs.declared.outcomes.Reply.{Reply}
+use Rattle.free_list.specs.declared.outcomes.Reply.TheVariants.{Value as IsValue, Empty as IsEmpty, Refused as IsRefused}
 use Rattle.two_lock.specs.Pops.{Running, told_by, unlocked_as, CallIsAt, Follows, PopsUnderLock}
-use Rattle.arena_lines.proofs.Registers.{same_registers}
+use Rattle.free_list.proofs.Registers.{same_registers}
 use Rattle.two_lock.proofs.PopStands.{stands_next}
 
 line_or : Line → RowOutcome Running → Line

@@ -8,7 +8,7 @@ ghost use Rattle.node_arena.specs.Seats.{role_of};
 ghost use Rattle.two_lock.specs.Pops.{popping, CallIsAt, Follows};
 
 use crate::pop_outcomes::{ActorOf, unlocked};
-use arena_lines::{Reply, RowOutcome, access, branch, effect, first_row, goes, notes, onward, row};
+use free_list::{Reply, RowOutcome, access, branch, effect, first_row, goes, notes, onward, row};
 use history::{Refusal, WornWord};
 use line_table::{Line, line_table};
 use node_arena::{ArenaOf, Seat, raised};

@@ -2,8 +2,8 @@
 ghost use Rattle.std.specs.Prelude.{◌≡◌};
 ghost use Rattle.two_lock.specs.Pops.{has_lock, unlocked_as};
 
-use arena_lines::{Reply, RowOutcome};
 use counted_ref::CountedRefOf;
+use free_list::{Reply, RowOutcome};
 use line_table::Line;
 use node_arena::ArenaOf;
 use std::marker::Model;

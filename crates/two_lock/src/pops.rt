@@ -12,8 +12,7 @@ ghost use Rattle.arena_queue.specs.Answers.{PopsWithoutNode};
 
 use crate::pop_lines::{b1, b2, b3, b4, b5, b6};
 use crate::pop_outcomes::{ActorOf, blank, got_lock};
-use arena_lines::{Reply, RowOutcome};
-use free_list::give_back;
+use free_list::{Reply, RowOutcome, give_back};
 use history::{Refusal, Taken};
 use line_table::Line;
 use node_arena::{ArenaOf, Held, Seat, value_of};

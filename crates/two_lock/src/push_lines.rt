@@ -9,8 +9,8 @@ ghost use Rattle.node_arena.specs.Seats.{role_of};
 ghost use Rattle.two_lock.specs.Pushes.{pushing, CallIsAt, Follows};
 
 use crate::push_outcomes::{ActorOf, left_with_node};
-use arena_lines::{Reply, RowOutcome, access, branch, effect, goes, onward, row};
 use counted_ref::CountedRefOf;
+use free_list::{Reply, RowOutcome, access, branch, effect, goes, onward, row};
 use history::Refusal;
 use line_table::{Line, line_table};
 use node_arena::{ArenaOf, Seat};

@@ -2,8 +2,8 @@
 ghost use Rattle.std.specs.Prelude.{◌≡◌, Some};
 ghost use Rattle.two_lock.specs.Pushes.{registers_of, has_lock, left_as};
 
-use arena_lines::{Reply, RowOutcome};
 use counted_ref::CountedRefOf;
+use free_list::{Reply, RowOutcome};
 use line_table::Line;
 use node_arena::{ArenaOf, Held};
 use std::marker::Model;

@@ -7,8 +7,8 @@ ghost use Rattle.node_arena.specs.Seats.{role_of};
 ghost use Rattle.two_lock.specs.Shuts.{shutting, CallIsAt, Follows, LetsGo};
 
 use crate::shut_outcomes::{ActorOf, left};
-use arena_lines::{Reply, RowOutcome, access, effect, first_row, goes, onward, row};
 use counted_ref::CountedRefOf;
+use free_list::{Reply, RowOutcome, access, effect, first_row, goes, onward, row};
 use history::Refusal;
 use line_table::{Line, line_table};
 use node_arena::{ArenaOf, Seat};

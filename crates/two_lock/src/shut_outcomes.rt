@@ -2,8 +2,8 @@
 ghost use Rattle.std.specs.Prelude.{◌≡◌};
 ghost use Rattle.two_lock.specs.Shuts.{has_lock, answer_of};
 
-use arena_lines::{Reply, RowOutcome};
 use counted_ref::CountedRefOf;
+use free_list::{Reply, RowOutcome};
 use history::Refusal;
 use line_table::Line;
 use node_arena::ArenaOf;

@@ -1,4 +1,4 @@
--- What an arena of values that was closed leaves, in words of queues of values.
+-- What a table with slots that was closed leaves, in words of queues of values.
 use Rattle.std.proofs.Common.{◌≡◌, ℕ, ◌+◌, ◌≤◌, Bool, true, false, cond, nat_eq, List, [], ◌∷◌, ◌++◌, map, length, Option, Some, None, IsSomeAnd}
 use Rattle.std.proofs.Common.{slice_get, option_map, sym, refl, ap, subst, ◌∙◌, arith, append-nil, length-append}
 use Rattle.std.specs.List.{All, count_by, sum_by}
@@ -11,7 +11,9 @@ use Rattle.history.specs.declared.operations.Entry.{Entry}
 use Rattle.history.specs.declared.operations.Entry.TheVariants.{Push, Pop, Shut}
 use Rattle.history.specs.declared.operations.Taken.{Taken}
 use Rattle.history.specs.Entries.{seat_of, is_push, is_pop, is_shut, own_entries}
-use Rattle.history.specs.Seats.{Known}
+use Rattle.history.specs.declared.rests.Rest.{Rest}
+use Rattle.history.specs.Seats.{Permit, Known}
+use Rattle.history.specs.Ends.{Closes}
 use Rattle.history.specs.Rests.{taken_of, whole_of, was_shut_of, left_of}
 use Rattle.carriers.specs.declared.items.ItemOf.{ItemOf}
 use Rattle.carriers.specs.Deeds.{Deed, did_push, did_pop, did_shut, doer_of, own_deeds, is_pushing, is_popping, is_shutting, Runs}
@@ -24,14 +26,13 @@ use Rattle.node_arena.specs.Arenas.{Arena}
 use Rattle.node_arena.specs.Deeds as slots
 use Rattle.node_arena.specs.Deeds.{Item, pushed, popped, closed}
 use Rattle.node_arena.specs.Leftovers.{rest_in, values_in, ClosesValues}
-use Rattle.node_arena.specs.Seats.{IsReady, carries_of, deeds_of, known_of, permits_of, view}
 use Rattle.node_arena.specs.AsMany.{pushers, pushers_of}
 use Rattle.node_arena.proofs.AsMany.{as_many}
-use Rattle.node_arena.proofs.Seens.{sound_of}
-use Rattle.value_queue.specs.ValuesSeen.{told, left_by, shut_by, seen_by, known_by}
+use Rattle.value_queue.specs.ValuesSeen.{told, left_by, shut_by}
+use Rattle.value_queue.specs.Sights.{Sight, values_seen, IsClear, numbers_by, values_by}
 use Rattle.value_queue.specs.Runs.{CanRun-Runs, Runs-told, left_by-Runs, Matches-told, told-append, as_item}
 use Rattle.value_queue.specs.Matched.{length-own, permitted-Matches}
-use Rattle.value_queue.specs.Sound.{nil, seen_matches}
+use Rattle.value_queue.specs.Sound.{nil}
 
 module _ {A : Type 0} where
   -- as many deeds of a kind as entries of it
@@ -51,7 +52,7 @@ module _ {A : Type 0} where
       (sum_by-cons (λ x. cond (p x) 1 0) (Shut n) es)
   count-Matches p q same es ds m = absurd m
 
-  pushing-is : (e : Entry) (d : Deed A) → Matches (e ∷ []) (d ∷ []) → is_pushing d ≡ is_push e
+  pub pushing-is : (e : Entry) (d : Deed A) → Matches (e ∷ []) (d ∷ []) → is_pushing d ≡ is_push e
   pushing-is (Push n b) (did_push k x) m = refl
   pushing-is (Pop n t) (did_pop k u) m = refl
   pushing-is (Shut n) (did_shut k) m = refl
@@ -131,93 +132,92 @@ some_out : {X Y : Type 0} (f : X → Y) (P : Y → Type 0) (o : Option X) → Is
 some_out f P (Some x) h = h
 some_out f P None h = h
 
-module _ {T : Type 0} (seats : List (Seat T)) (i : ℕ) where
+module _ {T S : Type 0} (sight : S → Sight T) (seats : List S) (i : ℕ) where
   -- whose number is one of the seats', by entries and by deeds
-  of_one : (n : ℕ) → IsSomeAnd (slice_get (map known_of seats) n) (λ k. i ≡ k.number) → IsSomeAnd (slice_get (map known_by seats) n) (λ k. i ≡ k.number)
+  of_one : (n : ℕ) → IsSomeAnd (slice_get (map (numbers_by sight) seats) n) (λ k. i ≡ k.number) → IsSomeAnd (slice_get (map (values_by sight) seats) n) (λ k. i ≡ k.number)
   of_one n h =
-      subst (λ o. IsSomeAnd o (λ k. i ≡ k.number)) (sym (slice_get-map known_by seats n))
-      (some_out known_by (λ k. i ≡ k.number) (slice_get seats n) (some_in known_of (λ k. i ≡ k.number) (slice_get seats n)
-      (subst (λ o. IsSomeAnd o (λ k. i ≡ k.number)) (slice_get-map known_of seats n) h)))
+      subst (λ o. IsSomeAnd o (λ k. i ≡ k.number)) (sym (slice_get-map (values_by sight) seats n))
+      (some_out (values_by sight) (λ k. i ≡ k.number) (slice_get seats n) (some_in (numbers_by sight) (λ k. i ≡ k.number) (slice_get seats n)
+      (subst (λ o. IsSomeAnd o (λ k. i ≡ k.number)) (slice_get-map (numbers_by sight) seats n) h)))
 
-  numbered : (n : ℕ) → IsSomeAnd (slice_get (map known_by seats) n) (λ k. k.number ≡ i) → IsSomeAnd (slice_get (map known_of seats) n) (λ k. k.number ≡ i)
+  numbered : (n : ℕ) → IsSomeAnd (slice_get (map (values_by sight) seats) n) (λ k. k.number ≡ i) → IsSomeAnd (slice_get (map (numbers_by sight) seats) n) (λ k. k.number ≡ i)
   numbered n h =
-      subst (λ o. IsSomeAnd o (λ k. k.number ≡ i)) (sym (slice_get-map known_of seats n))
-      (some_out known_of (λ k. k.number ≡ i) (slice_get seats n) (some_in known_by (λ k. k.number ≡ i) (slice_get seats n)
-      (subst (λ o. IsSomeAnd o (λ k. k.number ≡ i)) (slice_get-map known_by seats n) h)))
+      subst (λ o. IsSomeAnd o (λ k. k.number ≡ i)) (sym (slice_get-map (numbers_by sight) seats n))
+      (some_out (numbers_by sight) (λ k. k.number ≡ i) (slice_get seats n) (some_in (values_by sight) (λ k. k.number ≡ i) (slice_get seats n)
+      (subst (λ o. IsSomeAnd o (λ k. k.number ≡ i)) (slice_get-map (values_by sight) seats n) h)))
 
-module _ {T : Type 0} (r : Arena) (carries : carries_of r ≡ true) where
+module _ {T S : Type 0} (sight : S → Sight T) (IsIts : S → Type 0) (clear : (s : S) → IsIts s → IsClear (sight s)) where
   -- a seat's own deeds, and its own entries
-  mine-Matches : (s : Seat T) → IsReady r s → Matches (view s).mine (own_deeds (view s).number (seen_by s))
-  mine-Matches s is = subst (λ es. Matches es (own_deeds (view s).number (seen_by s))) (sound_of r.plan (view s) is.seat.sits.fitted).own
-      (own-Matches (view s).number (view s).seen (seen_by s) (seen_matches r carries s is.seat))
+  mine-Matches : (s : S) → IsIts s → Matches (sight s).known.mine (own_deeds (sight s).known.number (values_seen (sight s)))
+  mine-Matches s is = let c = clear s is in subst (λ es. Matches es (own_deeds (sight s).known.number (values_seen (sight s)))) c.own
+      (own-Matches (sight s).known.number (sight s).known.seen (values_seen (sight s)) c.matches)
 
-  sums-Matches : (p : Entry → Bool) (q : Deed T → Bool) → ((e : Entry) (d : Deed T) → Matches (e ∷ []) (d ∷ []) → q d ≡ p e) → (seats : List (Seat T))
-      → All (IsReady r) seats → sum_by (λ (k : KnownOf T). count_by q k.mine) (map known_by seats) ≡ sum_by (λ (k : Known). count_by p k.mine)
-      (map known_of seats)
+  sums-Matches : (p : Entry → Bool) (q : Deed T → Bool) → ((e : Entry) (d : Deed T) → Matches (e ∷ []) (d ∷ []) → q d ≡ p e) → (seats : List S)
+      → All IsIts seats → sum_by (λ (k : KnownOf T). count_by q k.mine) (map (values_by sight) seats) ≡ sum_by (λ (k : Known). count_by p k.mine)
+      (map (numbers_by sight) seats)
   sums-Matches p q same [] h = refl
   sums-Matches p q same (s ∷ ss) h =
-      sum_by-cons (λ (k : KnownOf T). count_by q k.mine) (known_by s) (map known_by ss)
-      ∙ (λ i. count-Matches p q same (view s).mine (own_deeds (view s).number (seen_by s)) (mine-Matches s (All-head (IsReady r) s ss h)) i + sums-Matches p q same ss (All-tail (IsReady r) s ss h) i)
-      ∙ sym (sum_by-cons (λ (k : Known). count_by p k.mine) (known_of s) (map known_of ss))
+      sum_by-cons (λ (k : KnownOf T). count_by q k.mine) (values_by sight s) (map (values_by sight) ss)
+      ∙ (λ i. count-Matches p q same (sight s).known.mine (own_deeds (sight s).known.number (values_seen (sight s))) (mine-Matches s (All-head IsIts s ss h)) i + sums-Matches p q same ss (All-tail IsIts s ss h) i)
+      ∙ sym (sum_by-cons (λ (k : Known). count_by p k.mine) (numbers_by sight s) (map (numbers_by sight) ss))
 
   module _ (history : List Entry) (deeds : List (slots.Deed T)) (m : Matches history (told [] deeds)) where
     -- what a seat had seen begins the history
-    begins-one : (s : Seat T) → IsPrefix (deeds_of s) deeds → IsPrefix (seen_by s) (told [] deeds)
-    begins-one s h = (told (left_by [] (deeds_of s)) h.0, sym (told-append [] (deeds_of s) h.0) ∙ ap (told []) h.1)
+    begins-one : (s : S) → IsPrefix (sight s).deeds deeds → IsPrefix (values_seen (sight s)) (told [] deeds)
+    begins-one s h = (told (left_by [] (sight s).deeds) h.0, sym (told-append [] (sight s).deeds h.0) ∙ ap (told []) h.1)
 
     -- which has no more deeds of the seat
-    own-one : (s : Seat T) → IsReady r s → own_entries (view s).number history ≡ (view s).mine → IsPrefix (deeds_of s) deeds
-        → own_deeds (view s).number (told [] deeds) ≡ own_deeds (view s).number (seen_by s)
+    own-one : (s : S) → IsIts s → own_entries (sight s).known.number history ≡ (sight s).known.mine → IsPrefix (sight s).deeds deeds
+        → own_deeds (sight s).known.number (told [] deeds) ≡ own_deeds (sight s).known.number (values_seen (sight s))
     own-one s is own h =
         let b = begins-one s h in
-        own-same (view s).number (seen_by s) b.0 (told [] deeds) b.1
-        (length-own (view s).number history (told [] deeds) m ∙ ap length own ∙ ap length (sym (sound_of r.plan (view s) is.seat.sits.fitted).own) ∙
-        sym (length-own (view s).number (view s).seen (seen_by s) (seen_matches r carries s is.seat)))
+        own-same (sight s).known.number (values_seen (sight s)) b.0 (told [] deeds) b.1
+        (length-own (sight s).known.number history (told [] deeds) m ∙ ap length own ∙ ap length (sym (clear s is).own) ∙
+        sym (length-own (sight s).known.number (sight s).known.seen (values_seen (sight s)) (clear s is).matches))
 
-    own-each : (seats : List (Seat T)) → All (IsReady r) seats → All (λ k. own_entries k.number history ≡ k.mine) (map known_of seats)
-        → All (λ s. IsPrefix (deeds_of s) deeds) seats → All (λ (k : KnownOf T). own_deeds k.number (told [] deeds) ≡ k.mine) (map known_by seats)
+    own-each : (seats : List S) → All IsIts seats → All (λ k. own_entries k.number history ≡ k.mine) (map (numbers_by sight) seats)
+        → All (λ s. IsPrefix (sight s).deeds deeds) seats → All (λ (k : KnownOf T). own_deeds k.number (told [] deeds) ≡ k.mine) (map (values_by sight) seats)
     own-each [] is own h = All-nil (λ (k : KnownOf T). own_deeds k.number (told [] deeds) ≡ k.mine)
     own-each (s ∷ ss) is own h =
-        All-cons (λ (k : KnownOf T). own_deeds k.number (told [] deeds) ≡ k.mine) (known_by s) (map known_by ss)
-        (own-one s (All-head (IsReady r) s ss is) (All-head (λ k. own_entries k.number history ≡ k.mine) (known_of s) (map known_of ss) own) (All-head (λ x. IsPrefix (deeds_of x) deeds) s ss h))
-        (own-each ss (All-tail (IsReady r) s ss is) (All-tail (λ k. own_entries k.number history ≡ k.mine) (known_of s) (map known_of ss) own) (All-tail (λ x. IsPrefix (deeds_of x) deeds) s ss h))
+        All-cons (λ (k : KnownOf T). own_deeds k.number (told [] deeds) ≡ k.mine) (values_by sight s) (map (values_by sight) ss)
+        (own-one s (All-head IsIts s ss is) (All-head (λ k. own_entries k.number history ≡ k.mine) (numbers_by sight s) (map (numbers_by sight) ss) own) (All-head (λ x. IsPrefix (sight x).deeds deeds) s ss h))
+        (own-each ss (All-tail IsIts s ss is) (All-tail (λ k. own_entries k.number history ≡ k.mine) (numbers_by sight s) (map (numbers_by sight) ss) own) (All-tail (λ x. IsPrefix (sight x).deeds deeds) s ss h))
 
--- an arena of values that seats closed is closed by them as a queue of values
-pub closes-values : {T : Type 0} (r : Arena) (seats : List (Seat T)) (left : LeftValues T) → carries_of r ≡ true → All (IsReady r) seats
-    → ClosesValues r seats left → ClosesWith (permits_of r) (map known_by seats) (map as_item (values_in left)) (taken_of (rest_in left))
-    (whole_of (rest_in left)) (was_shut_of (rest_in left))
-closes-values {T} r seats left carries ready c =
-    let es : List Entry = c.closes.history in
-    let ds : List (Deed T) = told [] c.deeds in
-    let shut : Bool = was_shut_of (rest_in left) in
-    let m : Matches es ds = Matches-told [] false es c.deeds (values_in left) shut c.runs c.matches in
-    let pushes = sums-Matches r carries is_push is_pushing pushing-is seats ready in
-    let pops = sums-Matches r carries is_pop is_popping popping-is seats ready in
-    let shuts = sums-Matches r carries is_shut is_shutting shutting-is seats ready in
-    let many : length (left_of (rest_in left)) ≡ length (map as_item (values_in left)) =
-    sym (length-map (left_of (rest_in left)) (λ (t : Taken). t.from)) ∙ ap length
-    (as_many es c.deeds (left_of (rest_in left)) (values_in left) shut shut c.matches c.closes.leads c.runs).0 ∙ length-map (values_in left)
-    (λ (x : Item T). x.from) ∙ sym (length-map (values_in left) as_item) in
+-- what seats closed as a queue of numbers, whose deeds go with it, they closed as a queue of values
+pub closes-values : {T S : Type 0} (sight : S → Sight T) (IsIts : S → Type 0) → ((s : S) → IsIts s → IsClear (sight s)) → (permits : List Permit) (seats : List S)
+    (rest : Rest) (values : List (Item T)) → All IsIts seats → (closes : Closes permits (map (numbers_by sight) seats) rest) (deeds : List (slots.Deed T))
+    → slots.Matches closes.history deeds → slots.Runs [] false deeds values (was_shut_of rest) → All (λ s. IsPrefix (sight s).deeds deeds) seats
+    → ClosesWith permits (map (values_by sight) seats) (map as_item values) (taken_of rest) (whole_of rest) (was_shut_of rest)
+closes-values {T} sight IsIts clear permits seats rest values ready closes deeds matches runs begins =
+    let es : List Entry = closes.history in
+    let ds : List (Deed T) = told [] deeds in
+    let shut : Bool = was_shut_of rest in
+    let m : Matches es ds = Matches-told [] false es deeds values shut runs matches in
+    let pushes = sums-Matches sight IsIts clear is_push is_pushing pushing-is seats ready in
+    let pops = sums-Matches sight IsIts clear is_pop is_popping popping-is seats ready in
+    let shuts = sums-Matches sight IsIts clear is_shut is_shutting shutting-is seats ready in
+    let many : length (left_of rest) ≡ length (map as_item values) =
+    sym (length-map (left_of rest) (λ (t : Taken). t.from)) ∙ ap length (as_many es deeds (left_of rest) values shut shut matches closes.leads runs).0
+    ∙ length-map values (λ (x : Item T). x.from) ∙ sym (length-map values as_item) in
     record {
       history = ds;
       runs = subst (λ (y : List (ItemOf T) × Bool). Runs [] false ds y.0 y.1) (λ i. (
-        left_by-Runs [] false c.deeds (values_in left) shut c.runs i,
-        shut_by-Runs [] false c.deeds (values_in left) shut c.runs i,
-      )) (Runs-told [] false c.deeds
-          (CanRun-Runs [] false c.deeds (values_in left) shut c.runs));
-      permitted = permitted-Matches (permits_of r) es ds m c.closes.permitted;
-      begins = All-map (λ (k : KnownOf T). IsPrefix k.seen ds) known_by seats (All-weaker (λ s. IsPrefix (deeds_of s) c.deeds)
-          (λ s. IsPrefix (seen_by s) ds) (begins-one r carries es c.deeds m) seats c.begins);
-      own = own-each r carries es c.deeds m seats ready c.closes.own c.begins;
-      counted = c.closes.counted ∙ sym (count-Matches is_pop is_popping popping-is es ds m);
+        left_by-Runs [] false deeds values shut runs i,
+        shut_by-Runs [] false deeds values shut runs i,
+      )) (Runs-told [] false deeds (CanRun-Runs [] false deeds values shut runs));
+      permitted = permitted-Matches permits es ds m closes.permitted;
+      begins = All-map (λ (k : KnownOf T). IsPrefix k.seen ds) (values_by sight) seats (All-weaker (λ s. IsPrefix (sight s).deeds deeds)
+          (λ s. IsPrefix (values_seen (sight s)) ds) (begins-one sight IsIts clear es deeds m) seats begins);
+      own = own-each sight IsIts clear es deeds m seats ready closes.own begins;
+      counted = closes.counted ∙ sym (count-Matches is_pop is_popping popping-is es ds m);
       made_all = (
-        λ whole. let made = c.closes.whole.0 whole in (pops ∙ made.0, pushes ∙ made.1 ∙ ap (λ n. taken_of (rest_in left) + n) many, λ was. subst (λ n. 1 ≤ n) (sym shuts) (made.2 was)),
-        λ made. c.closes.whole.1 (sym pops ∙ made.0, sym pushes ∙ made.1 ∙ ap (λ n. taken_of (rest_in left) + n) (sym many), λ was. subst (λ n. 1 ≤ n) shuts (made.2 was)),
+        λ whole. let made = closes.whole.0 whole in (pops ∙ made.0, pushes ∙ made.1 ∙ ap (λ n. taken_of rest + n) many, λ was. subst (λ n. 1 ≤ n) (sym shuts) (made.2 was)),
+        λ made. closes.whole.1 (sym pops ∙ made.0, sym pushes ∙ made.1 ∙ ap (λ n. taken_of rest + n) (sym many), λ was. subst (λ n. 1 ≤ n) shuts (made.2 was)),
       );
-      theirs = λ whole. All-weaker (λ d. (n : ℕ) × IsSomeAnd (slice_get (map known_of seats) n) (λ k. doer_of d ≡ k.number))
-          (IsOfOneOf (map known_by seats)) (λ d h. (h.0, of_one seats (doer_of d) h.0 h.1)) ds
-          (all-Matches (λ j. (n : ℕ) × IsSomeAnd (slice_get (map known_of seats) n) (λ k. j ≡ k.number)) es ds m (c.closes.theirs whole));
-      all = λ every. c.closes.all (λ n low high. let h = every n low high in (h.0, numbered seats n h.0 h.1));
+      theirs = λ whole. All-weaker (λ d. (n : ℕ) × IsSomeAnd (slice_get (map (numbers_by sight) seats) n) (λ k. doer_of d ≡ k.number))
+          (IsOfOneOf (map (values_by sight) seats)) (λ d h. (h.0, of_one sight seats (doer_of d) h.0 h.1)) ds
+          (all-Matches (λ j. (n : ℕ) × IsSomeAnd (slice_get (map (numbers_by sight) seats) n) (λ k. j ≡ k.number)) es ds m (closes.theirs whole));
+      all = λ every. closes.all (λ n low high. let h = every n low high in (h.0, numbered sight seats n h.0 h.1));
     }
 
 -- the values left are of the seats of their numbers

@@ -23,7 +23,8 @@ use Rattle.arena_queue.proofs.Pops.{draws_late, whole}
 use Rattle.value_queue.specs.ValuesSeen.{told, known_by}
 use Rattle.value_queue.specs.Runs.{as_item}
 use Rattle.value_queue.specs.Pops.{TakesOut, AnswersPop}
-use Rattle.value_queue.proofs.Learned.{pop-deed, empty-deeds, pop_refused-deeds}
+use Rattle.value_queue.specs.Sound.{sight, clear}
+use Rattle.value_queue.proofs.Learned.{on, pop-deed, empty-deeds, pop_refused-deeds}
 use Rattle.value_queue.proofs.Kept.{added_still, name_still}
 
 module _ {T : Type 0} (worn : WornWord → Type 0) (r : Arena) where
@@ -54,7 +55,7 @@ module _ {T : Type 0} (worn : WornWord → Type 0) (r : Arena) (carries : carrie
         ready = d.ready;
         none_out = stays_without d.slots;
         same = d.same;
-        answer = empty-deeds r carries s x is.seat d.ready.seat d.slots.more d.answer;
+        answer = empty-deeds (sight s) (sight x) (clear r carries s is.seat) (clear r carries x d.ready.seat) (on s x d.slots.more) d.answer;
         few = a.few;
         freed = a.freed;
         kept = a.kept;
@@ -75,7 +76,7 @@ module _ {T : Type 0} (worn : WornWord → Type 0) (r : Arena) (carries : carrie
         few = tt;
         freed = λ off. tt;
         kept = λ on. tt;
-        refused = pop_refused-deeds r carries s x is.seat d.ready.seat refusal d.slots.more a.refused;
+        refused = pop_refused-deeds (sight s) (sight x) (clear r carries s is.seat) (clear r carries x d.ready.seat) refusal (on s x d.slots.more) a.refused;
         refusal = a.refusal;
         caused = a.caused;
       }
@@ -94,7 +95,8 @@ module _ {T : Type 0} (worn : WornWord → Type 0) (r : Arena) (carries : carrie
         let value : took.0 ≡ front.value = one_value r x taken.body took.0 front.value took.1 t.value in
         let its : as_item (item taken.from took.0) ≡ front = (λ i. record { from = sym t.from i; value = value i }) in
         let adds : AddsDeed (known_by s) (did_pop (view s).number (as_item (item taken.from took.0))) (known_by x) =
-        pop-deed r carries s x is.seat d.ready.seat (Pop (view s).number taken) (item taken.from took.0) took.2 d.answer in
+        pop-deed (sight s) (sight x) (clear r carries s is.seat) (clear r carries x d.ready.seat) (Pop (view s).number taken) (item taken.from took.0)
+        took.2.adds.between took.2.adds.deeds took.2.rest took.2.shut took.2.stood d.answer in
         let es = added_still s x y k in
         record {
           ready = t.ready;

@@ -30,7 +30,8 @@ use Rattle.arena_queue.specs.Answers.{PushWithNodeCaused, PushesWithNodeAnd, Pus
 use Rattle.arena_queue.proofs.Pushes.{put_behind, learns, learns_of_take}
 use Rattle.value_queue.specs.ValuesSeen.{known_by}
 use Rattle.value_queue.specs.Pushes.{HasNode, TakesBack, MissedSlots, PushCaused, AnswersPush, back_with, last_try}
-use Rattle.value_queue.proofs.Learned.{push-deed, push_refused-deeds}
+use Rattle.value_queue.specs.Sound.{sight, clear}
+use Rattle.value_queue.proofs.Learned.{on, push-deed, push_refused-deeds}
 use Rattle.value_queue.proofs.Kept.{added_still, name_still, more_still, stops_still, cause_still}
 
 -- what a seat has seen goes on, and then on
@@ -101,7 +102,7 @@ module _ {T : Type 0} (worn : WornWord → Option Held → Type 0) (r : Arena) (
         missed = tt;
         pocket = tt;
         back = refl;
-        refused = push_refused-deeds r carries s t is.seat h.ready.seat refusal h.slots.more (learns_of_take r s t turns refusal h.lines h.refused);
+        refused = push_refused-deeds (sight s) (sight t) (clear r carries s is.seat) (clear r carries t h.ready.seat) refusal (on s t h.slots.more) (learns_of_take r s t turns refusal h.lines h.refused);
         refusal = stops refusal h.refused;
         caused = by_cause refusal h.refused;
       }
@@ -142,7 +143,7 @@ module _ {T : Type 0} (worn : WornWord → Option Held → Type 0) (r : Arena) (
     -- what a push knows that got no slot
     pub slot_refused : (refusal : Refusal) → IsReady r v → KeepsKnown u v → refusal ≡ Busy → PushRefusedOf (known_by s) refusal (known_by v)
     slot_refused refusal ready k its =
-        subst (λ q. PushRefusedOf (known_by s) q (known_by v)) (sym its) (push_refused-deeds r carries s v is.seat ready.seat Busy (more_since k) (seen_since k))
+        subst (λ q. PushRefusedOf (known_by s) q (known_by v)) (sym its) (push_refused-deeds (sight s) (sight v) (clear r carries s is.seat) (clear r carries v ready.seat) Busy (on s v (more_since k)) (seen_since k))
 
     -- there was no slot
     pub no_slot : (refusal : Refusal) → IsReady r v → KeepsKnown u v → (refusal ≡ Busy) × HasNoSlot v → FailedTries r u first (turns - spent)
@@ -198,7 +199,7 @@ module _ {T : Type 0} (worn : WornWord → Option Held → Type 0) (r : Arena) (
             ready = n.ready;
             none_out = gave.0;
             same = n.same;
-            pushed = push-deed r carries s x is.seat n.ready.seat (Push (view s).number body) value adds n.pushed.0.adds;
+            pushed = push-deed (sight s) (sight x) (clear r carries s is.seat) (clear r carries x n.ready.seat) (Push (view s).number body) value adds.between adds.deeds n.pushed.0.adds;
             few = (let f = n.pushed.2 in omega (arith, f));
             missed = (
               got.failed,
@@ -228,7 +229,7 @@ module _ {T : Type 0} (worn : WornWord → Option Held → Type 0) (r : Arena) (
             missed = tt;
             pocket = tt;
             back = value_is y.token.me.1 got.slot got.slot b.value value b.had.out (p.slots.same ∙ has.out);
-            refused = push_refused-deeds r carries s x is.seat b.ready.seat refusal more (learns s x refusal (stops_still s y x b.keeps refusal n.refused.0));
+            refused = push_refused-deeds (sight s) (sight x) (clear r carries s is.seat) (clear r carries x b.ready.seat) refusal (on s x more) (learns s x refusal (stops_still s y x b.keeps refusal n.refused.0));
             refusal = stops refusal n.refused.1;
             caused = by_cause refusal (cause_still s y x b.keeps worn r held.node got.failed turns refusal n.refused.1);
           }

@@ -1,6 +1,7 @@
 pub mod ValuesSeen
 pub mod Runs
 pub mod Matched
+pub mod Sights
 pub mod Sound
 pub mod Queues
 pub mod Pushes

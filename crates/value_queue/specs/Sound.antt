@@ -7,7 +7,7 @@ use Rattle.std.proofs.lemmas.List.{take-append-drop}
 use Rattle.std.proofs.lemmas.List.Elements.{All-weaker}
 use Rattle.history.specs.declared.operations.Entry.{Entry}
 use Rattle.history.specs.Entries.{Leads, LeadsToShut}
-use Rattle.history.specs.Seats.{IsNoted, IsSound}
+use Rattle.history.specs.Seats.{Permit, IsNoted, IsSound}
 use Rattle.carriers.specs.declared.items.ItemOf.{ItemOf}
 use Rattle.carriers.specs.Deeds.{Deed, own_deeds, RunsTo, RunsToShut, IsRun}
 use Rattle.carriers.specs.Knowledge.{IsNotedOf, IsSoundOf}
@@ -21,6 +21,7 @@ use Rattle.node_arena.proofs.OneProof.{IsReady-prop}
 use Rattle.node_arena.proofs.Seens.{sound_of}
 use Rattle.value_queue.specs.ValuesSeen.{left_by, shut_by, seen_by, known_by}
 use Rattle.value_queue.specs.Runs.{CanRun, CanRun-prop, Runs-told, CanRun-Runs, Matches-told}
+use Rattle.value_queue.specs.Sights.{Sight, values_seen, values_known, IsClear}
 use Rattle.value_queue.specs.Matched.{Matches-prop, Matches-take, length-Matches, length-own, permitted-Matches, left-Matches}
 
 -- what has no length is empty
@@ -52,7 +53,33 @@ module _ {A : Type 0} (es : List Entry) (ds : List (Deed A)) (m : Matches es ds)
   noted-Matches n (inl a) = inl (subst (λ k. n ≤ k) (sym (length-Matches es ds m)) a.0, RunsTo-Matches (take n es) (take n ds) (Matches-take n es ds m) false (run-take n) a.1)
   noted-Matches n (inr b) = inr (subst (λ k. n ≤ k) (sym (length-Matches es ds m)) b.0, RunsToShut-Matches (take n es) (take n ds) (Matches-take n es ds m) (run-take n) b.1)
 
+module _ {T : Type 0} (s : Sight T) (is : IsClear s) where
+  -- what a seat has seen of values is a run
+  pub seen_runs : IsRun (values_seen s)
+  seen_runs = (left_by [] s.deeds, shut_by false s.deeds, Runs-told [] false s.deeds is.can)
+
+  -- it has as many deeds of its own as entries
+  pub length-mine : length (own_deeds s.known.number (values_seen s)) ≡ length s.known.mine
+  length-mine = length-own s.known.number s.known.seen (values_seen s) is.matches ∙ ap length is.own
+
+  -- what it knows of values is sound where what it knows of numbers is
+  pub sound-values : (permits : List Permit) → IsSound permits s.known → IsSoundOf permits (values_known s)
+  sound-values permits sound =
+      record {
+        run = seen_runs;
+        permitted = permitted-Matches permits s.known.seen (values_seen s) is.matches sound.permitted;
+        own = refl;
+        noted = All-weaker (IsNoted s.known.seen) (IsNotedOf (values_seen s)) (noted-Matches s.known.seen (values_seen s) is.matches seen_runs) s.known.notes sound.noted;
+      }
+
+-- what a seat of an arena shows
+abbrev pub sight : {T : Type 0} → Seat T → Sight T
+sight s = record { known = known_of s; deeds = deeds_of s }
+
 module _ {T : Type 0} (r : Arena) (carries : carries_of r ≡ true) (s : Seat T) (is : IsSeat r s) where
+  its_sound : IsSound (permits_of r) (known_of s)
+  its_sound = sound_of r.plan (view s) is.sits.fitted
+
   facts : CanRun [] false (deeds_of s) × Matches (view s).seen (seen_by s)
   facts =
       ∥∥₁_elim is.sits.valued (×_prop (CanRun-prop [] false (deeds_of s)) (Matches-prop (view s).seen (seen_by s)))
@@ -61,30 +88,13 @@ module _ {T : Type 0} (r : Arena) (carries : carries_of r ≡ true) (s : Seat T)
         Matches-told [] false (view s).seen (deeds_of s) known.values known.shut known.runs known.matches,
       ))
 
-  -- what it has seen of values goes one by one with the entries that it has seen
-  pub seen_matches : Matches (view s).seen (seen_by s)
-  seen_matches = facts.1
-
-  -- and is a run
-  pub seen_runs : IsRun (seen_by s)
-  seen_runs = (left_by [] (deeds_of s), shut_by false (deeds_of s), Runs-told [] false (deeds_of s) facts.0)
-
-  its_sound : IsSound (permits_of r) (known_of s)
-  its_sound = sound_of r.plan (view s) is.sits.fitted
-
-  -- it has as many deeds of its own as entries
-  pub length-mine : length (own_deeds (view s).number (seen_by s)) ≡ length (view s).mine
-  length-mine = length-own (view s).number (view s).seen (seen_by s) seen_matches ∙ ap length its_sound.own
+  -- what it has seen of values goes with the entries that it has seen
+  pub clear : IsClear (sight s)
+  clear = record { can = facts.0; matches = facts.1; own = its_sound.own }
 
   -- what it knows of values is sound
   pub sound-seat : IsSoundOf (permits_of r) (known_by s)
-  sound-seat =
-      record {
-        run = seen_runs;
-        permitted = permitted-Matches (permits_of r) (view s).seen (seen_by s) seen_matches its_sound.permitted;
-        own = refl;
-        noted = All-weaker (IsNoted (view s).seen) (IsNotedOf (seen_by s)) (noted-Matches (view s).seen (seen_by s) seen_matches seen_runs) (view s).notes its_sound.noted;
-      }
+  sound-seat = sound-values (sight s) clear (permits_of r) its_sound
 
 -- that a seat is a queue's has at most one proof
 pub IsQueueSeat-prop : {T : Type 0} (r : Arena) (s : Seat T) → IsProp (IsReady r s × HasNoSlot s)

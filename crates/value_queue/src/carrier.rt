@@ -50,6 +50,8 @@ impl<T: Send, A: Algorithm<B>, const B: u32> Carrier for QueueOf<T, A, B> {
 
     ghost sound = { λ q s h. sound-seat (arena_of q) q.carries s h.0.seat };
 
+    ghost closed_alike = { λ _ _ _ _ cause. cause };
+
     ghost seat_prop = { λ q s. IsQueueSeat-prop (arena_of q) s };
 
     /// Refusals: those of a push of a number, with their causes; and `Busy` also where turns failed at slots that others

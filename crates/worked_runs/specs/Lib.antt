@@ -2,3 +2,4 @@ pub mod Seen
 pub mod TwoLockRuns
 pub mod NonBlockingRuns
 pub mod Verdicts
+pub mod Steps

@@ -9,7 +9,7 @@ use Rattle.history.specs.declared.operations.Reply.TheVariants.{Done, Value, Emp
 use Rattle.history.specs.declared.refusals.Refusal.TheVariants.{NoNode, WornOut, Busy}
 use Rattle.history.specs.declared.refusals.WornWord.TheVariants.{Free as OfFree, Next as OfNext, Tail as OfTail}
 use Rattle.line_steps.specs.Memory.{Fresh, Free, Head, Tail, Next}
-use Rattle.worked_runs.specs.Seen.{Run, begin, many, give, holds, names, stands, keeps, left}
+use Rattle.worked_runs.specs.Seen.{Run, call, many, give, holds, names, stands, keeps, left}
 
 -- nothing happened yet
 abbrev pub no_moves : Run
@@ -20,20 +20,15 @@ no_moves =
       limit = 100;
       actors = 2;
       moves = [];
-      history =
-          [];
+      history = [];
       facts = [];
     }
 
 -- a push onto the empty queue
 abbrev pub push : Run
 push =
-    record {
-      kind = NonBlocking;
-      size = 3;
-      limit = 100;
-      actors = 2;
-      moves = begin 1 (Enq 5) ++ many 1 10;
+    record no_moves {
+      moves = call 1 (Enq 5) 10;
       history =
           record { actor = 1; op = Enq 5; first = 1; last = Some 10; at = Some 9; reply = Some Done } ∷
           [];
@@ -47,12 +42,8 @@ lines_of_push = N1 ∷ N2 ∷ N5 ∷ E2 ∷ E3 ∷ E5 ∷ E6 ∷ E7 ∷ E9 ∷ E
 -- a push, then a pop, which frees the dummy
 abbrev pub push_and_pop : Run
 push_and_pop =
-    record {
-      kind = NonBlocking;
-      size = 3;
-      limit = 100;
-      actors = 2;
-      moves = begin 1 (Enq 5) ++ many 1 10 ++ begin 2 Deq ++ many 2 9;
+    record no_moves {
+      moves = call 1 (Enq 5) 10 ++ call 2 Deq 9;
       history =
           record { actor = 1; op = Enq 5; first = 1; last = Some 10; at = Some 9; reply = Some Done } ∷
           record { actor = 2; op = Deq; first = 11; last = Some 19; at = Some 16; reply = Some (Value (record { from = 1; body = 5 })) } ∷
@@ -67,12 +58,8 @@ lines_of_push_and_pop = N1 ∷ N2 ∷ N5 ∷ E2 ∷ E3 ∷ E5 ∷ E6 ∷ E7 ∷ 
 -- a node was taken again, and its next cleared: the count stays
 abbrev pub reuse_cleared : Run
 reuse_cleared =
-    record {
-      kind = NonBlocking;
-      size = 3;
-      limit = 100;
-      actors = 2;
-      moves = begin 1 (Enq 5) ++ many 1 10 ++ begin 2 Deq ++ many 2 9 ++ begin 1 (Enq 6) ++ many 1 6;
+    record no_moves {
+      moves = call 1 (Enq 5) 10 ++ call 2 Deq 9 ++ call 1 (Enq 6) 6;
       history =
           record { actor = 1; op = Enq 5; first = 1; last = Some 10; at = Some 9; reply = Some Done } ∷
           record { actor = 2; op = Deq; first = 11; last = Some 19; at = Some 16; reply = Some (Value (record { from = 1; body = 5 })) } ∷
@@ -84,12 +71,8 @@ reuse_cleared =
 -- a push that uses a freed node again
 abbrev pub reuse : Run
 reuse =
-    record {
-      kind = NonBlocking;
-      size = 3;
-      limit = 100;
-      actors = 2;
-      moves = begin 1 (Enq 5) ++ many 1 10 ++ begin 2 Deq ++ many 2 9 ++ begin 1 (Enq 6) ++ many 1 11;
+    record no_moves {
+      moves = call 1 (Enq 5) 10 ++ call 2 Deq 9 ++ call 1 (Enq 6) 11;
       history =
           record { actor = 1; op = Enq 5; first = 1; last = Some 10; at = Some 9; reply = Some Done } ∷
           record { actor = 2; op = Deq; first = 11; last = Some 19; at = Some 16; reply = Some (Value (record { from = 1; body = 5 })) } ∷
@@ -105,27 +88,18 @@ lines_of_reuse = N1 ∷ N2 ∷ N5 ∷ E2 ∷ E3 ∷ E5 ∷ E6 ∷ E7 ∷ E9 ∷ 
 -- a pop of the empty queue, placed where it read null
 abbrev pub empty_queue : Run
 empty_queue =
-    record {
-      kind = NonBlocking;
-      size = 3;
-      limit = 100;
-      actors = 2;
-      moves = begin 1 Deq ++ many 1 4;
+    record no_moves {
+      moves = call 1 Deq 4;
       history =
           record { actor = 1; op = Deq; first = 1; last = Some 4; at = Some 3; reply = Some Empty } ∷
           [];
-      facts = [];
     }
 
 -- an actor stopped before its E9, while its tail was freed
 abbrev pub reused_node_before : Run
 reused_node_before =
-    record {
-      kind = NonBlocking;
-      size = 3;
-      limit = 100;
-      actors = 2;
-      moves = begin 1 (Enq 7) ++ many 1 8 ++ begin 2 (Enq 8) ++ many 2 10 ++ begin 2 Deq ++ many 2 9;
+    record no_moves {
+      moves = call 1 (Enq 7) 8 ++ call 2 (Enq 8) 10 ++ call 2 Deq 9;
       history =
           record { actor = 1; op = Enq 7; first = 1; last = None; at = None; reply = None } ∷
           record { actor = 2; op = Enq 8; first = 9; last = Some 18; at = Some 17; reply = Some Done } ∷
@@ -137,12 +111,8 @@ reused_node_before =
 -- the stale E9 fails by the count alone
 abbrev pub reused_node_lost : Run
 reused_node_lost =
-    record {
-      kind = NonBlocking;
-      size = 3;
-      limit = 100;
-      actors = 2;
-      moves = begin 1 (Enq 7) ++ many 1 8 ++ begin 2 (Enq 8) ++ many 2 10 ++ begin 2 Deq ++ many 2 9 ++ many 1 1;
+    record no_moves {
+      moves = call 1 (Enq 7) 8 ++ call 2 (Enq 8) 10 ++ call 2 Deq 9 ++ many 1 1;
       history =
           record { actor = 1; op = Enq 7; first = 1; last = None; at = None; reply = None } ∷
           record { actor = 2; op = Enq 8; first = 9; last = Some 18; at = Some 17; reply = Some Done } ∷
@@ -154,12 +124,8 @@ reused_node_lost =
 -- after a stale E9 the push starts again and ends
 abbrev pub reused_node : Run
 reused_node =
-    record {
-      kind = NonBlocking;
-      size = 3;
-      limit = 100;
-      actors = 2;
-      moves = begin 1 (Enq 7) ++ many 1 8 ++ begin 2 (Enq 8) ++ many 2 10 ++ begin 2 Deq ++ many 2 9 ++ many 1 1 ++ many 1 5;
+    record no_moves {
+      moves = call 1 (Enq 7) 8 ++ call 2 (Enq 8) 10 ++ call 2 Deq 9 ++ many 1 1 ++ many 1 5;
       history =
           record { actor = 1; op = Enq 7; first = 1; last = Some 33; at = Some 32; reply = Some Done } ∷
           record { actor = 2; op = Enq 8; first = 9; last = Some 18; at = Some 17; reply = Some Done } ∷
@@ -171,12 +137,8 @@ reused_node =
 -- a D13 that slept while its dummy was used again is lost by the count alone
 abbrev pub stale_head : Run
 stale_head =
-    record {
-      kind = NonBlocking;
-      size = 3;
-      limit = 100;
-      actors = 2;
-      moves = begin 1 (Enq 5) ++ many 1 10 ++ begin 2 Deq ++ many 2 5 ++ begin 1 Deq ++ many 1 9 ++ begin 1 (Enq 6) ++ many 1 11 ++ begin 1 Deq ++ many 1 9 ++ many 2 1 ++ many 2 4;
+    record no_moves {
+      moves = call 1 (Enq 5) 10 ++ call 2 Deq 5 ++ call 1 Deq 9 ++ call 1 (Enq 6) 11 ++ call 1 Deq 9 ++ many 2 1 ++ many 2 4;
       history =
           record { actor = 1; op = Enq 5; first = 1; last = Some 10; at = Some 9; reply = Some Done } ∷
           record { actor = 2; op = Deq; first = 11; last = Some 49; at = Some 48; reply = Some Empty } ∷
@@ -184,23 +146,17 @@ stale_head =
           record { actor = 1; op = Enq 6; first = 25; last = Some 35; at = Some 34; reply = Some Done } ∷
           record { actor = 1; op = Deq; first = 36; last = Some 44; at = Some 41; reply = Some (Value (record { from = 1; body = 6 })) } ∷
           [];
-      facts = [];
     }
 
 -- a pop swings the tail that an unfinished push left behind, and takes its value
 abbrev pub swung_by_a_pop : Run
 swung_by_a_pop =
-    record {
-      kind = NonBlocking;
-      size = 3;
-      limit = 100;
-      actors = 2;
-      moves = begin 1 (Enq 5) ++ many 1 9 ++ begin 2 Deq ++ many 2 14;
+    record no_moves {
+      moves = call 1 (Enq 5) 9 ++ call 2 Deq 14;
       history =
           record { actor = 1; op = Enq 5; first = 1; last = None; at = Some 9; reply = None } ∷
           record { actor = 2; op = Deq; first = 10; last = Some 23; at = Some 20; reply = Some (Value (record { from = 1; body = 5 })) } ∷
           [];
-      facts = [];
     }
 
 -- the lines that it goes through
@@ -210,79 +166,61 @@ lines_of_swung_by_a_pop = N1 ∷ N2 ∷ N5 ∷ E2 ∷ E3 ∷ E5 ∷ E6 ∷ E7 �
 -- the late swing of the tail is lost, and the push is done
 abbrev pub lagging_tail : Run
 lagging_tail =
-    record {
-      kind = NonBlocking;
-      size = 3;
-      limit = 100;
-      actors = 2;
-      moves = begin 1 (Enq 5) ++ many 1 9 ++ begin 2 Deq ++ many 2 14 ++ many 1 1;
+    record no_moves {
+      moves = call 1 (Enq 5) 9 ++ call 2 Deq 14 ++ many 1 1;
       history =
           record { actor = 1; op = Enq 5; first = 1; last = Some 24; at = Some 9; reply = Some Done } ∷
           record { actor = 2; op = Deq; first = 10; last = Some 23; at = Some 20; reply = Some (Value (record { from = 1; body = 5 })) } ∷
           [];
-      facts = [];
     }
 
 -- an empty reply is placed where null was read, before a push that ended earlier
 abbrev pub old_empty : Run
 old_empty =
-    record {
-      kind = NonBlocking;
-      size = 3;
-      limit = 100;
-      actors = 2;
-      moves = begin 1 Deq ++ many 1 3 ++ begin 2 (Enq 9) ++ many 2 10 ++ many 1 1;
+    record no_moves {
+      moves = call 1 Deq 3 ++ call 2 (Enq 9) 10 ++ many 1 1;
       history =
           record { actor = 1; op = Deq; first = 1; last = Some 14; at = Some 3; reply = Some Empty } ∷
           record { actor = 2; op = Enq 9; first = 4; last = Some 13; at = Some 12; reply = Some Done } ∷
           [];
-      facts = [];
     }
 
 -- a push is refused while no node is left, and is done after a pop
 abbrev pub no_node : Run
 no_node =
-    record {
-      kind = NonBlocking;
+    record no_moves {
       size = 2;
-      limit = 100;
       actors = 1;
-      moves = begin 1 (Enq 1) ++ many 1 10 ++ begin 1 (Enq 2) ++ many 1 2 ++ begin 1 Deq ++ many 1 9 ++ begin 1 (Enq 2) ++ many 1 11;
+      moves = call 1 (Enq 1) 10 ++ call 1 (Enq 2) 2 ++ call 1 Deq 9 ++ call 1 (Enq 2) 11;
       history =
           record { actor = 1; op = Enq 1; first = 1; last = Some 10; at = Some 9; reply = Some Done } ∷
           record { actor = 1; op = Enq 2; first = 11; last = Some 12; at = Some 12; reply = Some (Refused NoNode) } ∷
           record { actor = 1; op = Deq; first = 13; last = Some 21; at = Some 18; reply = Some (Value (record { from = 1; body = 1 })) } ∷
           record { actor = 1; op = Enq 2; first = 22; last = Some 32; at = Some 31; reply = Some Done } ∷
           [];
-      facts = [];
     }
 
 -- the free list is worn out
 abbrev pub worn_free : Run
 worn_free =
-    record {
-      kind = NonBlocking;
-      size = 3;
+    record no_moves {
       limit = 1;
       actors = 1;
-      moves = begin 1 (Enq 1) ++ many 1 10 ++ begin 1 Deq ++ many 1 9 ++ begin 1 (Enq 2) ++ many 1 2;
+      moves = call 1 (Enq 1) 10 ++ call 1 Deq 9 ++ call 1 (Enq 2) 2;
       history =
           record { actor = 1; op = Enq 1; first = 1; last = Some 10; at = Some 9; reply = Some Done } ∷
           record { actor = 1; op = Deq; first = 11; last = Some 19; at = Some 16; reply = Some (Value (record { from = 1; body = 1 })) } ∷
           record { actor = 1; op = Enq 2; first = 20; last = Some 21; at = Some 21; reply = Some (Refused (WornOut OfFree)) } ∷
           [];
-      facts = [];
     }
 
 -- a push that links behind a worn tail skips the swing
 abbrev pub swing_skipped : Run
 swing_skipped =
-    record {
-      kind = NonBlocking;
-      size = 3;
+    record no_moves {
       limit = 1;
       actors = 1;
-      moves = begin 1 (Enq 1) ++ many 1 10 ++ begin 1 (Enq 2) ++ many 1 9;
+      moves = call 1 (Enq 1) 10 ++ call 1 (Enq 2) 9;
       history =
           record { actor = 1; op = Enq 1; first = 1; last = Some 10; at = Some 9; reply = Some Done } ∷
           record { actor = 1; op = Enq 2; first = 11; last = Some 19; at = Some 19; reply = Some Done } ∷
@@ -293,12 +231,11 @@ swing_skipped =
 -- with a worn tail that lags, a push is refused and keeps its node in the pocket
 abbrev pub worn_tail : Run
 worn_tail =
-    record {
-      kind = NonBlocking;
+    record no_moves {
       size = 4;
       limit = 1;
       actors = 1;
-      moves = begin 1 (Enq 1) ++ many 1 10 ++ begin 1 (Enq 2) ++ many 1 9 ++ begin 1 (Enq 3) ++ many 1 8;
+      moves = call 1 (Enq 1) 10 ++ call 1 (Enq 2) 9 ++ call 1 (Enq 3) 8;
       history =
           record { actor = 1; op = Enq 1; first = 1; last = Some 10; at = Some 9; reply = Some Done } ∷
           record { actor = 1; op = Enq 2; first = 11; last = Some 19; at = Some 19; reply = Some Done } ∷
@@ -310,12 +247,10 @@ worn_tail =
 -- giving up where the node is freed answers the value taken and pockets the node
 abbrev pub value_kept : Run
 value_kept =
-    record {
-      kind = NonBlocking;
-      size = 3;
+    record no_moves {
       limit = 1;
       actors = 1;
-      moves = begin 1 (Enq 1) ++ many 1 10 ++ begin 1 Deq ++ many 1 6 ++ give 1;
+      moves = call 1 (Enq 1) 10 ++ call 1 Deq 6 ++ give 1;
       history =
           record { actor = 1; op = Enq 1; first = 1; last = Some 10; at = Some 9; reply = Some Done } ∷
           record { actor = 1; op = Deq; first = 11; last = Some 17; at = Some 16; reply = Some (Value (record { from = 1; body = 1 })) } ∷
@@ -326,12 +261,10 @@ value_kept =
 -- a node whose next is worn is set aside
 abbrev pub worn_next : Run
 worn_next =
-    record {
-      kind = NonBlocking;
-      size = 3;
+    record no_moves {
       limit = 1;
       actors = 1;
-      moves = begin 1 (Enq 1) ++ many 1 10 ++ begin 1 Deq ++ many 1 6 ++ give 1 ++ begin 1 (Enq 2) ++ many 1 2;
+      moves = call 1 (Enq 1) 10 ++ call 1 Deq 6 ++ give 1 ++ call 1 (Enq 2) 2;
       history =
           record { actor = 1; op = Enq 1; first = 1; last = Some 10; at = Some 9; reply = Some Done } ∷
           record { actor = 1; op = Deq; first = 11; last = Some 17; at = Some 16; reply = Some (Value (record { from = 1; body = 1 })) } ∷
@@ -343,12 +276,8 @@ worn_next =
 -- a push gives up, and the next pop frees its node first
 abbrev pub push_given_up : Run
 push_given_up =
-    record {
-      kind = NonBlocking;
-      size = 3;
-      limit = 100;
-      actors = 2;
-      moves = begin 1 (Enq 7) ++ many 1 8 ++ begin 2 (Enq 8) ++ many 2 10 ++ many 1 1 ++ give 1 ++ begin 1 Deq ++ many 1 12;
+    record no_moves {
+      moves = call 1 (Enq 7) 8 ++ call 2 (Enq 8) 10 ++ many 1 1 ++ give 1 ++ call 1 Deq 12;
       history =
           record { actor = 1; op = Enq 7; first = 1; last = Some 20; at = Some 20; reply = Some (Refused Busy) } ∷
           record { actor = 2; op = Enq 8; first = 9; last = Some 18; at = Some 17; reply = Some Done } ∷
@@ -360,12 +289,8 @@ push_given_up =
 -- a push meets a lagging tail and takes fifteen steps
 abbrev pub longest_push : Run
 longest_push =
-    record {
-      kind = NonBlocking;
-      size = 3;
-      limit = 100;
-      actors = 2;
-      moves = begin 1 (Enq 5) ++ many 1 3 ++ begin 2 (Enq 6) ++ many 2 10 ++ begin 2 Deq ++ many 2 9 ++ many 1 6 ++ begin 2 (Enq 8) ++ many 2 15;
+    record no_moves {
+      moves = call 1 (Enq 5) 3 ++ call 2 (Enq 6) 10 ++ call 2 Deq 9 ++ many 1 6 ++ call 2 (Enq 8) 15;
       history =
           record { actor = 1; op = Enq 5; first = 1; last = None; at = Some 28; reply = None } ∷
           record { actor = 2; op = Enq 6; first = 4; last = Some 13; at = Some 12; reply = Some Done } ∷
@@ -378,12 +303,8 @@ longest_push =
 -- a pop frees its pocket first, meets a lagging tail and takes seventeen steps
 abbrev pub longest_pop : Run
 longest_pop =
-    record {
-      kind = NonBlocking;
-      size = 3;
-      limit = 100;
-      actors = 2;
-      moves = begin 2 (Enq 7) ++ many 2 8 ++ begin 1 (Enq 8) ++ many 1 9 ++ many 2 1 ++ give 2 ++ begin 2 Deq ++ many 2 17;
+    record no_moves {
+      moves = call 2 (Enq 7) 8 ++ call 1 (Enq 8) 9 ++ many 2 1 ++ give 2 ++ call 2 Deq 17;
       history =
           record { actor = 2; op = Enq 7; first = 1; last = Some 19; at = Some 19; reply = Some (Refused Busy) } ∷
           record { actor = 1; op = Enq 8; first = 9; last = None; at = Some 17; reply = None } ∷
@@ -395,12 +316,10 @@ longest_pop =
 -- with a worn tail that lags a pop is refused too
 abbrev pub worn_counts : Run
 worn_counts =
-    record {
-      kind = NonBlocking;
-      size = 3;
+    record no_moves {
       limit = 2;
       actors = 1;
-      moves = begin 1 (Enq 1) ++ many 1 10 ++ begin 1 Deq ++ many 1 9 ++ begin 1 (Enq 2) ++ many 1 11 ++ begin 1 Deq ++ many 1 7 ++ begin 1 (Enq 3) ++ many 1 9 ++ begin 1 Deq ++ many 1 4;
+      moves = call 1 (Enq 1) 10 ++ call 1 Deq 9 ++ call 1 (Enq 2) 11 ++ call 1 Deq 7 ++ call 1 (Enq 3) 9 ++ call 1 Deq 4;
       history =
           record { actor = 1; op = Enq 1; first = 1; last = Some 10; at = Some 9; reply = Some Done } ∷
           record { actor = 1; op = Deq; first = 11; last = Some 19; at = Some 16; reply = Some (Value (record { from = 1; body = 1 })) } ∷
@@ -409,5 +328,4 @@ worn_counts =
           record { actor = 1; op = Enq 3; first = 38; last = Some 46; at = Some 46; reply = Some Done } ∷
           record { actor = 1; op = Deq; first = 47; last = Some 50; at = Some 50; reply = Some (Refused (WornOut OfTail)) } ∷
           [];
-      facts = [];
     }

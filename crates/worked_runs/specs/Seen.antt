@@ -29,6 +29,10 @@ give me = Give me ∷ []
 abbrev pub many : ℕ → ℕ → List Move
 many me times = replicate times (Step me)
 
+-- one begin of a call and some of its steps, as a list of moves
+abbrev pub call : ℕ → Op → ℕ → List Move
+call me op times = begin me op ++ many me times
+
 -- a fact about a world: a word holds a number, or a reference, an actor stands before a line, an actor keeps a node in its pocket,
 -- a node was set aside
 pub data Fact : Type 0 where

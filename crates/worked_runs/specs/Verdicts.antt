@@ -11,13 +11,13 @@ late_empty =
     record { actor = 1; op = Deq; first = 1; last = Some 14; at = Some 14; reply = Some Empty } ∷
     record { actor = 2; op = Enq 9; first = 4; last = Some 13; at = Some 12; reply = Some Done } ∷ []
 
--- two operations at one place
-abbrev pub shared_place : List Stamped
-shared_place =
+-- two operations at one point
+abbrev pub shared_point : List Stamped
+shared_point =
     record { actor = 1; op = Enq 1; first = 1; last = Some 4; at = Some 3; reply = Some Done } ∷
     record { actor = 2; op = Enq 2; first = 2; last = Some 5; at = Some 3; reply = Some Done } ∷ []
 
--- a place after the last step
+-- a point after the last step
 abbrev pub outside_span : List Stamped
 outside_span = record { actor = 1; op = Enq 1; first = 1; last = Some 4; at = Some 5; reply = Some Done } ∷ []
 
@@ -35,13 +35,13 @@ no_reply = record { actor = 1; op = Deq; first = 1; last = Some 4; at = Some 3; 
 abbrev pub no_last : List Stamped
 no_last = record { actor = 1; op = Deq; first = 1; last = None; at = Some 3; reply = Some Empty } ∷ []
 
--- complete and without a place
-abbrev pub no_place : List Stamped
-no_place = record { actor = 1; op = Enq 1; first = 1; last = Some 4; at = None; reply = Some Done } ∷ []
+-- complete and without a point
+abbrev pub no_point : List Stamped
+no_point = record { actor = 1; op = Enq 1; first = 1; last = Some 4; at = None; reply = Some Done } ∷ []
 
--- a place before the first step
-abbrev pub early_place : List Stamped
-early_place = record { actor = 1; op = Enq 1; first = 5; last = None; at = Some 3; reply = None } ∷ []
+-- a point before the first step
+abbrev pub early_point : List Stamped
+early_point = record { actor = 1; op = Enq 1; first = 5; last = None; at = Some 3; reply = None } ∷ []
 
 -- unfinished and without effect
 abbrev pub unfinished : List Stamped

@@ -4,7 +4,7 @@ use super::queues::AMPLE;
 use super::threads::MOST;
 use super::values::Value;
 use arena_queue::{Algorithm, ArenaQueue};
-use draining::FifoExt;
+use carriers::FifoExt;
 use history::{Body, Fifo, Refusal, Taken, WornWord};
 use mock_queues::{Listed, Planned};
 use node_arena::{Role, Seat};

@@ -7,14 +7,14 @@ use carriers::{Carrier, Numbers};
 use history::Refusal::Closed;
 use node_arena::{Emptiness, Role};
 use nonblocking::MsQueue;
-use ring_queue::{RingEmptiness, RingQueue};
+use ring_queue::RingQueue;
 use ring_values::RingValues;
 use std::process::Abort;
 use std::test::Fail;
 use two_lock::TwoLockQueue;
 
 /// Whether a queue is empty, and both bounds of its length, where it tells them.
-type Seen = (RingEmptiness, Option<(u64, u64)>);
+type Seen = (Emptiness, Option<(u64, u64)>);
 
 /// A queue that is looked at.
 trait Looked: Made {
@@ -22,26 +22,16 @@ trait Looked: Made {
     fn look(&self, seat: &mut Self::Seat) -> Seen;
 }
 
-// What `emptiness` of an `ArenaQueue` tells, as that of a ring does.
-fn as_ring(found: Emptiness) -> RingEmptiness {
-    match found {
-        Emptiness::Empty => RingEmptiness::Empty,
-        Emptiness::Holds => RingEmptiness::Holds,
-        Emptiness::ShutEmpty => RingEmptiness::ShutEmpty,
-        Emptiness::Moved => RingEmptiness::Moved,
-    }
-}
-
 impl Looked for Numbers<TwoLockQueue> {
-    // It doesn't tell how long it is.
+    // It is an `ArenaQueue` that doesn't tell how long it is.
     fn look(&self, seat: &mut Self::Seat) -> Seen {
-        (as_ring(self.queue().emptiness(seat)), None)
+        (self.queue().emptiness(seat), None)
     }
 }
 
 impl Looked for Numbers<MsQueue> {
     fn look(&self, seat: &mut Self::Seat) -> Seen {
-        let found = as_ring(self.queue().emptiness(seat));
+        let found = self.queue().emptiness(seat);
         let len = self.queue().len(seat);
         (found, Some((len.least, len.most)))
     }
@@ -69,7 +59,7 @@ fn is_seen<C: Looked, R: AllocGlobal + Abort>(
     queue: &C,
     seats: &mut [C::Seat],
     call: (usize, Told),
-    (found, length): (RingEmptiness, u64),
+    (found, length): (Emptiness, u64),
 ) -> Result<(), Fail> {
     go(rt, queue, seats, &[call])?;
     for seat in seats {
@@ -81,11 +71,7 @@ fn is_seen<C: Looked, R: AllocGlobal + Abort>(
 }
 
 fn tells<C: Looked, R: AllocGlobal + Abort>(rt: &R) -> Result<(), Fail> {
-    let (none, some, end) = (
-        RingEmptiness::Empty,
-        RingEmptiness::Holds,
-        RingEmptiness::ShutEmpty,
-    );
+    let (none, some, end) = (Emptiness::Empty, Emptiness::Holds, Emptiness::ShutEmpty);
     let (queue, mut seats) = C::made(rt.alloc(), 8, AMPLE, &[Role::Both; 2])?;
     let seats = &mut seats[..];
     is_seen(rt, &queue, seats, (2, Empty), (none, 0))?;
@@ -121,7 +107,7 @@ fn a_look_tells_what_is_there(rt: HostRuntime) -> Result<(), Fail> {
 #[test]
 fn a_look_goes_on_behind_tail(rt: HostRuntime) -> Result<(), Fail> {
     let (queue, mut seats) = Numbers::<MsQueue>::made(rt.alloc(), 3, 1, &[Role::Both])?;
-    let some = RingEmptiness::Holds;
+    let some = Emptiness::Holds;
     is_seen(&rt, &queue, &mut seats, (1, Push(1)), (some, 1))?;
     is_seen(&rt, &queue, &mut seats, (1, Push(2)), (some, 2))?;
     is_seen(&rt, &queue, &mut seats, (1, Pop(1, 1)), (some, 1))

@@ -1,7 +1,6 @@
 //! Many tasks through a pool that is fed: each result is told once, and is its own task's.
-use fed_pool::{Feed, run_feed};
 use std::test::Fail;
-use tasks::{Done, Task};
+use tasks::{Done, Feed, Task, run_feed};
 
 /// The runs: tasks, workers, for how many tasks there is room.
 const RUNS: [(u64, usize, u32); 4] = [

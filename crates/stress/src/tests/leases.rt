@@ -2,11 +2,11 @@
 use super::threads::rounds;
 use crate::tallies::Tally;
 use crate::works::Work;
-use any_queue::PickedQueue;
 use carriers::Numbers;
 use history::Close;
 use line_table::Kind;
 use node_arena::Role;
+use picked::PickedQueue;
 use seat_pool::{Part, SeatPool};
 use std::alloc::Global;
 use std::sync::Wait;

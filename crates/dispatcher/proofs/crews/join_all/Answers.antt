@@ -13,13 +13,13 @@ loop-one-init g c =
     let room = c.requires.room in (
       [],
       gives,
-      subst (AllZip (Returned g.Q.Fifo.is_seat g.Q.Fifo.known (queue_of c.args.queue.now) c.args.jobs.now) []) (sym c.requires.none) tt,
+      subst (AllZip (Returned {X = g.row.X.Denot} g.Q.Fifo.is_seat g.Q.Fifo.known g.Q.Fifo.pop_cause (queue_of c.args.queue.now) c.args.jobs.now g.X.Excuse.cause g.G.Gate.done c.args.gate.now) []) (sym c.requires.none) tt,
       omega (arith, few, none, room),
     )
 
 pub loop-one-preserved : goal.loop-one-preserved
 loop-one-preserved g c =
-    let Returns = Returned g.Q.Fifo.is_seat g.Q.Fifo.known (queue_of c.args.queue.now) c.args.jobs.now in
+    let Returns = Returned {X = g.row.X.Denot} g.Q.Fifo.is_seat g.Q.Fifo.known g.Q.Fifo.pop_cause (queue_of c.args.queue.now) c.args.jobs.now g.X.Excuse.cause g.G.Gate.done c.args.gate.now in
     let was = c.loop-one.invariant in
     let split = c.in-Some.ensures.steps.0 in
     let one = c.in-Some.one in

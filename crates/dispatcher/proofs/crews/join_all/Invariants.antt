@@ -9,5 +9,5 @@ invariant-loop-one g l =
     let rest = l.one-iterator.rest.items in
     (done : List _)
     × (done ++ rest ≡ l.fn.started.items)
-    × AllZip (Returned g.Q.Fifo.is_seat g.Q.Fifo.known (queue_of l.fn.queue) l.fn.jobs) done l.workers.items
+    × AllZip (Returned g.Q.Fifo.is_seat g.Q.Fifo.known g.Q.Fifo.pop_cause (queue_of l.fn.queue) l.fn.jobs g.X.Excuse.cause g.G.Gate.done l.fn.gate) done l.workers.items
     × (vec_len l.workers + length rest ≤ vec_capacity l.workers)

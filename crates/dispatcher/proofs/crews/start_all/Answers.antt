@@ -13,13 +13,13 @@ loop-seat-init g c =
     let room = c.requires.room in (
       [],
       gives,
-      subst (AllZip (IsStartedFor g.Q.Fifo.is_seat g.Q.Fifo.known (queue_of c.args.queue.now) c.args.jobs.now) []) (sym c.requires.none) tt,
+      subst (AllZip (IsStartedFor g.Q.Fifo.is_seat g.Q.Fifo.known g.Q.Fifo.pop_cause (queue_of c.args.queue.now) c.args.jobs.now g.X.Excuse.cause g.G.Gate.done c.args.gate.now) []) (sym c.requires.none) tt,
       omega (arith, few, none, room),
     )
 
 pub loop-seat-preserved : goal.loop-seat-preserved
 loop-seat-preserved g c =
-    let Starts = IsStartedFor g.Q.Fifo.is_seat g.Q.Fifo.known (queue_of c.args.queue.now) c.args.jobs.now in
+    let Starts = IsStartedFor g.Q.Fifo.is_seat g.Q.Fifo.known g.Q.Fifo.pop_cause (queue_of c.args.queue.now) c.args.jobs.now g.X.Excuse.cause g.G.Gate.done c.args.gate.now in
     let was = c.loop-seat.invariant in
     let split = c.in-Some.ensures.steps.0 in
     let seat = c.in-Some.seat in

@@ -9,5 +9,5 @@ invariant-loop-seat g l =
     let rest = l.seat-iterator.rest.items in
     (done : List _)
     × (done ++ rest ≡ l.fn.takers.items)
-    × AllZip (IsStartedFor g.Q.Fifo.is_seat g.Q.Fifo.known (queue_of l.fn.queue) l.fn.jobs) done l.started.items
+    × AllZip (IsStartedFor g.Q.Fifo.is_seat g.Q.Fifo.known g.Q.Fifo.pop_cause (queue_of l.fn.queue) l.fn.jobs g.X.Excuse.cause g.G.Gate.done l.fn.gate) done l.started.items
     × (vec_len l.started + length rest ≤ vec_capacity l.started)

@@ -1,5 +1,7 @@
 use Rattle.std.specs.Prelude.{◌≡◌}
+use Rattle.std.specs.List.{All}
 use Rattle.blocking_queue.specs.Queues.{queue_of}
+use Rattle.job_results.specs.Results.{number_in}
 use Rattle.dispatcher.specs.Workers.{IsTaker}
 use Rattle.dispatcher.specs.Turns.{HasDone}
 use Rattle.dispatcher.proofs.workers.work_on.Given as goal
@@ -11,4 +13,5 @@ invariant-loop g l = record {
   seat : IsTaker g.Q.Fifo.is_seat g.Q.Fifo.permits g.Q.Fifo.known (queue_of l.fn.queue) l.seat;
   number : (g.Q.Fifo.known l.seat).number ≡ (g.Q.Fifo.known l.initial.seat).number;
   done : HasDone l.fn.jobs (g.Q.Fifo.known l.initial.seat) (g.Q.Fifo.known l.seat) l.results.items;
+  told : All (λ r. g.G.Gate.done l.fn.gate (number_in r)) l.results.items;
 }

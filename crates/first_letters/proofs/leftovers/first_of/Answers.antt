@@ -2,7 +2,7 @@
 use Rattle.std.proofs.Common.{◌∙◌, refl, ap, sym}
 use Rattle.std.specs.Prelude.{slice_get}
 use Rattle.carriers.specs.Rests.{left_in}
-use Rattle.deliveries.specs.Deliveries.{values_of}
+use Rattle.carriers.specs.Deliveries.{values_of}
 use Rattle.first_letters.proofs.Left.{left_one, left_other}
 use Rattle.first_letters.proofs.leftovers.first_of.Goals as goal
 

@@ -1,6 +1,6 @@
 use Rattle.std.specs.Prelude.{◌≡◌}
 use Rattle.carriers.specs.Rests.{left_in}
-use Rattle.deliveries.specs.Deliveries.{values_of}
+use Rattle.carriers.specs.Deliveries.{values_of}
 use Rattle.first_letters.proofs.leftovers.first_of.Given as goal
 
 abbrev pub invariant-loop-item : goal.invariant-loop-item

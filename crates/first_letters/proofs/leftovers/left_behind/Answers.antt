@@ -4,7 +4,7 @@ use Rattle.carriers.specs.Ends.{ClosesOf}
 use Rattle.channels.specs.Handles.{sender_queue, sender_seat, receiver_seat}
 use Rattle.value_queue.specs.Queues.{newcomer}
 use Rattle.value_queue.specs.ValuesSeen.{known_by}
-use Rattle.picked_values.specs.Queues.{permits_of}
+use Rattle.picked.specs.Values.{permits_of}
 use Rattle.post_office.specs.Offices.{office_queue, office_seat}
 use Rattle.first_letters.proofs.Left.{alone, put_back, known_three, first_left}
 use Rattle.first_letters.proofs.leftovers.left_behind.Goals as goal

@@ -5,9 +5,9 @@ use Rattle.free_list.proofs.Steps.{fresh_small}
 use Rattle.free_list.proofs.Standing.{after_n1}
 use Rattle.free_list.proofs.takes.n1.Goals as goal
 
-pub overflow_cast-found-line_table : goal.overflow_cast-found-line_table
-overflow_cast-found-line_table g c =
-    let h = fresh_small c.args.arena.now c.args.seat.now _ (taking c.args.index) _ c.line_table-load-found.ensures in
+pub overflow_cast-found : goal.overflow_cast-found
+overflow_cast-found g c =
+    let h = fresh_small c.args.arena.now c.args.seat.now _ (taking c.args.index) _ c.load-found.ensures in
     let z = c.requires.stands.seat.arena.sized.numbered in
     let m = span_most _ c.requires.stands.seat.arena.sized.split in
     omega arith

@@ -13,9 +13,9 @@ pub overflow_add-line_table-line_table-2 : goal.overflow_add-line_table-line_tab
 overflow_add-line_table-line_table-2 g c =
     omega (arith, left_n5 c.args.arena.now c.args.seat.now c.args.a c.requires.stands, ap (λ (x : Running). x.f) c.a.view_is, span_most _ c.requires.stands.before.seat.arena.sized.split)
 
-pub overflow_cast-found-line_table : goal.overflow_cast-found-line_table
-overflow_cast-found-line_table g c =
-    let h = taken_small c.args.arena.now c.args.seat.now _ continues _ c.line_table-exchanged-found.ensures in
+pub overflow_cast-found : goal.overflow_cast-found
+overflow_cast-found g c =
+    let h = taken_small c.args.arena.now c.args.seat.now _ continues _ c.exchanged-found.ensures in
     let z = c.requires.stands.before.seat.arena.sized.numbered in
     let m = span_most _ c.requires.stands.before.seat.arena.sized.split in
     omega arith

@@ -1,7 +1,7 @@
 use Rattle.std.proofs.Common.{subst}
 use Rattle.line_table.specs.declared.lines.Line.TheVariants.{N5}
 use Rattle.node_arena.specs.Prologues.{continues}
-use Rattle.arena_lines.specs.declared.outcomes.RowOutcome.TheVariants.{Goes, Ends}
+use Rattle.free_list.specs.declared.outcomes.RowOutcome.TheVariants.{Goes, Ends}
 use Rattle.free_list.specs.Runs.{turn_of, GoesTo}
 use Rattle.free_list.specs.Takes.{Turns, StandsAfterN2}
 use Rattle.free_list.proofs.Ways.{on_turn}

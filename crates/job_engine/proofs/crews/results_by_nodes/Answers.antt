@@ -5,7 +5,7 @@ use Rattle.node_arena.specs.declared.roles.Role.TheVariants.{Giver, Taker}
 use Rattle.node_arena.specs.Plans.{permit_of, permits_by}
 use Rattle.node_arena.specs.NewArenas.{plan}
 use Rattle.node_arena.specs.Seats.{known_of, plan_of}
-use Rattle.any_queue.specs.Any.{IsAnySeat, any_permits_of, any_arena_of}
+use Rattle.picked.specs.Picked.{IsAnySeat, any_permits_of, any_arena_of}
 use Rattle.job_engine.proofs.NewSeats.{crew-new, map-crew_of}
 use Rattle.job_engine.proofs.crews.results_by_nodes.Goals as goal
 

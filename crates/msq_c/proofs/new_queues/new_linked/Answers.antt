@@ -1,7 +1,7 @@
 use Rattle.std.proofs.Common.{map, ap, ◌∙◌, subst}
 use Rattle.node_arena.specs.NewArenas.{IsMade}
-use Rattle.any_queue.specs.Splits.{limited_plan}
-use Rattle.any_queue.specs.Picked.{picked_arena_of}
+use Rattle.picked.specs.Splits.{limited_plan}
+use Rattle.picked.specs.Picked.{picked_arena_of}
 use Rattle.msq_c.specs.Made.{role_number}
 use Rattle.msq_c.proofs.Made.{linked_new, linked_unused}
 use Rattle.msq_c.proofs.new_queues.new_linked.Goals as goal

@@ -1,5 +1,5 @@
 use Rattle.std.proofs.Common.{subst}
-use Rattle.any_values.specs.Splits.{limited_plan}
+use Rattle.picked.specs.Splits.{value_limited_plan as limited_plan}
 use Rattle.msq_c.specs.WordMade.{AreUnused}
 use Rattle.msq_c.proofs.WordMade.{unused_of}
 use Rattle.msq_c.proofs.word_queues.seats_of.Goals as goal

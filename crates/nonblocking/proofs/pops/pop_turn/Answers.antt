@@ -1,6 +1,6 @@
 use Rattle.std.proofs.Common.{lit≤, IsTrue, subst, sym, ap, ◌∙◌}
 use Rattle.line_table.specs.declared.lines.Line.TheVariants.{D2}
-use Rattle.arena_lines.specs.declared.outcomes.RowOutcome.TheVariants.{Goes}
+use Rattle.free_list.specs.declared.outcomes.RowOutcome.TheVariants.{Goes}
 use Rattle.nonblocking.specs.declared.pop_outcomes.Turn.TheVariants as turn
 use Rattle.node_arena.specs.Plans.{may_pop}
 use Rattle.node_arena.proofs.Loads.{still_bare}

@@ -1,6 +1,6 @@
 use Rattle.std.proofs.Common.{lit≤}
 use Rattle.line_table.specs.declared.lines.Line.TheVariants.{E5}
-use Rattle.arena_lines.specs.declared.outcomes.RowOutcome.TheVariants.{Goes}
+use Rattle.free_list.specs.declared.outcomes.RowOutcome.TheVariants.{Goes}
 use Rattle.nonblocking.specs.declared.push_outcomes.Turn.TheVariants.{Pushed, Failed}
 use Rattle.nonblocking.proofs.PushTurns.{turn_at_e9, turn_swings, turn_links, to_e17, links, links_not, links_ended}
 use Rattle.nonblocking.proofs.pushes.push_turn.Goals as goal

@@ -1,6 +1,6 @@
 use Rattle.std.proofs.Common.{subst, ap, ◌∙◌}
 use Rattle.line_table.specs.declared.lines.Line.TheVariants.{S1}
-use Rattle.arena_lines.specs.declared.outcomes.RowOutcome.TheVariants.{Goes}
+use Rattle.free_list.specs.declared.outcomes.RowOutcome.TheVariants.{Goes}
 use Rattle.nonblocking.specs.declared.shut_outcomes.Turn.TheVariants as turn
 use Rattle.nonblocking.specs.Shuts.{turn_of, ReadsEnd}
 use Rattle.nonblocking.proofs.ShutTurns.{puts_end, swings, turn_behind}

@@ -1,7 +1,7 @@
 //! What the tests of offices have in common.
 use channels::{Receiver, Sender};
 use history::Refusal;
-use picked_values::ValueQueue;
+use picked::ValueQueue;
 use post_office::PostOffice;
 use ring_values::RingValues;
 use std::alloc::Global;

@@ -89,7 +89,7 @@ impl Drop for Counted {
 fn each_letter_that_is_left_is_dropped_once(rt: HostRuntime) -> Result<(), Fail> {
     let alloc = rt.alloc();
     let drops = Arc::new(alloc, AtomicU64::new(0))?;
-    let (office, mut senders, receivers) = PostOffice::<picked_values::ValueQueue<Counted>>::open(
+    let (office, mut senders, receivers) = PostOffice::<picked::ValueQueue<Counted>>::open(
         alloc, 4, 1, 1,
     )?;
     for _ in 0..4 {

@@ -1,8 +1,8 @@
 //! Leased seats: that a dropped lease gives its seat back, and that a pool with a lease isn't closed.
-use any_queue::PickedQueue;
 use history::{Body, Close, Refusal, Taken};
 use line_table::Kind;
 use node_arena::Role;
+use picked::PickedQueue;
 use ring_queue::{RingQueue, Role as RingRole};
 use seat_pool::{Part, SeatPool, Unclosed};
 use std::alloc::Global;

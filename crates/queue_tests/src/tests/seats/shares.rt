@@ -1,14 +1,15 @@
 //! Seats that are dropped, and queues that are ended before all are.
 use super::threads::{last, owned_of, pop, push};
-use history::{Refusal, Taken};
+use carriers::ItemOf;
+use history::Refusal;
 use line_table::Kind;
-use owned_seats::Unended;
+use owned::Unended;
 use std::alloc::Global;
 use std::test::Fail;
 
 // The shares that there are with both seats, after one seat couldn't end the queue since the other one has a share, and with
 // that one alone; what it pops of the first one's push, which came back, and how many values the queue says were taken.
-fn told(alloc: Global, kind: Kind) -> Result<([usize; 3], Option<Taken>, u64), Refusal> {
+fn told(alloc: Global, kind: Kind) -> Result<([usize; 3], Option<ItemOf<u64>>, u64), Refusal> {
     let mut owned = owned_of(alloc, kind)?;
     let mut other = last(&mut owned)?;
     let one = last(&mut owned)?;
@@ -22,9 +23,9 @@ fn told(alloc: Global, kind: Kind) -> Result<([usize; 3], Option<Taken>, u64), R
     let still = one.shares();
     drop(one);
     let alone = other.shares();
-    let taken = pop(&mut other);
+    let front = pop(&mut other);
     match other.close(alloc, Vec::new(alloc)) {
-        Ok((rest, _)) => Ok(([both, still, alone], taken, rest.taken())),
+        Ok((rest, _)) => Ok(([both, still, alone], front, rest.taken())),
         Err(Unended::Memory(_, _)) => Err(Refusal::Memory),
         Err(_) => Err(Refusal::Lost),
     }
@@ -34,8 +35,8 @@ fn told(alloc: Global, kind: Kind) -> Result<([usize; 3], Option<Taken>, u64), R
 #[test]
 fn a_queue_lives_as_long_as_its_seats(rt: HostRuntime) -> Result<(), Fail> {
     for kind in [Kind::NonBlocking, Kind::TwoLock] {
-        let (shares, taken, count) = told(rt.alloc(), kind)?;
-        let value = taken.map(|it| (it.from, it.body.number()));
+        let (shares, front, count) = told(rt.alloc(), kind)?;
+        let value = front.map(|it| (it.from, it.value));
         assert_eq!(rt; (shares, value, count), ([2, 2, 1], Some((1, 5)), 1));
     }
     Ok(())

@@ -1,23 +1,24 @@
 //! Two threads, each with a seat of its own, which holds the queue.
-use any_queue::PickedQueue;
-use history::{Body, Refusal, Taken};
+use carriers::ItemOf;
+use history::Refusal;
 use line_table::Kind;
 use node_arena::Role;
-use owned_seats::{OwnedSeat, Unended, deal};
+use owned::{OwnedSeat, Unended, deal};
+use picked::AnyValues;
 use std::alloc::Global;
 use std::test::Fail;
 use std::thread::{Threads, join};
 
-/// How many bodies each thread pushes.
+/// How many values each thread pushes.
 const MOST: u64 = 1000;
 
 /// More turns than the other thread can be in the way.
 const TURNS: u32 = 1_000_000;
 
-/// A seat that holds a queue of either kind, of a picked split.
-pub type Own = OwnedSeat<PickedQueue>;
+/// A seat that holds a queue of values of either kind, of a picked split.
+pub type Own = OwnedSeat<AnyValues<u64>>;
 
-/// What a thread popped: how many values, and whether the bodies of each pusher rose.
+/// What a thread popped: how many values, and whether those of each pusher rose.
 #[derive(Clone, Copy, Debug, PartialEq, Eq)]
 struct Tally {
     last: [u64; 3],
@@ -26,10 +27,10 @@ struct Tally {
 }
 
 impl Tally {
-    fn takes(&mut self, taken: Taken) {
-        let (from, body) = (usize::from(taken.from), taken.body.number());
-        if from < 3 && self.last[from] < body {
-            self.last[from] = body;
+    fn takes(&mut self, front: ItemOf<u64>) {
+        let from = usize::from(front.from);
+        if from < 3 && self.last[from] < front.value {
+            self.last[from] = front.value;
         } else {
             self.in_order = false;
         }
@@ -40,7 +41,7 @@ impl Tally {
 /// The two seats of a new queue, each of which may push and pop.
 pub fn owned_of(alloc: Global, kind: Kind) -> Result<Vec<Own>, Refusal> {
     let roles = [Role::Both, Role::Both];
-    let (queue, seats) = PickedQueue::new(alloc, kind, 64, &roles)?;
+    let (queue, seats) = AnyValues::new(alloc, kind, 64, &roles)?;
     deal(alloc, queue, seats)
 }
 
@@ -52,32 +53,29 @@ pub fn last(owned: &mut Vec<Own>) -> Result<Own, Refusal> {
     }
 }
 
-/// Pushes a body, where the seat may.
-pub fn push(seat: &mut Own, number: u64) -> bool {
-    let Some(body) = Body::new(number) else {
-        return false;
-    };
-    seat.may_push() && seat.try_push(body, TURNS).is_ok()
+/// Pushes a value, where the seat may.
+pub fn push(seat: &mut Own, value: u64) -> bool {
+    seat.may_push() && seat.try_push(value, TURNS).is_ok()
 }
 
 /// The value at the front, where the seat may pop and there is one.
-pub fn pop(seat: &mut Own) -> Option<Taken> {
+pub fn pop(seat: &mut Own) -> Option<ItemOf<u64>> {
     if !seat.may_pop() {
         return None;
     }
     match seat.try_pop(TURNS) {
-        Ok(taken) => taken,
+        Ok(front) => front,
         Err(_) => None,
     }
 }
 
-// Pushes a body, and pops after it.
-fn round(seat: &mut Own, number: u64, tally: &mut Tally) {
-    if !push(seat, number) {
+// Pushes a value, and pops after it.
+fn round(seat: &mut Own, value: u64, tally: &mut Tally) {
+    if !push(seat, value) {
         return;
     }
-    if let Some(taken) = pop(seat) {
-        tally.takes(taken);
+    if let Some(front) = pop(seat) {
+        tally.takes(front);
     }
 }
 
@@ -88,8 +86,8 @@ fn rounds(mut seat: Own) -> (Own, Tally) {
         popped: 0,
         in_order: true,
     };
-    for number in 1..=MOST {
-        round(&mut seat, number, &mut tally);
+    for value in 1..=MOST {
+        round(&mut seat, value, &mut tally);
     }
     (seat, tally)
 }

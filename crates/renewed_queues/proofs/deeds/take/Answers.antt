@@ -1,6 +1,6 @@
 use Rattle.std.proofs.Common.{rules, ◌≡◌, subst}
-use Rattle.draining.proofs.Shutting.{drained_until_shut}
-use Rattle.draining.specs.Shuts.{seat_of}
+use Rattle.carriers.proofs.Shutting.{drained_until_shut}
+use Rattle.carriers.specs.Shuts.{seat_of}
 use Rattle.renewed_queues.specs.Deeds.{Took}
 use Rattle.renewed_queues.proofs.Takings.{values_more, each_more, took}
 use Rattle.renewed_queues.proofs.deeds.take.Goals as goal

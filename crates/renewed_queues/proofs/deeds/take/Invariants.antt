@@ -1,6 +1,6 @@
 use Rattle.std.specs.Prelude.{◌≡◌, ◌++◌, map, Ok}
-use Rattle.draining.specs.Drained.{values_of}
-use Rattle.draining.specs.Shuts.{queue_of, seat_of}
+use Rattle.carriers.specs.Drained.{values_of}
+use Rattle.carriers.specs.Shuts.{queue_of, seat_of}
 use Rattle.renewed_queues.proofs.deeds.take.Given as goal
 
 abbrev pub invariant-loop-item : goal.invariant-loop-item

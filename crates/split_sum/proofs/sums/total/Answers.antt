@@ -1,5 +1,5 @@
 use Rattle.std.proofs.Common.{◌∙◌, ap, sym, map}
-use Rattle.fed_pool.specs.Answered.{value_in}
+use Rattle.tasks.specs.Answered.{value_in}
 use Rattle.split_sum.specs.Squares.{squares_of}
 use Rattle.split_sum.proofs.Adding.{none_of, adds_all}
 use Rattle.split_sum.proofs.sums.total.Goals as goal

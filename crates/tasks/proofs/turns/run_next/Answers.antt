@@ -1,12 +1,11 @@
-use Rattle.std.proofs.Common.{◌∙◌, ◌++◌, ◌∷◌, [], ap, subst}
-use Rattle.blocking_carrier.specs.Answers.{RecvAnswersOf}
+use Rattle.std.proofs.Common.{◌∙◌, ◌++◌, ◌∷◌, [], ap}
 use Rattle.tasks.proofs.turns.run_next.Goals as goal
 
-pub returns-in-Ok-Done-clause-ran : goal.returns-in-Ok-Done-clause-ran
-returns-in-Ok-Done-clause-ran g c = record {
-  front = c.in-Ok-Done.front;
-  popped = subst (λ a. RecvAnswersOf g.C.Carrier.known c.args.seat.now a c.recv_until.new.seat) c.in-Ok-Done.field-0-is c.in-Ok-Done.ensures.answer;
+pub returns-in-Ok-clause-ran : goal.returns-in-Ok-clause-ran
+returns-in-Ok-clause-ran g c = record {
+  front = c.in-Ok.front;
+  popped = c.in-Ok.ensures.taken;
   result = c.run.result;
   of = c.run.ensures;
-  added = c.push_reserved.ensures.items ∙ ap (λ l. l ++ c.run.result ∷ []) c.reserve.ensures.items;
+  added = c.push_reserved.ensures.items ∙ ap (λ l. l ++ c.run.result ∷ []) c.make_room.ensures.same;
 }

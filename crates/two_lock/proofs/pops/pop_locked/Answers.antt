@@ -1,5 +1,5 @@
 use Rattle.std.proofs.Common.{◌≡◌, ◌-◌, Some, Ok, sym, ap, subst, ◌∙◌}
-use Rattle.arena_lines.specs.declared.outcomes.RowOutcome.TheVariants.{Ends}
+use Rattle.free_list.specs.declared.outcomes.RowOutcome.TheVariants.{Ends}
 use Rattle.arena_queue.specs.Answers.{PopsWithoutNode}
 use Rattle.node_arena.specs.Machine.{value_of}
 use Rattle.node_arena.specs.Seats.{keeps_of}

@@ -8,6 +8,10 @@ use std::sync::atomic::{AtomicBool, AtomicU64, Ordering};
 pub struct Open;
 
 impl Gate for Open {
+    ghost begun = { λ gate number. Unit {0} };
+
+    ghost done = { λ gate number. Unit {0} };
+
     fn before(&self, _number: u64) {}
 
     fn after(&self, _number: u64) {}
@@ -35,6 +39,10 @@ impl SecondFirst {
 }
 
 impl Gate for SecondFirst {
+    ghost begun = { λ gate number. Unit {0} };
+
+    ghost done = { λ gate number. Unit {0} };
+
     fn before(&self, number: u64) {
         if number == 1 && hold(&self.second_done, 1) {
             self.opened.store(true, Ordering::SeqCst);
@@ -74,6 +82,10 @@ impl Logged {
 }
 
 impl Gate for Logged {
+    ghost begun = { λ gate number. Unit {0} };
+
+    ghost done = { λ gate number. Unit {0} };
+
     fn before(&self, number: u64) {
         self.put(number.wrapping_mul(2).wrapping_sub(1));
     }

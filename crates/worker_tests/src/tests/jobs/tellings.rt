@@ -67,7 +67,7 @@ fn told_over<R: Threads + Wait + Sync, Q: Close + Sync + Drop>(
             .count(),
         workers
             .iter()
-            .filter(|worker| matches!(worker.end, End::Refused(_)))
+            .filter(|worker| matches!(worker.end, End::NoMemory(_) | End::Refused(_)))
             .count(),
     );
     let Given {
@@ -90,7 +90,7 @@ fn told_over<R: Threads + Wait + Sync, Q: Close + Sync + Drop>(
     Ok(Told {
         results,
         ends,
-        refused,
+        refused: refused.map(|reason| reason.refusal()),
         unshut,
         left: (left, whole),
     })

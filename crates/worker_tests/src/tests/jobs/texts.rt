@@ -1,9 +1,8 @@
 //! Texts of jobs that are done over each queue, from any source to any sink.
-use any_queue::AnyQueueOf;
-use either_queue::EitherQueue;
 use history::{Close, Refusal};
 use job_engine::{CrewSeats, JobQueue, work_text};
 use line_table::{Kind, QueueKind};
+use picked::{AnyQueueOf, EitherQueue};
 use std::alloc::Global;
 use std::test::Fail;
 use text_io::{Script, Trouble};

@@ -1,7 +1,6 @@
 //! Pools that are fed: tasks are asked for as there is room for them, and each result is told as it comes.
 use super::counted_tasks::{Calls, Counting, Third, calls, others, task_of, wanted};
 use crate::tests::comparisons::same;
-use fed_pool::{Fed, Feed, Unfed, line, run_fed, run_feed};
 use history::Refusal;
 use node_arena::MOST_COUNT;
 use nonblocking::NonBlockingAlgorithm;
@@ -9,7 +8,7 @@ use std::alloc::Global;
 use std::sync::{Arc, Wait};
 use std::test::Fail;
 use std::thread::Threads;
-use tasks::{Done, End, Numbered, Task};
+use tasks::{Done, End, Fed, Feed, Numbered, Task, Unfed, line, run_fed, run_feed};
 
 /// So many tasks, one after another; how many results were told, and how many of them weren't their task's own.
 #[derive(Drop)]

@@ -3,7 +3,6 @@ use super::counted_tasks::{Counting, Third, calls, others, tasks, wanted};
 use crate::tests::comparisons::same;
 use arena_queue::Algorithm;
 use blocking_carrier::BlockingCarrier;
-use executor::pool_queue;
 use history::Refusal;
 use mock_queues::FullCarrier;
 use node_arena::MOST_COUNT;
@@ -13,8 +12,7 @@ use std::process::Abort;
 use std::sync::Wait;
 use std::test::Fail;
 use std::thread::Threads;
-use task_pool::{Ran, Unrun, run_on};
-use tasks::{End, Numbered, Outcome, Stop, work};
+use tasks::{AnyReason, End, Numbered, Outcome, Ran, Stop, Unrun, pool_queue, run_on, work};
 use two_lock::TwoLockAlgorithm;
 
 /// How many tasks there are.
@@ -143,7 +141,7 @@ fn what_is_left_comes_back(rt: HostRuntime) -> Result<(), Fail> {
 #[test]
 fn a_stopped_worker_ends(rt: HostRuntime) -> Result<(), Fail> {
     let (queue, seat) = FullCarrier::<Numbered<Counting>>::new();
-    let stop = Stop::new();
+    let stop = Stop::<AnyReason>::new();
     stop.tell();
     let worked = work(&rt, rt.alloc(), &BlockingCarrier::new(queue), seat, &stop);
     let found = (worked.done.len(), worked.end);

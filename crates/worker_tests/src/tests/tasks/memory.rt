@@ -2,14 +2,13 @@
 use super::counted_tasks::{Calls, Counting, calls, others, tasks, wanted};
 use super::fed::Row;
 use crate::tests::comparisons::same;
-use executor::{Unstarted, run_all};
-use fed_pool::run_feed;
 use history::Refusal;
 use std::alloc::Global;
 use std::process::Abort;
 use std::sync::{Arc, Wait};
 use std::test::Fail;
 use std::thread::Threads;
+use tasks::{Unstarted, run_all, run_feed};
 
 /// How many tasks there are.
 const MANY: u64 = 20;
@@ -29,7 +28,12 @@ fn a_refused_allocation_is_told_once(rt: HostRuntime) -> Result<(), Fail> {
     };
     let answers = match run_all(&rt, alloc, tasks, Some(2)) {
         Ok(answers) => answers,
-        Err(Unstarted { refusal, tasks }) => {
+        Err(
+            Unstarted {
+                refusal,
+                given: tasks,
+            },
+        ) => {
             same(
                 &rt,
                 (refusal, tasks.len()),
@@ -67,9 +71,9 @@ fn feed_is_told_once<R: Threads + Wait + Sync + Abort>(
     let fed = match run_feed::<_, Counting, _>(rt, alloc, row, Some(2), 4) {
         Ok(fed) => fed,
         Err(unfed) => {
-            let told = (unfed.refusal, unfed.feed.given, unfed.feed.told);
+            let told = (unfed.refusal, unfed.given.given, unfed.given.told);
             same(rt, told, (Refusal::Memory, 0, 0), "the feed comes back");
-            match run_feed::<_, Counting, _>(rt, alloc, unfed.feed, Some(2), 4) {
+            match run_feed::<_, Counting, _>(rt, alloc, unfed.given, Some(2), 4) {
                 Ok(fed) => fed,
                 Err(unfed) => return Err(Fail::from(unfed.refusal)),
             }

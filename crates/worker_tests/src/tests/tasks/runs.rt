@@ -1,13 +1,13 @@
 //! Tasks that `run_all` runs: each is called once, whichever threads there are, and a task that fails takes no others with it.
 use super::counted_tasks::{calls, others, tasks, wanted};
 use crate::tests::comparisons::same;
-use executor::run_all;
 use history::Refusal;
 use std::alloc::Global;
 use std::process::Abort;
 use std::sync::Wait;
 use std::test::Fail;
 use std::thread::Threads;
+use tasks::run_all;
 
 /// How many tasks there are, and by how many workers they are run; by as many as run at once here where that is left open.
 const RUNS: [(u64, Option<usize>); 10] = [

@@ -1,14 +1,13 @@
 //! Tasks that are run at one time, and tasks that own what they need.
 use crate::tests::comparisons::same;
 use crate::tests::holds::hold;
-use executor::run_all;
 use history::Refusal;
 use std::alloc::{AllocError, Global};
 use std::sync::Arc;
 use std::sync::atomic::AtomicU64;
 use std::sync::atomic::Ordering::SeqCst;
 use std::test::Fail;
-use tasks::Task;
+use tasks::{Task, run_all};
 
 /// A task that waits until two have begun.
 #[derive(Drop)]

@@ -12,13 +12,13 @@ use denote.Struct.Owning.{shape, fields, to}
 use Rattle.std.specs.contracts.impls.GlobalAllocator.TheImpl.{ghosts}
 use Rattle.std.proofs.Crossing.{crosses}
 use Rattle.node_arena.specs.contracts.seats.Seat as seat
-use Rattle.any_values.specs.contracts.any.AnyValues as any
-use Rattle.any_values.specs.contracts.any_calls.AnyValuesCarrier.TheImpl as carrier
+use Rattle.picked.specs.contracts.kind_values.AnyValues as any
+use Rattle.picked.specs.contracts.kind_values.AnyValuesCarrier.TheImpl as carrier
 use Rattle.msq_c.specs.Boxed.{box_if}
 use Rattle.msq_c.specs.WordRows.{OwnThree, three_row}
 use Rattle.msq_c.specs.contracts.words.MsqWords as words
 use Rattle.msq_c.specs.contracts.word_handles.WordHandle.{the_row, the_type}
-use Rattle.any_values.proofs.any.AnyValues.TheSendSync.{the_send as queue_send, the_sync as queue_sync}
+use Rattle.picked.proofs.kind_values.AnyValues.TheSendSync.{the_send as queue_send, the_sync as queue_sync}
 use Rattle.node_arena.proofs.seats.Seat.TheSendSync.{the_send as seat_send}
 use Rattle.msq_c.proofs.words.MsqWords.TheSendSync.{the_send as words_send}
 use Rattle.msq_c.proofs.word_blocks.WordsBlock.TheSendSync as own

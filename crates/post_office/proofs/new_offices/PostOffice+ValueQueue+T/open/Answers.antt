@@ -5,7 +5,7 @@ use Rattle.std.proofs.lemmas.Result.{IfOk-weaker}
 use Rattle.history.specs.Seats.{MayPop}
 use Rattle.node_arena.specs.Plans.{permits_by}
 use Rattle.value_queue.specs.ValuesSeen.{known_by}
-use Rattle.picked_values.specs.Queues.{permits_of, IsQueueSeat}
+use Rattle.picked.specs.Values.{permits_of, IsQueueSeat}
 use Rattle.channels.specs.Handles.{sender_seat, receiver_seat}
 use Rattle.post_office.specs.Offices.{office_queue, AreOf}
 use Rattle.post_office.specs.Roles.{office_roles, newcomers}

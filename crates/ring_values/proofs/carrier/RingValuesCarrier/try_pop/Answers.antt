@@ -4,7 +4,10 @@ use Rattle.history.specs.Answers.{PopAnswers}
 use Rattle.ring_queue.specs.Hands.{PopMoves}
 use Rattle.ring_queue.specs.Seats.{known_of}
 use Rattle.ring_values.specs.Queues.{plan_of, ring_of}
-use Rattle.ring_values.proofs.Learned.{goes_on, empty-deeds, pop_refused-deeds}
+use Rattle.ring_values.specs.ValuesSeen.{sight}
+use Rattle.ring_values.specs.Sound.{clear}
+use Rattle.value_queue.proofs.Learned.{empty-deeds, pop_refused-deeds}
+use Rattle.ring_values.proofs.Learned.{on}
 use Rattle.ring_values.proofs.Popped.{pop_slot, pop_value}
 use Rattle.ring_values.proofs.carrier.RingValuesCarrier.try_pop.Goals as goal
 
@@ -32,11 +35,12 @@ returns-in-Ok-None-clause-answer g c =
     let x = c.pop_in.new.seat in
     let kept = subst (PopMoves (plan_of q) s x) c.in-Ok-None.field-0-is c.in-Ok-None.ensures.moves in
     let found = subst (λ (o : Option Taken). PopAnswers (known_of s) o (known_of x)) c.in-Ok-None.field-0-is c.in-Ok-None.ensures.answer in
-    empty-deeds (ring_of q) q.carries s x c.requires.seat.ready c.pop_in.ensures.seat (goes_on s x kept) found
+    empty-deeds (sight s) (sight x) (clear (ring_of q) q.carries s c.requires.seat.ready) (clear (ring_of q) q.carries x c.pop_in.ensures.seat) (on s x kept) found
 
 pub returns-in-Err-clause-refused : goal.returns-in-Err-clause-refused
 returns-in-Err-clause-refused g c =
     let q = c.args.self.now in
     let s = c.args.seat.now in
     let x = c.pop_in.new.seat in
-    rw c.refused.ensures (pop_refused-deeds (ring_of q) q.carries s x c.requires.seat.ready c.pop_in.ensures.seat c.in-Err.refusal (goes_on s x c.in-Err.ensures.kept) c.in-Err.ensures.refused)
+    rw c.refused.ensures (pop_refused-deeds (sight s) (sight x) (clear (ring_of q) q.carries s c.requires.seat.ready) (clear (ring_of q) q.carries x c.pop_in.ensures.seat) c.in-Err.refusal
+    (on s x c.in-Err.ensures.kept) c.in-Err.ensures.refused)

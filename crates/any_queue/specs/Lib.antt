@@ -1,3 +1,0 @@
-pub mod Any
-pub mod Picked
-pub mod Splits

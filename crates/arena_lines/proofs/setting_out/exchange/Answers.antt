@@ -1,5 +1,0 @@
-use Rattle.arena_lines.proofs.Spots.{has_place}
-use Rattle.arena_lines.proofs.setting_out.exchange.Goals as goal
-
-pub place-requires : goal.place-requires
-place-requires g c = has_place c.args.arena.now c.args.seat.now g.prologue c.args.line c.args.word _ c.requires.1.1.1.0 c.requires.1.1.1.1

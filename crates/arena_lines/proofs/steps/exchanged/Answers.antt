@@ -1,6 +1,0 @@
-use Rattle.node_arena.specs.Prologues.{continues}
-use Rattle.arena_lines.proofs.Spots.{has_place}
-use Rattle.arena_lines.proofs.steps.exchanged.Goals as goal
-
-pub place-requires : goal.place-requires
-place-requires g c = has_place c.args.arena.now c.args.seat.now continues c.args.line c.args.word _ c.requires.may c.requires.names

@@ -1,5 +1,0 @@
-use Rattle.node_arena.specs.Prologues.{continues}
-use Rattle.arena_lines.proofs.steps.stored.Given as goal
-
-abbrev pub ghost-store : goal.ghost-store
-ghost-store g a = continues

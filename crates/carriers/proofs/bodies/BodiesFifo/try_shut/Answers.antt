@@ -1,0 +1,5 @@
+use Rattle.carriers.specs.ToEntries.{push_refused_of}
+use Rattle.carriers.proofs.bodies.BodiesFifo.try_shut.Goals as goal
+
+pub returns-in-Err-clause-refused : goal.returns-in-Err-clause-refused
+returns-in-Err-clause-refused g c = push_refused_of _ _ c.in-Err.refusal c.in-Err.ensures.refused

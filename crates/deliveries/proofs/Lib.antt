@@ -1,4 +1,0 @@
-pub mod Alone
-pub mod Deliveries
-pub mod Places
-pub mod Together

@@ -1,3 +1,0 @@
-pub mod Deliveries
-pub mod Ends
-pub mod Together

@@ -1,4 +1,0 @@
-pub mod Waiting
-pub mod Owning
-pub mod Emptying
-pub mod Shutting

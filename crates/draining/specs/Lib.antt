@@ -1,4 +1,0 @@
-pub mod Waits
-pub mod Empties
-pub mod Shuts
-pub mod Drained

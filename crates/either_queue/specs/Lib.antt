@@ -1,2 +1,0 @@
-pub mod Either
-pub mod Ends

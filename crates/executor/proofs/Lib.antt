@@ -1,2 +1,0 @@
-mod Settling
-mod Crews

@@ -1,6 +1,0 @@
-use Rattle.std.specs.Prelude.{◌≡◌, replicate}
-use Rattle.node_arena.specs.declared.roles.Role.TheVariants.{Taker}
-use Rattle.executor.proofs.new_queues.roles_for.Given as goal
-
-abbrev pub invariant-loop : goal.invariant-loop
-invariant-loop l = l.roles.items ≡ replicate l.counter Taker

@@ -1,8 +1,0 @@
-use Rattle.std.proofs.Common.{◌+◌, ◌*◌, length}
-use Rattle.fed_pool.proofs.crews.+crew.Given as goal
-
-abbrev pub decreases-others : goal.decreases-others
-decreases-others g l = 2 * length l.posts.items + 1
-
-abbrev pub decreases-run_crew : goal.decreases-run_crew
-decreases-run_crew g l = 2 * length l.posts.items

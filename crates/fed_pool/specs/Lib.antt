@@ -1,8 +1,0 @@
-pub mod Answered
-pub mod Roles
-pub mod Feeds
-pub mod Workers
-pub mod Leaders
-pub mod Crews
-pub mod Pools
-pub mod Ends

@@ -1,7 +1,0 @@
--- The seat is its queue's by its type.
-use Rattle.std.proofs.Common.{sym}
-use Rattle.owned_seats.proofs.SeatShares.{sits_in}
-use Rattle.owned_seats.proofs.seats.OwnedSeat.try_shut.Goals as goal
-
-pub try_shut-requires-clause-seat : goal.try_shut-requires-clause-seat
-try_shut-requires-clause-seat g c = sits_in g.met.Q.Fifo.seat_prop c.deref.result.now c.args.self.now (sym c.deref.ensures)

@@ -1,7 +1,0 @@
--- The seat is its queue's by its type.
-use Rattle.std.proofs.Common.{sym}
-use Rattle.owned_values.proofs.SeatShares.{sits_in}
-use Rattle.owned_values.proofs.seats.ValueSeat.try_push.Goals as goal
-
-pub try_push-requires-clause-seat : goal.try_push-requires-clause-seat
-try_push-requires-clause-seat g c = sits_in g.met.C.Carrier.seat_prop c.deref.result.now c.args.self.now (sym c.deref.ensures)

@@ -1,0 +1,3 @@
+pub mod OfKind
+pub mod Threads
+pub mod Within

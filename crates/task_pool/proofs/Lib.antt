@@ -1,5 +1,0 @@
-mod Seats
-mod Finishing
-mod Ending
-mod Moving
-mod Closed

@@ -1,3 +1,0 @@
-pub mod Crews
-pub mod Parts
-pub mod Pools
