@@ -37,6 +37,9 @@
 #define MSQ_MOST_COUNT (((uint64_t)1 << 62) - 1)
 #define MSQ_MOST_NODES UINT32_C(4294967294)
 
+/* A call whose answer is to be looked at: where it isn't, the compiler warns. */
+#define MSQ_NODISCARD __attribute__((warn_unused_result))
+
 #ifdef __cplusplus
 extern "C" {
 #endif
@@ -141,8 +144,8 @@ typedef struct msq_remaining {
  * MSQ_OK; MSQ_IN_USE where one of the seats is full; else MSQ_BAD_SIZE where a number is out of its range, or there are
  * fewer seats than roles, or more; else MSQ_MEMORY. Refused, it changes no seat.
  */
-uint32_t msq_create(uint32_t kind, uint32_t nodes, uint64_t limit, const uint8_t *roles, size_t roles_len,
-                    msq_seat *seats, size_t seats_len);
+MSQ_NODISCARD uint32_t msq_create(uint32_t kind, uint32_t nodes, uint64_t limit, const uint8_t *roles, size_t roles_len,
+                                  msq_seat *seats, size_t seats_len);
 
 /*
  * Pushes a body, below MSQ_BODIES, in so many turns at most, 1 or more (8 is a good number).
@@ -150,14 +153,14 @@ uint32_t msq_create(uint32_t kind, uint32_t nodes, uint64_t limit, const uint8_t
  * MSQ_WORN_FREE, MSQ_WORN_NEXT or MSQ_WORN_TAIL, of MSQ_TWO_LOCK MSQ_WORN_FREE, of MSQ_RING MSQ_WORN_TAIL. Refused,
  * nothing was pushed.
  */
-uint32_t msq_try_push(msq_seat *seat, uint64_t body, uint32_t turns);
+MSQ_NODISCARD uint32_t msq_try_push(msq_seat *seat, uint64_t body, uint32_t turns);
 
 /*
  * Pops the value at the front into `value`, in so many turns at most, 1 or more.
  * MSQ_OK, MSQ_EMPTY, MSQ_BUSY, MSQ_CLOSED, MSQ_BAD_SIZE, MSQ_NO_SEAT or MSQ_NO_ROLE; of MSQ_NON_BLOCKING also
  * MSQ_WORN_TAIL, of MSQ_TWO_LOCK MSQ_WORN_HEAD. Refused or empty, the queue's values and `value` are as before.
  */
-uint32_t msq_try_pop(msq_seat *seat, uint32_t turns, msq_value *value);
+MSQ_NODISCARD uint32_t msq_try_pop(msq_seat *seat, uint32_t turns, msq_value *value);
 
 /*
  * Shuts the queue, in so many turns at most, 1 or more: no push comes after it, and what is in the queue stays to be popped.
@@ -165,7 +168,7 @@ uint32_t msq_try_pop(msq_seat *seat, uint32_t turns, msq_value *value);
  * MSQ_OK, MSQ_BUSY but of MSQ_RING, MSQ_CLOSED where it was shut before, MSQ_BAD_SIZE, MSQ_NO_SEAT or MSQ_NO_ROLE; of
  * MSQ_NON_BLOCKING also MSQ_WORN_TAIL.
  */
-uint32_t msq_try_shut(msq_seat *seat, uint32_t turns);
+MSQ_NODISCARD uint32_t msq_try_shut(msq_seat *seat, uint32_t turns);
 
 /*
  * Pushes these bodies in their order, as msq_try_push does, until one is refused: how many were pushed goes to `pushed`, and
@@ -173,7 +176,7 @@ uint32_t msq_try_shut(msq_seat *seat, uint32_t turns);
  * to 32; else each goes by itself. Pushes of other seats may come between them. Each step has so many turns. Where
  * there are no bodies, any seat will do; without a seat 0 is written.
  */
-uint32_t msq_push_all(msq_seat *seat, const uint64_t *bodies, size_t bodies_len, uint32_t turns, size_t *pushed);
+MSQ_NODISCARD uint32_t msq_push_all(msq_seat *seat, const uint64_t *bodies, size_t bodies_len, uint32_t turns, size_t *pushed);
 
 /*
  * Pops values, as many as there is room for, as msq_try_pop does, until the queue is found empty or a pop is refused: they
@@ -181,7 +184,7 @@ uint32_t msq_push_all(msq_seat *seat, const uint64_t *bodies, size_t bodies_len,
  * MSQ_RING up to 32 come at one step; else each comes by itself. Pops of other seats may come between them. Each step has so
  * many turns. Without a seat 0 is written.
  */
-uint32_t msq_pop_up_to(msq_seat *seat, uint32_t turns, msq_value *values, size_t values_len, size_t *popped);
+MSQ_NODISCARD uint32_t msq_pop_up_to(msq_seat *seat, uint32_t turns, msq_value *values, size_t values_len, size_t *popped);
 
 /*
  * Tells a seat that may push and pop whether to keep the node that its pop frees for its next push; a new seat doesn't. Pop and
@@ -196,7 +199,7 @@ uint32_t msq_keep_nodes(msq_seat *seat, bool keeps);
  * MSQ_CLOSED where it is shut too, so that nothing comes any more; MSQ_BUSY where pops took effect meanwhile: look
  * again. MSQ_NO_SEAT.
  */
-uint32_t msq_emptiness(msq_seat *seat);
+MSQ_NODISCARD uint32_t msq_emptiness(msq_seat *seat);
 
 /*
  * Writes bounds of how many values the queue held at a moment of this call; any seat may ask. It is proved that all that the
@@ -204,7 +207,7 @@ uint32_t msq_emptiness(msq_seat *seat);
  * MSQ_OK; MSQ_UNCOUNTED of MSQ_TWO_LOCK, whose Tail
  * counts no pushes; MSQ_NO_SEAT. Refused, it writes nothing.
  */
-uint32_t msq_len(msq_seat *seat, msq_length *length);
+MSQ_NODISCARD uint32_t msq_len(msq_seat *seat, msq_length *length);
 
 /*
  * Writes how many pushes are left at least until a word wears out; any seat may ask. While fewer pushes begin, done or
@@ -212,7 +215,7 @@ uint32_t msq_len(msq_seat *seat, msq_length *length);
  * isn't proved, nor any of this of MSQ_RING. It is no limit: more may be left, about twice as many where seats keep nodes.
  * MSQ_OK or MSQ_NO_SEAT; refused, it writes nothing.
  */
-uint32_t msq_left(msq_seat *seat, msq_remaining *left);
+MSQ_NODISCARD uint32_t msq_left(msq_seat *seat, msq_remaining *left);
 
 /*
  * Both seats have then seen one history: what one did before, the other has seen.
@@ -229,16 +232,74 @@ uint32_t msq_meet(msq_seat *one, msq_seat *other);
  * while it was closed: all seats are then empty, and the queue goes on without them. No call gives a queue a further seat, so
  * this comes only where a duty above wasn't kept. When these last three come no clause says. Refused, it writes nothing.
  */
-uint32_t msq_close(msq_seat *seats, size_t seats_len, msq_value *values, size_t values_len, msq_rest *rest);
+MSQ_NODISCARD uint32_t msq_close(msq_seat *seats, size_t seats_len, msq_value *values, size_t values_len, msq_rest *rest);
 
 /* Drops a seat, which is empty afterwards. With the last seat of a queue its memory is freed, which is only tested. */
 void msq_drop(msq_seat *seat);
 
-#ifdef __cplusplus
-#define MSQ_INLINE inline
-#else
-#define MSQ_INLINE static inline
+#if defined(__SANITIZE_THREAD__)
+#define MSQ_THREAD_SANITIZER
+#elif defined(__has_feature)
+#if __has_feature(thread_sanitizer)
+#define MSQ_THREAD_SANITIZER
 #endif
+#endif
+
+#if defined(__SANITIZE_ADDRESS__)
+#define MSQ_ADDRESS_SANITIZER
+#elif defined(__has_feature)
+#if __has_feature(address_sanitizer)
+#define MSQ_ADDRESS_SANITIZER
+#endif
+#endif
+
+/* A call with these seats, of this queue where one is known, or with the seat of this block; `older` is one that began before it. */
+struct msq_call {
+    const msq_seat *seats, *end;
+    void *queue;
+    const void *block;
+    struct msq_call *older;
+};
+
+#if defined(MSQ_THREAD_SANITIZER)
+void __tsan_acquire(void *at);
+void __tsan_release(void *at);
+void __tsan_write_range(void *at, long bytes);
+#elif defined(MSQ_DEBUG)
+/* All calls that run, behind a lock: one list for the program, whichever of its files define it. */
+struct msq_calls {
+    bool locked;
+    struct msq_call *newest;
+};
+__attribute__((weak)) struct msq_calls msq_running = {false, NULL};
+#endif
+
+#ifdef __cplusplus
+}
+#endif
+
+/* What is inline differs by MSQ_DEBUG and by sanitizer: in C++ it is of a namespace for each, so that files of both can be linked. */
+#ifndef __cplusplus
+#define MSQ_INLINE static inline
+#define MSQ_BEGIN
+#define MSQ_END
+#else
+#define MSQ_INLINE inline
+#if defined(MSQ_THREAD_SANITIZER)
+#define MSQ_BEGIN inline namespace msq_with_threads {
+#elif defined(MSQ_DEBUG) && defined(MSQ_ADDRESS_SANITIZER)
+#define MSQ_BEGIN inline namespace msq_debug_with_addresses {
+#elif defined(MSQ_DEBUG)
+#define MSQ_BEGIN inline namespace msq_debug {
+#elif defined(MSQ_ADDRESS_SANITIZER)
+#define MSQ_BEGIN inline namespace msq_with_addresses {
+#else
+#define MSQ_BEGIN inline namespace msq_plain {
+#endif
+#define MSQ_END }
+#endif
+
+MSQ_BEGIN
 
 /* What a code says in a few words, as "the queue is shut"; of another number "no such code". */
 MSQ_INLINE const char *msq_strerror(uint32_t code);
@@ -248,6 +309,13 @@ MSQ_INLINE const char *msq_code_name(uint32_t code);
 
 /* The name of a kind, as "non-blocking"; of another number "no such kind". */
 MSQ_INLINE const char *msq_kind_name(uint32_t kind);
+
+/* Whether a code tells of a word that is worn for good. (MSQ_WORN_NEXT is of one node: push again.) */
+MSQ_INLINE bool msq_is_worn(uint32_t code);
+
+MSQ_INLINE bool msq_is_worn(uint32_t code) {
+    return code == MSQ_WORN_FREE || code == MSQ_WORN_TAIL || code == MSQ_WORN_HEAD;
+}
 
 MSQ_INLINE const char *msq_kind_name(uint32_t kind) {
     switch (kind) {
@@ -290,30 +358,6 @@ MSQ_INLINE const char *msq_code_name(uint32_t code) {
  * MSQ_DEBUG and the thread sanitizer msq_end does nothing, and msq_begin at most looks for dropped seats.
  */
 
-#if defined(__SANITIZE_THREAD__)
-#define MSQ_THREAD_SANITIZER
-#elif defined(__has_feature)
-#if __has_feature(thread_sanitizer)
-#define MSQ_THREAD_SANITIZER
-#endif
-#endif
-
-#if defined(__SANITIZE_ADDRESS__)
-#define MSQ_ADDRESS_SANITIZER
-#elif defined(__has_feature)
-#if __has_feature(address_sanitizer)
-#define MSQ_ADDRESS_SANITIZER
-#endif
-#endif
-
-/* A call with these seats, of this queue where one is known, or with the seat of this block; `older` is one that began before it. */
-struct msq_call {
-    const msq_seat *seats, *end;
-    void *queue;
-    const void *block;
-    struct msq_call *older;
-};
-
 /* Looks at the block of each full seat, where the address sanitizer is at work: it reports one that was dropped. */
 MSQ_INLINE void msq_touch(const msq_seat *seats, size_t seats_len) {
 #if defined(MSQ_ADDRESS_SANITIZER)
@@ -333,10 +377,6 @@ MSQ_INLINE void *msq_queue_of(const msq_seat *seat) {
 }
 
 #if defined(MSQ_THREAD_SANITIZER)
-
-void __tsan_acquire(void *at);
-void __tsan_release(void *at);
-void __tsan_write_range(void *at, long bytes);
 
 /* Says: what was done before a call began is seen after each call of its queue that ends later. All accesses are SeqCst. */
 MSQ_INLINE bool msq_begin(struct msq_call *call, msq_seat *seats, size_t seats_len) {
@@ -366,13 +406,6 @@ MSQ_INLINE void msq_last(struct msq_call *call) {
 }
 
 #elif defined(MSQ_DEBUG)
-
-/* All calls that run, behind a lock: one list for the program, whichever of its files define it. */
-struct msq_calls {
-    bool locked;
-    struct msq_call *newest;
-};
-__attribute__((weak)) struct msq_calls msq_running = {false, NULL};
 
 /* A call, up to this one, that uses one of these places; none, NULL. */
 MSQ_INLINE const struct msq_call *msq_call_at(const struct msq_call *newest, const msq_seat *seats, const msq_seat *end) {
@@ -450,8 +483,8 @@ MSQ_INLINE void msq_last(struct msq_call *call) {
 
 #endif
 
-MSQ_INLINE uint32_t msq_checked_create(uint32_t kind, uint32_t nodes, uint64_t limit, const uint8_t *roles,
-                                       size_t roles_len, msq_seat *seats, size_t seats_len) {
+MSQ_NODISCARD MSQ_INLINE uint32_t msq_checked_create(uint32_t kind, uint32_t nodes, uint64_t limit, const uint8_t *roles,
+                                                     size_t roles_len, msq_seat *seats, size_t seats_len) {
     struct msq_call call;
     if (!msq_begin(&call, seats, seats_len)) {
         return MSQ_TWO_CALLS;
@@ -461,7 +494,7 @@ MSQ_INLINE uint32_t msq_checked_create(uint32_t kind, uint32_t nodes, uint64_t l
     return code;
 }
 
-MSQ_INLINE uint32_t msq_checked_push(msq_seat *seat, uint64_t body, uint32_t turns) {
+MSQ_NODISCARD MSQ_INLINE uint32_t msq_checked_push(msq_seat *seat, uint64_t body, uint32_t turns) {
     struct msq_call call;
     if (!msq_begin(&call, seat, 1)) {
         return MSQ_TWO_CALLS;
@@ -471,7 +504,7 @@ MSQ_INLINE uint32_t msq_checked_push(msq_seat *seat, uint64_t body, uint32_t tur
     return code;
 }
 
-MSQ_INLINE uint32_t msq_checked_pop(msq_seat *seat, uint32_t turns, msq_value *value) {
+MSQ_NODISCARD MSQ_INLINE uint32_t msq_checked_pop(msq_seat *seat, uint32_t turns, msq_value *value) {
     struct msq_call call;
     if (!msq_begin(&call, seat, 1)) {
         return MSQ_TWO_CALLS;
@@ -481,7 +514,7 @@ MSQ_INLINE uint32_t msq_checked_pop(msq_seat *seat, uint32_t turns, msq_value *v
     return code;
 }
 
-MSQ_INLINE uint32_t msq_checked_shut(msq_seat *seat, uint32_t turns) {
+MSQ_NODISCARD MSQ_INLINE uint32_t msq_checked_shut(msq_seat *seat, uint32_t turns) {
     struct msq_call call;
     if (!msq_begin(&call, seat, 1)) {
         return MSQ_TWO_CALLS;
@@ -491,8 +524,8 @@ MSQ_INLINE uint32_t msq_checked_shut(msq_seat *seat, uint32_t turns) {
     return code;
 }
 
-MSQ_INLINE uint32_t msq_checked_push_all(msq_seat *seat, const uint64_t *bodies, size_t bodies_len, uint32_t turns,
-                                         size_t *pushed) {
+MSQ_NODISCARD MSQ_INLINE uint32_t msq_checked_push_all(msq_seat *seat, const uint64_t *bodies, size_t bodies_len,
+                                                       uint32_t turns, size_t *pushed) {
     struct msq_call call;
     *pushed = 0;
     if (!msq_begin(&call, seat, 1)) {
@@ -503,8 +536,8 @@ MSQ_INLINE uint32_t msq_checked_push_all(msq_seat *seat, const uint64_t *bodies,
     return code;
 }
 
-MSQ_INLINE uint32_t msq_checked_pop_up_to(msq_seat *seat, uint32_t turns, msq_value *values, size_t values_len,
-                                          size_t *popped) {
+MSQ_NODISCARD MSQ_INLINE uint32_t msq_checked_pop_up_to(msq_seat *seat, uint32_t turns, msq_value *values, size_t values_len,
+                                                        size_t *popped) {
     struct msq_call call;
     *popped = 0;
     if (!msq_begin(&call, seat, 1)) {
@@ -525,7 +558,7 @@ MSQ_INLINE uint32_t msq_checked_keep_nodes(msq_seat *seat, bool keeps) {
     return code;
 }
 
-MSQ_INLINE uint32_t msq_checked_emptiness(msq_seat *seat) {
+MSQ_NODISCARD MSQ_INLINE uint32_t msq_checked_emptiness(msq_seat *seat) {
     struct msq_call call;
     if (!msq_begin(&call, seat, 1)) {
         return MSQ_TWO_CALLS;
@@ -535,7 +568,7 @@ MSQ_INLINE uint32_t msq_checked_emptiness(msq_seat *seat) {
     return code;
 }
 
-MSQ_INLINE uint32_t msq_checked_len(msq_seat *seat, msq_length *length) {
+MSQ_NODISCARD MSQ_INLINE uint32_t msq_checked_len(msq_seat *seat, msq_length *length) {
     struct msq_call call;
     if (!msq_begin(&call, seat, 1)) {
         return MSQ_TWO_CALLS;
@@ -545,7 +578,7 @@ MSQ_INLINE uint32_t msq_checked_len(msq_seat *seat, msq_length *length) {
     return code;
 }
 
-MSQ_INLINE uint32_t msq_checked_left(msq_seat *seat, msq_remaining *left) {
+MSQ_NODISCARD MSQ_INLINE uint32_t msq_checked_left(msq_seat *seat, msq_remaining *left) {
     struct msq_call call;
     if (!msq_begin(&call, seat, 1)) {
         return MSQ_TWO_CALLS;
@@ -587,8 +620,8 @@ MSQ_INLINE bool msq_of_one_queue(const msq_seat *seats, size_t seats_len) {
     return true;
 }
 
-MSQ_INLINE uint32_t msq_checked_close(msq_seat *seats, size_t seats_len, msq_value *values, size_t values_len,
-                                   msq_rest *rest) {
+MSQ_NODISCARD MSQ_INLINE uint32_t msq_checked_close(msq_seat *seats, size_t seats_len, msq_value *values, size_t values_len,
+                                                    msq_rest *rest) {
     struct msq_call call;
     uint32_t code = MSQ_TWO_QUEUES;
     if (!msq_begin(&call, seats, seats_len)) {
@@ -612,9 +645,7 @@ MSQ_INLINE void msq_checked_drop(msq_seat *seat) {
     }
 }
 
-#ifdef __cplusplus
-}
-#endif
+MSQ_END
 
 #define msq_create(kind, nodes, limit, roles, roles_len, seats, seats_len)                                             \
     msq_checked_create(kind, nodes, limit, roles, roles_len, seats, seats_len)

@@ -1,5 +1,5 @@
 // The queues of msq.h for C++14 and later: seats that can be moved and not copied, that drop themselves, and whose calls sleep
-// where they are asked to. From C++17 on a pop also answers an optional value.
+// where they are asked to. What a call answers is true where it was done, and else has the code that says why not.
 #ifndef MSQ_HPP
 #define MSQ_HPP
 
@@ -8,13 +8,23 @@
 #include <algorithm>
 #include <chrono>
 #include <memory>
-#if __cplusplus >= 201703L
-#include <optional>
-#endif
+#include <new>
+#include <type_traits>
 #include <utility>
 #include <vector>
+#if defined(__cpp_exceptions)
+#include <stdexcept>
+#endif
+
+// What is to be looked at, in C++.
+#if __cplusplus >= 201703L || !defined(__clang__)
+#define MSQ_TO_BE_SEEN [[nodiscard]]
+#else
+#define MSQ_TO_BE_SEEN __attribute__((warn_unused_result))
+#endif
 
 namespace msq {
+MSQ_BEGIN
 
 enum class kind : uint32_t { non_blocking = MSQ_NON_BLOCKING, two_lock = MSQ_TWO_LOCK, ring = MSQ_RING };
 enum class role : uint8_t { giver = MSQ_GIVER, taker = MSQ_TAKER, both = MSQ_BOTH };
@@ -47,18 +57,96 @@ inline msq_code end_of(std::vector<msq_seat> &raw, std::vector<msq_value> &left,
     return static_cast<msq_code>((msq_close)(raw.data(), raw.size(), left.data(), left.size(), &rest));
 }
 
-#if __cplusplus >= 201703L
-// What a pop answers, and the value, which is there exactly at MSQ_OK.
-using popped = std::pair<msq_code, std::optional<msq_value>>;
+} // namespace detail
 
-template <class Call> popped pop_by(Call call) noexcept {
-    msq_value value{};
-    const msq_code code = call(value);
-    return {code, code == MSQ_OK ? std::optional<msq_value>(value) : std::nullopt};
-}
+#if defined(__cpp_exceptions)
+// A call was refused: why, by a code of msq.h.
+class refused : public std::runtime_error {
+public:
+    explicit refused(msq_code code) : std::runtime_error(msq_strerror(code)), code_(code) {}
+    msq_code code() const noexcept { return code_; }
+
+private:
+    msq_code code_;
+};
 #endif
 
-} // namespace detail
+// What a call answers: true where it was done; else why not.
+class result {
+public:
+    explicit result(uint32_t code) noexcept : code_(static_cast<msq_code>(code)) {}
+    explicit operator bool() const noexcept { return code_ == MSQ_OK; }
+    msq_code code() const noexcept { return code_; }
+    friend bool operator==(const result &one, msq_code code) noexcept { return one.code_ == code; }
+    friend bool operator!=(const result &one, msq_code code) noexcept { return one.code_ != code; }
+#if defined(__cpp_exceptions)
+    // Throws refused unless it was done.
+    void check() const {
+        if (code_ != MSQ_OK) {
+            throw refused(code_);
+        }
+    }
+#endif
+
+protected:
+    msq_code code_;
+};
+
+// What a pop answers: true where there is a value, which * and -> tell; else why there is none.
+template <class T> class MSQ_TO_BE_SEEN popped : public result {
+public:
+    popped(popped &&other) noexcept(std::is_nothrow_move_constructible<T>::value) : result(other) {
+        if (other) {
+            ::new (static_cast<void *>(raw_)) T(std::move(*other));
+        }
+    }
+    popped &operator=(popped &&) = delete;
+    ~popped() { end(); }
+
+    T &operator*() & noexcept { return *reinterpret_cast<T *>(raw_); }
+    const T &operator*() const & noexcept { return *reinterpret_cast<const T *>(raw_); }
+    T &&operator*() && noexcept { return std::move(*reinterpret_cast<T *>(raw_)); }
+    T *operator->() noexcept { return reinterpret_cast<T *>(raw_); }
+#if defined(__cpp_exceptions)
+    // The value; throws refused where there is none.
+    T &value() & { return check(), **this; }
+    T &&value() && { return check(), std::move(**this); }
+#endif
+
+private:
+    template <class> friend class queue;
+    friend class seat;
+    friend class lease;
+
+    popped() noexcept : result(MSQ_EMPTY) {}
+    // `pop` answers a code, and hands a value to what it gets where that is MSQ_OK.
+    template <class Pop> popped &by(Pop pop) {
+        end();
+        code_ = pop([this](T &&value) { ::new (static_cast<void *>(raw_)) T(std::move(value)); }).code();
+        return *this;
+    }
+    // A pop into a value.
+    template <class Pop> static popped of(Pop pop) {
+        T value{};
+        popped found;
+        found.by([&](auto fill) {
+            const result told = pop(value);
+            if (told) {
+                fill(std::move(value));
+            }
+            return told;
+        });
+        return found;
+    }
+    void end() noexcept {
+        if (*this) {
+            code_ = MSQ_EMPTY;
+            (**this).~T();
+        }
+    }
+
+    alignas(T) unsigned char raw_[sizeof(T)];
+};
 
 struct closed;
 
@@ -80,79 +168,64 @@ public:
     ~seat() { msq_drop(&raw_); }
 
     // These wake who sleeps, and don't sleep.
-    msq_code try_push(uint64_t body, uint32_t turns = 8) noexcept {
+    MSQ_TO_BE_SEEN result try_push(uint64_t body, uint32_t turns = 8) noexcept {
         return answer([&] { return msq_push_wake(&raw_, bells(), body, turns); });
     }
-    msq_code try_pop(msq_value &value, uint32_t turns = 8) noexcept {
+    MSQ_TO_BE_SEEN result try_pop(msq_value &value, uint32_t turns = 8) noexcept {
         return answer([&] { return msq_pop_wake(&raw_, bells(), turns, &value); });
     }
-    msq_code try_shut(uint32_t turns = 8) noexcept {
+    MSQ_TO_BE_SEEN result try_shut(uint32_t turns = 8) noexcept {
         return answer([&] { return msq_shut_wake(&raw_, bells(), turns); });
     }
 
     // Many at one call, as msq_push_all and msq_pop_up_to, over a ring by few steps: how many were pushed, or popped, is told.
-    msq_code try_push_all(const uint64_t *bodies, size_t bodies_len, size_t &count, uint32_t turns = 8) noexcept {
+    MSQ_TO_BE_SEEN result try_push_all(const uint64_t *bodies, size_t bodies_len, size_t &count, uint32_t turns = 8) noexcept {
         count = 0;
         return answer([&] { return msq_push_all_wake(&raw_, bells(), bodies, bodies_len, turns, &count); });
     }
-    msq_code try_pop_up_to(msq_value *values, size_t values_len, size_t &count, uint32_t turns = 8) noexcept {
+    MSQ_TO_BE_SEEN result try_pop_up_to(msq_value *values, size_t values_len, size_t &count, uint32_t turns = 8) noexcept {
         count = 0;
         return answer([&] { return msq_pop_up_to_wake(&raw_, bells(), turns, values, values_len, &count); });
     }
 
     // These sleep while the queue is full, or empty: as long as it takes, or for some time, and then look once more.
-    msq_code push_wait(uint64_t body) noexcept {
+    MSQ_TO_BE_SEEN result push_wait(uint64_t body) noexcept {
         return answer([&] { return msq_push_wait(&raw_, bells(), body); });
     }
     template <class Rep, class Period>
-    msq_code push_wait_for(uint64_t body, std::chrono::duration<Rep, Period> time) noexcept {
+    MSQ_TO_BE_SEEN result push_wait_for(uint64_t body, std::chrono::duration<Rep, Period> time) noexcept {
         return answer([&] { return msq_push_wait_for(&raw_, bells(), body, detail::nanoseconds(time)); });
     }
-    msq_code pop_wait(msq_value &value) noexcept {
+    MSQ_TO_BE_SEEN result pop_wait(msq_value &value) noexcept {
         return answer([&] { return msq_pop_wait(&raw_, bells(), &value); });
     }
     template <class Rep, class Period>
-    msq_code pop_wait_for(msq_value &value, std::chrono::duration<Rep, Period> time) noexcept {
+    MSQ_TO_BE_SEEN result pop_wait_for(msq_value &value, std::chrono::duration<Rep, Period> time) noexcept {
         return answer([&] { return msq_pop_wait_for(&raw_, bells(), detail::nanoseconds(time), &value); });
     }
 
+    // The same, with the value in what they answer.
+    popped<msq_value> try_pop(uint32_t turns = 8) noexcept {
+        return popped<msq_value>::of([&](msq_value &value) { return try_pop(value, turns); });
+    }
+    popped<msq_value> pop_wait() noexcept {
+        return popped<msq_value>::of([&](msq_value &value) { return pop_wait(value); });
+    }
+    template <class Rep, class Period> popped<msq_value> pop_wait_for(std::chrono::duration<Rep, Period> time) noexcept {
+        return popped<msq_value>::of([&](msq_value &value) { return pop_wait_for(value, time); });
+    }
+
     // Whether the seat, which may push and pop, keeps the node that its pop frees for its next push.
-    msq_code keep_nodes(bool keeps) noexcept { return static_cast<msq_code>(msq_keep_nodes(&raw_, keeps)); }
+    result keep_nodes(bool keeps) noexcept { return result(msq_keep_nodes(&raw_, keeps)); }
 
     // MSQ_OK where the queue holds a value, else MSQ_EMPTY, MSQ_CLOSED or MSQ_BUSY.
-    msq_code emptiness() noexcept { return static_cast<msq_code>(msq_emptiness(&raw_)); }
+    MSQ_TO_BE_SEEN msq_code emptiness() noexcept { return static_cast<msq_code>(msq_emptiness(&raw_)); }
     // The bounds are there exactly at MSQ_OK.
-    msq_code len(msq_length &length) noexcept { return static_cast<msq_code>(msq_len(&raw_, &length)); }
+    MSQ_TO_BE_SEEN result len(msq_length &length) noexcept { return result(msq_len(&raw_, &length)); }
     // What is left is there exactly at MSQ_OK.
-    msq_code left(msq_remaining &left) noexcept { return static_cast<msq_code>(msq_left(&raw_, &left)); }
+    MSQ_TO_BE_SEEN result left(msq_remaining &left) noexcept { return result(msq_left(&raw_, &left)); }
 
-#if __cplusplus >= 201703L
-    // The value is there exactly at MSQ_OK.
-    using popped = detail::popped;
-
-    popped try_pop(uint32_t turns = 8) noexcept {
-        return detail::pop_by([&](msq_value &value) { return try_pop(value, turns); });
-    }
-    popped pop_wait() noexcept {
-        return detail::pop_by([&](msq_value &value) { return pop_wait(value); });
-    }
-    template <class Rep, class Period> popped pop_wait_for(std::chrono::duration<Rep, Period> time) noexcept {
-        return detail::pop_by([&](msq_value &value) { return pop_wait_for(value, time); });
-    }
-    // The bounds, and what is left, are there exactly at MSQ_OK.
-    std::pair<msq_code, std::optional<msq_length>> len() noexcept {
-        msq_length length{};
-        auto code = len(length);
-        return {code, code == MSQ_OK ? std::optional<msq_length>(length) : std::nullopt};
-    }
-    std::pair<msq_code, std::optional<msq_remaining>> left() noexcept {
-        msq_remaining remaining{};
-        auto code = left(remaining);
-        return {code, code == MSQ_OK ? std::optional<msq_remaining>(remaining) : std::nullopt};
-    }
-#endif
-
-    msq_code meet(seat &other) noexcept { return static_cast<msq_code>(msq_meet(&raw_, &other.raw_)); }
+    result meet(seat &other) noexcept { return result(msq_meet(&raw_, &other.raw_)); }
     explicit operator bool() const noexcept { return raw_.full; }
 
 private:
@@ -161,9 +234,7 @@ private:
     friend closed close(std::vector<seat> &);
 
     msq_bells *bells() noexcept { return &shared_->bells; }
-    template <class Call> msq_code answer(Call call) noexcept {
-        return shared_ ? static_cast<msq_code>(call()) : MSQ_NO_SEAT;
-    }
+    template <class Call> result answer(Call call) noexcept { return result(shared_ ? call() : uint32_t(MSQ_NO_SEAT)); }
 
     msq_seat raw_{};
     std::shared_ptr<detail::shared> shared_;
@@ -233,6 +304,7 @@ inline closed close(std::vector<seat> &seats) {
     return close(seats, one != seats.end() ? one->shared_->room : 0);
 }
 
+MSQ_END
 } // namespace msq
 
 #endif

@@ -9,6 +9,7 @@
 #include <memory>
 
 namespace msq {
+MSQ_BEGIN
 
 // A seat that was leased. One thread calls it at a time; it may be moved to another thread, and gives its seat back at its end.
 class lease {
@@ -28,45 +29,41 @@ public:
     }
 
     // The calls of a seat, but for those of many, keep_nodes and looks. Of a lease that holds none they answer MSQ_NO_SEAT.
-    msq_code try_push(uint64_t body, uint32_t turns = 8) noexcept {
+    MSQ_TO_BE_SEEN result try_push(uint64_t body, uint32_t turns = 8) noexcept {
         return answer([&] { return msq_push_wake(raw_, bells(), body, turns); });
     }
-    msq_code try_pop(msq_value &value, uint32_t turns = 8) noexcept {
+    MSQ_TO_BE_SEEN result try_pop(msq_value &value, uint32_t turns = 8) noexcept {
         return answer([&] { return msq_pop_wake(raw_, bells(), turns, &value); });
     }
-    msq_code try_shut(uint32_t turns = 8) noexcept {
+    MSQ_TO_BE_SEEN result try_shut(uint32_t turns = 8) noexcept {
         return answer([&] { return msq_shut_wake(raw_, bells(), turns); });
     }
-    msq_code push_wait(uint64_t body) noexcept {
+    MSQ_TO_BE_SEEN result push_wait(uint64_t body) noexcept {
         return answer([&] { return msq_push_wait(raw_, bells(), body); });
     }
     template <class Rep, class Period>
-    msq_code push_wait_for(uint64_t body, std::chrono::duration<Rep, Period> time) noexcept {
+    MSQ_TO_BE_SEEN result push_wait_for(uint64_t body, std::chrono::duration<Rep, Period> time) noexcept {
         return answer([&] { return msq_push_wait_for(raw_, bells(), body, detail::nanoseconds(time)); });
     }
-    msq_code pop_wait(msq_value &value) noexcept {
+    MSQ_TO_BE_SEEN result pop_wait(msq_value &value) noexcept {
         return answer([&] { return msq_pop_wait(raw_, bells(), &value); });
     }
     template <class Rep, class Period>
-    msq_code pop_wait_for(msq_value &value, std::chrono::duration<Rep, Period> time) noexcept {
+    MSQ_TO_BE_SEEN result pop_wait_for(msq_value &value, std::chrono::duration<Rep, Period> time) noexcept {
         return answer([&] { return msq_pop_wait_for(raw_, bells(), detail::nanoseconds(time), &value); });
     }
-#if __cplusplus >= 201703L
-    // The value is there exactly at MSQ_OK.
-    using popped = detail::popped;
-
-    popped try_pop(uint32_t turns = 8) noexcept {
-        return detail::pop_by([&](msq_value &value) { return try_pop(value, turns); });
+    // The same, with the value in what they answer.
+    popped<msq_value> try_pop(uint32_t turns = 8) noexcept {
+        return popped<msq_value>::of([&](msq_value &value) { return try_pop(value, turns); });
     }
-    popped pop_wait() noexcept {
-        return detail::pop_by([&](msq_value &value) { return pop_wait(value); });
+    popped<msq_value> pop_wait() noexcept {
+        return popped<msq_value>::of([&](msq_value &value) { return pop_wait(value); });
     }
-    template <class Rep, class Period> popped pop_wait_for(std::chrono::duration<Rep, Period> time) noexcept {
-        return detail::pop_by([&](msq_value &value) { return pop_wait_for(value, time); });
+    template <class Rep, class Period> popped<msq_value> pop_wait_for(std::chrono::duration<Rep, Period> time) noexcept {
+        return popped<msq_value>::of([&](msq_value &value) { return pop_wait_for(value, time); });
     }
-#endif
-    msq_code meet(lease &other) noexcept {
-        return raw_ && other.raw_ ? static_cast<msq_code>(msq_meet(raw_, other.raw_)) : MSQ_NO_SEAT;
+    result meet(lease &other) noexcept {
+        return result(raw_ && other.raw_ ? msq_meet(raw_, other.raw_) : uint32_t(MSQ_NO_SEAT));
     }
     explicit operator bool() const noexcept { return raw_ != nullptr; }
 
@@ -74,11 +71,9 @@ private:
     friend class seat_pool;
 
     msq_bells *bells() noexcept { return &home_->bells; }
-    template <class Call> msq_code answer(Call call) noexcept {
-        return raw_ ? static_cast<msq_code>(call()) : MSQ_NO_SEAT;
-    }
-    lease(std::shared_ptr<msq_queue> home, msq_seat *raw) noexcept : home_(std::move(home)), raw_(raw) {}
-    std::shared_ptr<msq_queue> home_;
+    template <class Call> result answer(Call call) noexcept { return result(raw_ ? call() : uint32_t(MSQ_NO_SEAT)); }
+    lease(std::shared_ptr<msq_seat_pool> home, msq_seat *raw) noexcept : home_(std::move(home)), raw_(raw) {}
+    std::shared_ptr<msq_seat_pool> home_;
     msq_seat *raw_ = nullptr;
 };
 
@@ -89,11 +84,11 @@ public:
     static std::pair<msq_code, seat_pool> create(kind kind, uint32_t nodes, const std::vector<role> &roles,
                                              uint64_t limit = MSQ_MOST_COUNT) {
         seat_pool made;
-        made.home_ = {new msq_queue{}, [](msq_queue *home) {
-                          msq_queue_drop(home);
+        made.home_ = {new msq_seat_pool{}, [](msq_seat_pool *home) {
+                          msq_seat_pool_drop(home);
                           delete home;
                       }};
-        auto code = static_cast<msq_code>(msq_queue_create(made.home_.get(), static_cast<uint32_t>(kind), nodes, limit,
+        auto code = static_cast<msq_code>(msq_seat_pool_create(made.home_.get(), static_cast<uint32_t>(kind), nodes, limit,
                                                            reinterpret_cast<const uint8_t *>(roles.data()),
                                                            roles.size()));
         return {code, code == MSQ_OK ? std::move(made) : seat_pool{}};
@@ -112,7 +107,7 @@ public:
         closed found{MSQ_NO_SEAT, msq_rest{}, std::vector<msq_value>(room), 0};
         if (home_) {
             found.code = static_cast<msq_code>(
-                msq_queue_close(home_.get(), found.left.data(), found.left.size(), &found.rest));
+                msq_seat_pool_close(home_.get(), found.left.data(), found.left.size(), &found.rest));
         }
         found.left.resize(static_cast<size_t>(std::min<uint64_t>(found.rest.left, room)));
         found.lost = found.rest.left - found.left.size();
@@ -123,9 +118,10 @@ public:
     closed close() { return close(home_ ? home_->room : 0); }
 
 private:
-    std::shared_ptr<msq_queue> home_;
+    std::shared_ptr<msq_seat_pool> home_;
 };
 
+MSQ_END
 } // namespace msq
 
 #endif

@@ -28,12 +28,9 @@
 #include <new>
 #include <type_traits>
 #include <utility>
-#if defined(__cpp_exceptions)
-#include <stdexcept>
-#include <string>
-#endif
 
 namespace msq {
+MSQ_BEGIN
 
 // Whether a value may be moved by its bytes alone, as if what is left of it were not there. Specialize it for a type of yours.
 template <class T> struct is_trivially_relocatable : std::is_trivially_copyable<T> {};
@@ -51,70 +48,21 @@ struct lies_in_place : std::integral_constant<bool, is_trivially_relocatable<T>:
 template <class T>
 struct is_number : std::integral_constant<bool, (std::is_arithmetic<T>::value || std::is_enum<T>::value) && sizeof(T) <= 6> {};
 
-// How long a push or a pop may sleep: none, or so many nanoseconds.
-struct patience {
-    bool waits;
-    uint64_t ns;
-};
-
-// A queue of one word, and one of three. What is left of it goes to the `destroy_one` of how its values pass.
-struct one_word {
-    using words = uint64_t;
-    static uint32_t open(msq_queue *home, uint32_t kind, uint32_t capacity, uint16_t threads) noexcept {
-        return msq_word_open(home, kind, capacity, threads);
-    }
-    static uint32_t push(msq_queue *home, words word, patience how) noexcept {
-        return how.waits ? msq_word_queue_push_wait_for(home, word, how.ns) : msq_word_queue_push(home, word);
-    }
-    static uint32_t pop(msq_queue *home, words &word, patience how) noexcept {
-        return how.waits ? msq_word_queue_pop_wait_for(home, &word, how.ns) : msq_word_queue_pop(home, &word);
-    }
-    static uint32_t shut(msq_queue *home) noexcept { return msq_word_queue_shut(home); }
-    static uint32_t emptiness(msq_queue *home) noexcept { return msq_word_queue_emptiness(home); }
-    static uint32_t len(msq_queue *home, msq_length *length) noexcept { return msq_word_queue_len(home, length); }
-    template <class How> static void destroy(msq_queue *home) noexcept {
-        msq_word_destroy(home, [](uint64_t word, void *) { How::destroy_one(word); }, nullptr);
-    }
-};
-struct three_words {
-    using words = msq_words;
-    static uint32_t open(msq_queue *home, uint32_t kind, uint32_t capacity, uint16_t threads) noexcept {
-        return msq_words_open(home, kind, capacity, threads);
-    }
-    static uint32_t push(msq_queue *home, const words &all, patience how) noexcept {
-        return how.waits ? msq_words_queue_push_wait_for(home, &all, how.ns) : msq_words_queue_push(home, &all);
-    }
-    static uint32_t pop(msq_queue *home, words &all, patience how) noexcept {
-        return how.waits ? msq_words_queue_pop_wait_for(home, &all, how.ns) : msq_words_queue_pop(home, &all);
-    }
-    static uint32_t shut(msq_queue *home) noexcept { return msq_words_queue_shut(home); }
-    static uint32_t emptiness(msq_queue *home) noexcept { return msq_words_queue_emptiness(home); }
-    static uint32_t len(msq_queue *home, msq_length *length) noexcept { return msq_words_queue_len(home, length); }
-    template <class How> static void destroy(msq_queue *home) noexcept {
-        msq_words_destroy(home, [](const msq_words *all, void *) { How::destroy_one(*all); }, nullptr);
-    }
-};
-
-// The queue of words in which values of this type lie.
-template <class T> using width_of = std::conditional_t<sizeof(T) <= sizeof(uint64_t), one_word, three_words>;
-
-// Values that pass as the words that their bytes are.
+// Values that pass as the words that their bytes are. (As of each way below: a push or a pop that has no time doesn't sleep.)
 template <class T> struct by_words {
-    using width = width_of<T>;
-    using words = typename width::words;
+    using words = std::conditional_t<sizeof(T) <= sizeof(uint64_t), uint64_t, msq_words>;
+    using item = std::conditional_t<sizeof(T) <= sizeof(uint64_t), msq_value, msq_item>;
 
-    static uint32_t open(msq_queue *home, uint32_t kind, uint32_t capacity, uint16_t threads) noexcept {
-        return width::open(home, kind, capacity, threads);
-    }
+    static const msq_width *width() noexcept { return sizeof(T) <= sizeof(uint64_t) ? msq_one() : msq_three(); }
 
     // The value stays where it isn't pushed; else its bytes are the queue's.
-    static uint32_t push(msq_queue *home, T &value, patience how) {
+    static uint32_t push(msq_seat_pool *seats, T &value, uint64_t ns) {
         // (bytes that a move leaves as they are, as of a type without any, are zeros)
         alignas(T) unsigned char raw[sizeof(T)] = {};
         T *moved = ::new (static_cast<void *>(raw)) T(std::move(value));
         words all{};
         std::memcpy(&all, raw, sizeof raw);
-        const uint32_t code = width::push(home, all, how);
+        const uint32_t code = msq_pool_call(width(), seats, &all, nullptr, ns);
         if (code != MSQ_OK) {
             struct ender {
                 T *value;
@@ -125,67 +73,57 @@ template <class T> struct by_words {
         return code;
     }
 
-    template <class Use> static uint32_t pop(msq_queue *home, patience how, Use use) {
-        words all{};
-        const uint32_t code = width::pop(home, all, how);
+    template <class Use> static uint32_t pop(msq_seat_pool *seats, uint64_t ns, Use use) {
+        item all{};
+        const uint32_t code = msq_pool_call(width(), seats, nullptr, &all, ns);
         if (code == MSQ_OK) {
-            let_go(all, use);
+            let_go(&all, use);
         }
         return code;
     }
 
-    static uint32_t shut(msq_queue *home) noexcept { return width::shut(home); }
-    static void destroy(msq_queue *home) noexcept { width::template destroy<by_words>(home); }
-    static uint32_t emptiness(msq_queue *home) noexcept { return width::emptiness(home); }
-    static uint32_t len(msq_queue *home, msq_length *length) noexcept { return width::len(home, length); }
-    static uint32_t left(msq_queue *, msq_remaining *) noexcept { return MSQ_UNCOUNTED; }
-    static void destroy_one(const words &all) noexcept {
-        let_go(all, [](T &&) {});
+    static uint32_t left(msq_seat_pool *, msq_remaining *) noexcept { return MSQ_UNCOUNTED; }
+    static void end_one(const void *item, const void *) noexcept {
+        let_go(item, [](T &&) {});
     }
 
 private:
     // The value with these bytes, which ends once it was used.
-    template <class Use> static void let_go(const words &all, Use use) {
+    template <class Use> static void let_go(const void *item, Use use) {
         struct held {
             alignas(T) unsigned char raw[sizeof(T)];
             T &value() noexcept { return *reinterpret_cast<T *>(raw); }
             ~held() { value().~T(); }
         };
         held it;
-        std::memcpy(it.raw, &all, sizeof it.raw);
+        std::memcpy(it.raw, item, sizeof it.raw);
         use(std::move(it.value()));
     }
 };
 
 // Values that pass as the number that their bytes are: of up to six of them, or addresses, which are below 2^48.
 template <class T> struct by_numbers {
-    static uint32_t open(msq_queue *home, uint32_t kind, uint32_t capacity, uint16_t threads) noexcept {
-        return msq_queue_open(home, kind, capacity, threads);
-    }
+    static const msq_width *width() noexcept { return msq_numbers(); }
 
-    static uint32_t push(msq_queue *home, T &value, patience how) {
-        uintptr_t number = 0;
+    static uint32_t push(msq_seat_pool *seats, T &value, uint64_t ns) {
+        uint64_t number = 0;
         std::memcpy(&number, &value, sizeof value);
-        void *body = reinterpret_cast<void *>(number);
-        return how.waits ? msq_queue_push_wait_for(home, body, how.ns) : msq_queue_push(home, body);
+        return msq_pool_call(width(), seats, &number, nullptr, ns);
     }
 
-    template <class Use> static uint32_t pop(msq_queue *home, patience how, Use use) {
-        void *body = nullptr;
-        const uint32_t code = how.waits ? msq_queue_pop_wait_for(home, &body, how.ns) : msq_queue_pop(home, &body);
+    template <class Use> static uint32_t pop(msq_seat_pool *seats, uint64_t ns, Use use) {
+        msq_value found{};
+        const uint32_t code = msq_pool_call(width(), seats, nullptr, &found, ns);
         if (code == MSQ_OK) {
             T value;
-            std::memcpy(&value, &body, sizeof value);
+            std::memcpy(&value, &found.body, sizeof value);
             use(std::move(value));
         }
         return code;
     }
 
-    static uint32_t shut(msq_queue *home) noexcept { return msq_queue_shut(home); }
-    static void destroy(msq_queue *home) noexcept { msq_destroy(home, nullptr, nullptr); }
-    static uint32_t emptiness(msq_queue *home) noexcept { return msq_queue_emptiness(home); }
-    static uint32_t len(msq_queue *home, msq_length *length) noexcept { return msq_queue_len(home, length); }
-    static uint32_t left(msq_queue *home, msq_remaining *left) noexcept { return msq_queue_left(home, left); }
+    static uint32_t left(msq_seat_pool *seats, msq_remaining *left) noexcept { return msq_pool_left(seats, left); }
+    static void end_one(const void *, const void *) noexcept {}
 };
 
 // Values that pass in boxes, by their addresses. A box is of the global new and delete, whatever its type has of its own.
@@ -195,16 +133,15 @@ template <class T> struct by_boxes {
     };
     using box_of = std::unique_ptr<T, freed>;
 
-    static uint32_t open(msq_queue *home, uint32_t kind, uint32_t capacity, uint16_t threads) noexcept {
-        return msq_queue_open(home, kind, capacity, threads);
-    }
+    static const msq_width *width() noexcept { return msq_numbers(); }
 
-    static uint32_t push(msq_queue *home, T &value, patience how) {
+    static uint32_t push(msq_seat_pool *seats, T &value, uint64_t ns) {
         box_of box(::new (std::nothrow) T(std::move(value)));
         if (box == nullptr) {
             return MSQ_MEMORY;
         }
-        const uint32_t code = how.waits ? msq_queue_push_wait_for(home, box.get(), how.ns) : msq_queue_push(home, box.get());
+        const uint64_t body = reinterpret_cast<uintptr_t>(box.get());
+        const uint32_t code = msq_pool_call(width(), seats, &body, nullptr, ns);
         if (code == MSQ_OK) {
             box.release();
         } else {
@@ -213,24 +150,21 @@ template <class T> struct by_boxes {
         return code;
     }
 
-    template <class Use> static uint32_t pop(msq_queue *home, patience how, Use use) {
-        void *object = nullptr;
-        const uint32_t code = how.waits ? msq_queue_pop_wait_for(home, &object, how.ns) : msq_queue_pop(home, &object);
-        box_of box(static_cast<T *>(object));
-        if (box != nullptr) {
+    template <class Use> static uint32_t pop(msq_seat_pool *seats, uint64_t ns, Use use) {
+        msq_value found{};
+        const uint32_t code = msq_pool_call(width(), seats, nullptr, &found, ns);
+        if (code == MSQ_OK) {
+            box_of box(as(found.body));
             use(std::move(*box));
         }
         return code;
     }
 
-    static uint32_t shut(msq_queue *home) noexcept { return msq_queue_shut(home); }
-    static void destroy(msq_queue *home) noexcept { msq_destroy(home, destroy_one, nullptr); }
-    static uint32_t emptiness(msq_queue *home) noexcept { return msq_queue_emptiness(home); }
-    static uint32_t len(msq_queue *home, msq_length *length) noexcept { return msq_queue_len(home, length); }
-    static uint32_t left(msq_queue *home, msq_remaining *left) noexcept { return msq_queue_left(home, left); }
+    static uint32_t left(msq_seat_pool *seats, msq_remaining *left) noexcept { return msq_pool_left(seats, left); }
+    static void end_one(const void *item, const void *) noexcept { freed()(as(*static_cast<const uint64_t *>(item))); }
 
 private:
-    static void destroy_one(void *object, void *) noexcept { freed()(static_cast<T *>(object)); }
+    static T *as(uint64_t body) noexcept { return reinterpret_cast<T *>(static_cast<uintptr_t>(body)); }
 };
 
 // How values pass through a ring, and through a queue of another kind. There is no ring of words.
@@ -240,44 +174,30 @@ template <class T>
 using by_nodes = std::conditional_t<is_number<T>::value, by_numbers<T>,
                                     std::conditional_t<lies_in_place<T>::value, by_words<T>, by_boxes<T>>>;
 
-// A queue, and whether it is a ring.
+// A queue by its seats, and whether it is a ring.
 struct home {
-    msq_queue queue;
+    msq_seat_pool seats;
     bool is_ring;
 };
 
 // A call of a queue, in the way in which its values pass.
 template <class T, class Call> auto passed(home &home, Call call) {
-    return home.is_ring ? call(by_ring<T>(), &home.queue) : call(by_nodes<T>(), &home.queue);
+    return home.is_ring ? call(by_ring<T>(), &home.seats) : call(by_nodes<T>(), &home.seats);
 }
 
 } // namespace detail
 
-#if defined(__cpp_exceptions)
-// A call was refused: why, by a code of msq.h.
-class refused : public std::runtime_error {
-public:
-    explicit refused(msq_code code) : std::runtime_error(msq_strerror(code)), code_(code) {}
-    msq_code code() const noexcept { return code_; }
-
-private:
-    msq_code code_;
-};
-#endif
-
-// A queue of values. It may be moved while no other call uses it. A ring of pointers takes
-// only those below 2^48: a push of any other answers MSQ_BAD_SIZE.
+// A queue of values. It may be moved while no other call uses it, and be destroyed while none does but pushes whose values were
+// popped, and a close that a pop was told of: it waits until these have rung. A ring of pointers takes only those below 2^48: a push
+// of any other answers MSQ_BAD_SIZE.
 template <class T> class queue {
-    using patience = detail::patience;
-
     struct ender {
         void operator()(detail::home *home) const noexcept {
 #if !defined(__cpp_aligned_new)
             static_assert(alignof(T) <= alignof(std::max_align_t), "a value of a greater alignment wants C++17");
 #endif
-            detail::passed<T>(*home, [](auto how, msq_queue *at) {
-                how.destroy(at);
-                return 0;
+            detail::passed<T>(*home, [](auto how, msq_seat_pool *at) {
+                return msq_pool_destroy(how.width(), at, how.end_one, nullptr);
             });
             delete home;
         }
@@ -303,128 +223,99 @@ public:
         made.home_.reset(new (std::nothrow) detail::home{});
         if (made.home_ != nullptr) {
             made.home_->is_ring = kind == kind::ring;
-            code = made.call([&](auto how, msq_queue *at) {
-                return how.open(at, static_cast<uint32_t>(kind), capacity, threads);
+            const auto told = made.call([&](auto how, msq_seat_pool *at) {
+                return msq_pool_open(how.width(), at, static_cast<uint32_t>(kind), capacity, threads);
             });
+            code = told.code();
         }
         return {code, code == MSQ_OK ? std::move(made) : queue()};
     }
 
     explicit operator bool() const noexcept { return home_ != nullptr; }
 
-    // Pushes a value, which stays as it was unless it answers MSQ_OK: MSQ_NO_NODE where the queue is full, MSQ_CLOSED,
+    // Pushes a value, which stays as it was unless that is done: else MSQ_NO_NODE where the queue is full, MSQ_CLOSED,
     // MSQ_BUSY, MSQ_MEMORY where there is none for a box, MSQ_BAD_SIZE of a pointer that a ring doesn't take, or a worn word.
-    msq_code try_push(T &&value) { return give(value, {false, 0}); }
-    msq_code try_push(const T &value) {
+    MSQ_TO_BE_SEEN result try_push(T &&value) { return give(value, 0); }
+    MSQ_TO_BE_SEEN result try_push(const T &value) {
         T copy(value);
         return try_push(std::move(copy));
     }
 
     // The same, and sleeps while the queue is full: as long as it takes, or for some time.
-    msq_code push_wait(T &&value) { return give(value, {true, MSQ_FOREVER}); }
-    msq_code push_wait(const T &value) {
+    MSQ_TO_BE_SEEN result push_wait(T &&value) { return give(value, MSQ_FOREVER); }
+    MSQ_TO_BE_SEEN result push_wait(const T &value) {
         T copy(value);
         return push_wait(std::move(copy));
     }
-    template <class Rep, class Period> msq_code push_wait_for(T &&value, std::chrono::duration<Rep, Period> time) {
-        return give(value, {true, detail::nanoseconds(time)});
+    template <class Rep, class Period>
+    MSQ_TO_BE_SEEN result push_wait_for(T &&value, std::chrono::duration<Rep, Period> time) {
+        return give(value, detail::nanoseconds(time));
     }
-    template <class Rep, class Period> msq_code push_wait_for(const T &value, std::chrono::duration<Rep, Period> time) {
+    template <class Rep, class Period>
+    MSQ_TO_BE_SEEN result push_wait_for(const T &value, std::chrono::duration<Rep, Period> time) {
         T copy(value);
         return push_wait_for(std::move(copy), time);
     }
 
-    // Pops the value at the front into `value`, which stays as it was unless it answers MSQ_OK: MSQ_EMPTY, MSQ_CLOSED where the
+    // Pops the value at the front into `value`, which stays as it was unless that is done: else MSQ_EMPTY, MSQ_CLOSED where the
     // queue is closed and empty, MSQ_BUSY, or a worn word.
-    msq_code try_pop(T &value) { return take_into(value, {false, 0}); }
+    MSQ_TO_BE_SEEN result try_pop(T &value) { return take_into(value, 0); }
 
     // The same, and sleeps while the queue is empty: as long as it takes, or for some time.
-    msq_code pop_wait(T &value) { return take_into(value, {true, MSQ_FOREVER}); }
-    template <class Rep, class Period> msq_code pop_wait_for(T &value, std::chrono::duration<Rep, Period> time) {
-        return take_into(value, {true, detail::nanoseconds(time)});
+    MSQ_TO_BE_SEEN result pop_wait(T &value) { return take_into(value, MSQ_FOREVER); }
+    template <class Rep, class Period>
+    MSQ_TO_BE_SEEN result pop_wait_for(T &value, std::chrono::duration<Rep, Period> time) {
+        return take_into(value, detail::nanoseconds(time));
     }
 
     // Pops the value at the front, where there is one, and hands it to `use`, as a T &&: whether there was. It doesn't sleep, but
     // tries again while others are in the way.
-    template <class Use> bool consume_one(Use &&use) { return consumed(use) == MSQ_OK; }
+    template <class Use> bool consume_one(Use &&use) { return static_cast<bool>(consumed(use)); }
 
     // Hands one value after another to `use`, until the queue is found empty, or a word worn: how many there were. Likewise.
     template <class Use> size_t consume_all(Use &&use) {
         size_t count = 0;
-        while (consumed(use) == MSQ_OK) {
+        while (consumed(use)) {
             count++;
         }
         return count;
     }
 
-#if __cplusplus >= 201703L
-    // The value at the front; none at any code but MSQ_OK, MSQ_BUSY too.
-    std::optional<T> try_pop() { return taken({false, 0}); }
-
-    // The same, and sleeps while the queue is empty: as long as it takes, so that there is none only where the queue is closed and
-    // empty, a word is worn, or there is no queue; or for some time.
-    std::optional<T> pop_wait() { return taken({true, MSQ_FOREVER}); }
-    template <class Rep, class Period> std::optional<T> pop_wait_for(std::chrono::duration<Rep, Period> time) {
-        return taken({true, detail::nanoseconds(time)});
+    // The same, with the value in what they answer.
+    popped<T> try_pop() { return taken(0); }
+    popped<T> pop_wait() { return taken(MSQ_FOREVER); }
+    template <class Rep, class Period> popped<T> pop_wait_for(std::chrono::duration<Rep, Period> time) {
+        return taken(detail::nanoseconds(time));
     }
-#endif
 
     // No value is pushed behind it, and what is in the queue stays to be popped; all that sleep are woken. MSQ_CLOSED where it
     // was closed before; MSQ_WORN_TAIL where Tail is worn, and then it isn't closed.
-    msq_code close() noexcept {
-        return call([](auto how, msq_queue *at) { return how.shut(at); });
+    result close() noexcept {
+        return call([](auto how, msq_seat_pool *at) { return msq_pool_shut(how.width(), at); });
     }
 
     // MSQ_OK where the queue holds a value, else MSQ_EMPTY, MSQ_CLOSED or MSQ_BUSY.
-    msq_code emptiness() noexcept {
-        return call([](auto how, msq_queue *at) { return how.emptiness(at); });
+    MSQ_TO_BE_SEEN msq_code emptiness() noexcept {
+        return call([](auto how, msq_seat_pool *at) { return msq_pool_emptiness(how.width(), at); }).code();
     }
     // The bounds are there exactly at MSQ_OK: MSQ_UNCOUNTED of the two-lock queue.
-    msq_code len(msq_length &length) noexcept {
-        return call([&](auto how, msq_queue *at) { return how.len(at, &length); });
+    MSQ_TO_BE_SEEN result len(msq_length &length) noexcept {
+        return call([&](auto how, msq_seat_pool *at) { return msq_pool_len(how.width(), at, &length); });
     }
     // How many pushes are left at least, told at MSQ_OK alone: MSQ_UNCOUNTED of values that lie in the queue, but for numbers of
     // up to six bytes, and pointers in a ring.
-    msq_code left(msq_remaining &left) noexcept {
-        return call([&](auto how, msq_queue *at) { return how.left(at, &left); });
+    MSQ_TO_BE_SEEN result left(msq_remaining &left) noexcept {
+        return call([&](auto how, msq_seat_pool *at) { return how.left(at, &left); });
     }
 
 #if defined(__cpp_exceptions)
-private:
-    // Room for a value.
-    class slot {
-    public:
-        slot() noexcept = default;
-        slot(const slot &) = delete;
-        slot &operator=(const slot &) = delete;
-        ~slot() {
-            if (full_) {
-                value().~T();
-            }
-        }
-        void fill(T &&it) {
-            if (full_) {
-                value() = std::move(it);
-            } else {
-                ::new (static_cast<void *>(raw_)) T(std::move(it));
-                full_ = true;
-            }
-        }
-        T &value() noexcept { return *reinterpret_cast<T *>(raw_); }
-
-    private:
-        alignas(T) unsigned char raw_[sizeof(T)];
-        bool full_ = false;
-    };
-
-public:
     // With room for `capacity` values at least, as create. Throws refused, with MSQ_BAD_SIZE or MSQ_MEMORY.
     explicit queue(uint32_t capacity, kind kind = kind::non_blocking, uint16_t threads = usual_threads)
         : queue(made(create(capacity, kind, threads))) {}
 
     // Pushes a value, and sleeps while the queue is full. Throws refused, with any code of
     // push_wait but MSQ_OK.
-    void push(T &&value) { check(push_wait(std::move(value))); }
+    void push(T &&value) { push_wait(std::move(value)).check(); }
     void push(const T &value) {
         T copy(value);
         push(std::move(copy));
@@ -432,11 +323,7 @@ public:
 
     // Pops the value at the front, and sleeps while the queue is empty. Throws refused, with any code of
     // pop_wait but MSQ_OK.
-    T pop() {
-        slot found;
-        check(take({true, MSQ_FOREVER}, [&](T &&it) { found.fill(std::move(it)); }));
-        return std::move(found.value());
-    }
+    T pop() { return pop_wait().value(); }
 
     // Pops values one by one, and sleeps while there is none, until the queue is closed and empty. Throws refused, with a worn
     // word or MSQ_NO_SEAT; begin() also std::bad_alloc, before it pops.
@@ -449,8 +336,8 @@ public:
         using reference = T &;
 
         iterator() noexcept = default;
-        T &operator*() const noexcept { return value_->value(); }
-        T *operator->() const noexcept { return &value_->value(); }
+        T &operator*() const noexcept { return **value_; }
+        T *operator->() const noexcept { return &**value_; }
         iterator &operator++() {
             next();
             return *this;
@@ -463,10 +350,10 @@ public:
     private:
         friend class queue;
         // Its room is made before a value is popped.
-        explicit iterator(queue *from) : from_(from), value_(new slot) { next(); }
+        explicit iterator(queue *from) : from_(from), value_(new popped<T>) { next(); }
 
         void next() {
-            const auto code = from_->take({true, MSQ_FOREVER}, [&](T &&it) { value_->fill(std::move(it)); });
+            const auto code = value_->by([&](auto fill) { return from_->take(MSQ_FOREVER, fill); }).code();
             if (code != MSQ_OK) {
                 value_.reset();
             }
@@ -476,7 +363,7 @@ public:
         }
 
         queue *from_ = nullptr;
-        std::unique_ptr<slot> value_;
+        std::unique_ptr<popped<T>> value_;
     };
 
     iterator begin() { return iterator(this); }
@@ -484,44 +371,37 @@ public:
 #endif
 
 private:
-    template <class Call> msq_code call(Call call) const {
-        return home_ ? static_cast<msq_code>(detail::passed<T>(*home_, call)) : MSQ_NO_SEAT;
+    template <class Call> result call(Call call) const {
+        return result(home_ ? detail::passed<T>(*home_, call) : uint32_t(MSQ_NO_SEAT));
     }
-    msq_code give(T &value, patience time) {
-        return call([&](auto how, msq_queue *at) { return how.push(at, value, time); });
+    result give(T &value, uint64_t ns) {
+        return call([&](auto how, msq_seat_pool *at) { return how.push(at, value, ns); });
     }
-    template <class Use> msq_code take(patience time, Use use) {
-        return call([&](auto how, msq_queue *at) { return how.pop(at, time, use); });
+    template <class Use> result take(uint64_t ns, Use use) {
+        return call([&](auto how, msq_seat_pool *at) { return how.pop(at, ns, use); });
     }
-#if __cplusplus >= 201703L
-    std::optional<T> taken(patience how) {
-        std::optional<T> value;
-        take(how, [&](T &&it) { value.emplace(std::move(it)); });
-        return value;
+    result take_into(T &value, uint64_t ns) {
+        return take(ns, [&](T &&it) { value = std::move(it); });
     }
-#endif
+    popped<T> taken(uint64_t ns) {
+        popped<T> found;
+        found.by([&](auto fill) { return take(ns, fill); });
+        return found;
+    }
     // Where others are in the way it tries again.
-    template <class Use> msq_code consumed(Use &use) {
+    template <class Use> result consumed(Use &use) {
         for (;;) {
-            const auto code = take({false, 0}, [&](T &&it) { use(std::move(it)); });
-            if (code != MSQ_BUSY) {
-                return code;
+            const auto told = take(0, [&](T &&it) { use(std::move(it)); });
+            if (told.code() != MSQ_BUSY) {
+                return told;
             }
             sched_yield();
         }
     }
-    msq_code take_into(T &value, patience how) {
-        return take(how, [&](T &&it) { value = std::move(it); });
-    }
 
 #if defined(__cpp_exceptions)
-    static void check(msq_code code) {
-        if (code != MSQ_OK) {
-            throw refused(code);
-        }
-    }
     static queue made(std::pair<msq_code, queue> answer) {
-        check(answer.first);
+        result(answer.first).check();
         return std::move(answer.second);
     }
 #endif
@@ -533,6 +413,7 @@ private:
 template <class T> constexpr uint16_t queue<T>::usual_threads;
 #endif
 
+MSQ_END
 } // namespace msq
 
 #endif

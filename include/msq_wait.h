@@ -23,7 +23,6 @@
 
 #ifdef __cplusplus
 #include <unistd.h>
-extern "C" {
 #else
 extern long syscall(long number, ...);
 #endif
@@ -48,53 +47,55 @@ typedef struct msq_bells {
     uint32_t end;           /* why no node comes any more: MSQ_CLOSED, or a worn word; else 0 */
 } msq_bells;
 
+MSQ_BEGIN
+
 /*
  * Pops as msq_try_pop does, and sleeps while the queue is empty, until a push or a shut wakes it.
  * What msq_try_pop answers, but for MSQ_EMPTY and MSQ_BUSY.
  */
-MSQ_INLINE uint32_t msq_pop_wait(msq_seat *seat, msq_bells *bells, msq_value *value);
+MSQ_NODISCARD MSQ_INLINE uint32_t msq_pop_wait(msq_seat *seat, msq_bells *bells, msq_value *value);
 
 /*
  * As msq_pop_wait, for so many nanoseconds at most; then it looks once more. MSQ_FOREVER is as long as it takes.
  * Also MSQ_EMPTY, or MSQ_BUSY where others were in the way of that last look.
  */
-MSQ_INLINE uint32_t msq_pop_wait_for(msq_seat *seat, msq_bells *bells, uint64_t ns, msq_value *value);
+MSQ_NODISCARD MSQ_INLINE uint32_t msq_pop_wait_for(msq_seat *seat, msq_bells *bells, uint64_t ns, msq_value *value);
 
 /*
  * Pushes as msq_try_push does, and sleeps while there is no node, until a pop or a shut wakes it.
  * What msq_try_push answers, but for MSQ_NO_NODE and MSQ_BUSY. Beside a full queue it answers the end that a call of this header
  * met: MSQ_CLOSED, or a worn word, also MSQ_WORN_HEAD. Once the free list is worn at an even limit it may sleep for good.
  */
-MSQ_INLINE uint32_t msq_push_wait(msq_seat *seat, msq_bells *bells, uint64_t body);
+MSQ_NODISCARD MSQ_INLINE uint32_t msq_push_wait(msq_seat *seat, msq_bells *bells, uint64_t body);
 
 /*
  * As msq_push_wait, for so many nanoseconds at most; then it tries once more. MSQ_FOREVER is as long as it takes.
  * Also MSQ_NO_NODE, or MSQ_BUSY where others were in the way of that last try.
  */
-MSQ_INLINE uint32_t msq_push_wait_for(msq_seat *seat, msq_bells *bells, uint64_t body, uint64_t ns);
+MSQ_NODISCARD MSQ_INLINE uint32_t msq_push_wait_for(msq_seat *seat, msq_bells *bells, uint64_t body, uint64_t ns);
 
 /*
  * As msq_try_push, and wakes one that waits for a value. It never sleeps. To a full queue it answers the end that a call of this
  * header met, if there is one.
  */
-MSQ_INLINE uint32_t msq_push_wake(msq_seat *seat, msq_bells *bells, uint64_t body, uint32_t turns);
+MSQ_NODISCARD MSQ_INLINE uint32_t msq_push_wake(msq_seat *seat, msq_bells *bells, uint64_t body, uint32_t turns);
 
 /* As msq_try_pop, and wakes two that wait for room: it may give two nodes back. It never sleeps. */
-MSQ_INLINE uint32_t msq_pop_wake(msq_seat *seat, msq_bells *bells, uint32_t turns, msq_value *value);
+MSQ_NODISCARD MSQ_INLINE uint32_t msq_pop_wake(msq_seat *seat, msq_bells *bells, uint32_t turns, msq_value *value);
 
 /*
  * As msq_push_all, and wakes one that waits for each value pushed; to a full queue it answers as msq_push_wake does. It never
  * sleeps.
  */
-MSQ_INLINE uint32_t msq_push_all_wake(msq_seat *seat, msq_bells *bells, const uint64_t *bodies, size_t bodies_len,
-                                      uint32_t turns, size_t *pushed);
+MSQ_NODISCARD MSQ_INLINE uint32_t msq_push_all_wake(msq_seat *seat, msq_bells *bells, const uint64_t *bodies, size_t bodies_len,
+                                                    uint32_t turns, size_t *pushed);
 
 /* As msq_pop_up_to, and wakes as many that wait for room as values are popped, and one more, two at least. It never sleeps. */
-MSQ_INLINE uint32_t msq_pop_up_to_wake(msq_seat *seat, msq_bells *bells, uint32_t turns, msq_value *values,
-                                       size_t values_len, size_t *popped);
+MSQ_NODISCARD MSQ_INLINE uint32_t msq_pop_up_to_wake(msq_seat *seat, msq_bells *bells, uint32_t turns, msq_value *values,
+                                                     size_t values_len, size_t *popped);
 
 /* As msq_try_shut, and wakes all that sleep; who then finds nothing is told MSQ_CLOSED. It never sleeps. */
-MSQ_INLINE uint32_t msq_shut_wake(msq_seat *seat, msq_bells *bells, uint32_t turns);
+MSQ_NODISCARD MSQ_INLINE uint32_t msq_shut_wake(msq_seat *seat, msq_bells *bells, uint32_t turns);
 
 /* A moment of the monotonic clock, as the system has it. */
 struct msq_moment {
@@ -156,7 +157,7 @@ MSQ_INLINE void msq_sleep(struct msq_bell *bell, uint32_t heard, const struct ms
 
 /* Where the queue is shut, or a word of it is worn, who gets no node never will, and is told so; all that sleep look again. */
 MSQ_INLINE void msq_tell_end(msq_bells *bells, uint32_t code) {
-    if (code == MSQ_CLOSED || code == MSQ_WORN_FREE || code == MSQ_WORN_TAIL || code == MSQ_WORN_HEAD) {
+    if (code == MSQ_CLOSED || msq_is_worn(code)) {
         __atomic_store_n(&bells->end, code, __ATOMIC_SEQ_CST);
         msq_ring(&bells->values, INT_MAX);
         msq_ring(&bells->nodes, INT_MAX);
@@ -353,8 +354,8 @@ MSQ_INLINE uint32_t msq_push_all_wake(msq_seat *seat, msq_bells *bells, const ui
     return code;
 }
 
-MSQ_INLINE uint32_t msq_pop_up_to_wake(msq_seat *seat, msq_bells *bells, uint32_t turns, msq_value *values,
-                                       size_t values_len, size_t *popped) {
+MSQ_INLINE uint32_t msq_pop_up_to_wake(msq_seat *seat, msq_bells *bells, uint32_t turns, msq_value *values, size_t values_len,
+                                       size_t *popped) {
     struct msq_call call;
     uint32_t code;
     *popped = 0;
@@ -382,8 +383,6 @@ MSQ_INLINE uint32_t msq_shut_wake(msq_seat *seat, msq_bells *bells, uint32_t tur
     return code;
 }
 
-#ifdef __cplusplus
-}
-#endif
+MSQ_END
 
 #endif

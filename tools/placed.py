@@ -1,4 +1,5 @@
-"""Recorded histories made by chance, and what msq place may write of one, for tools/fuzz."""
+"""Recorded histories made by chance, and what msq place may write of one, for tools/fuzz and tools/judged."""
+import collections
 import re
 
 # Of how many operations all orders are tried.
@@ -6,18 +7,33 @@ MOST = 8
 NO = re.compile(r"no \d+ (Unshut|(Late|Twice) \d+|(Sooner|(Order|Full|Undrained) \d+)( \d+)*)\n")
 
 
-def recording(count, rng):
-    """Lines of a recorded history: a run of a queue with times around it, some of it pending, now and then with another reply."""
-    queue, lines = [], []
+Operation = collections.namedtuple("Operation", "actor call first last at reply")
+
+
+def operations_in(text):
+    """The operations of a history's text that is in its grammar."""
+    for line in text.split(b"\n")[1:-1]:
+        actor, *words = line.decode().split(" ")
+        call = " ".join(words[: words.index("first")])
+        _, first, _, last, _, at, _, *reply = words[words.index("first") :]
+        yield Operation(actor, call, int(first), None if last == "-" else int(last), None if at == "-" else int(at), " ".join(reply))
+
+
+def recording(count, rng, values=0, has_shuts=False):
+    """Lines of a recorded history: a run of a queue with times around it, some of it pending, now and then with another reply. Its values
+    are so many, or mostly one each; some calls shut the queue, if it has shuts."""
+    queue, lines, is_shut = [], [], False
     for number in range(count):
         time = 3 * number // 2 + 5
         actor, first, last = rng.randint(1, 3), time - rng.randrange(5), time + rng.randrange(5)
-        if rng.randrange(2):
-            body = number if rng.randrange(8) else 0
-            call, reply = f"enq {body}", "done"
-            queue.append(f"value {actor} {body}")
+        if has_shuts and rng.randrange(8) == 0:
+            call, reply, is_shut = "shut", "refused 16" if is_shut else "done", True
+        elif rng.randrange(2):
+            actor, body = (1, rng.randrange(values)) if values else (actor, number if rng.randrange(8) else 0)
+            call, reply = f"enq {body}", "refused 16" if is_shut else "done"
+            queue += [f"value {actor} {body}"] * (not is_shut)
         else:
-            call, reply = "deq", queue.pop(0) if queue else "empty"
+            call, reply = "deq", queue.pop(0) if queue else "refused 16" if is_shut else "empty"
         if rng.randrange(15) == 0:
             reply = rng.choice(["empty", "refused 3", "refused 16", "value 1 0", *queue])
         if rng.randrange(8) == 0:

@@ -17,17 +17,17 @@ static int pair(msq_seat *seat) {
 }
 
 /* So many pushes and pops; whether each was done. */
-static int calls(msq_queue *queue, msq_seat *seat, const char *which, uint64_t count) {
+static int calls(msq_seat_pool *pool, msq_seat *seat, const char *which, uint64_t count) {
     int each = strcmp(which, "each") == 0, only = strcmp(which, "only") == 0;
     for (uint64_t k = 0; k < count; k++) {
         if (each || only) {
-            seat = msq_lease(queue, MSQ_BOTH);
+            seat = msq_lease(pool, MSQ_BOTH);
         }
         if (!only && !pair(seat)) {
             return 0;
         }
         if (each || only) {
-            msq_release(queue, seat);
+            msq_release(pool, seat);
         }
     }
     return 1;
@@ -35,7 +35,7 @@ static int calls(msq_queue *queue, msq_seat *seat, const char *which, uint64_t c
 
 int main(int count, char **words) {
     uint8_t roles[SEATS];
-    msq_queue queue = {0};
+    msq_seat_pool pool = {0};
     msq_seat plain = {0};
     struct timespec began, ended;
     if (count != 4) {
@@ -44,13 +44,13 @@ int main(int count, char **words) {
     }
     memset(roles, MSQ_BOTH, sizeof roles);
     uint32_t kind = strcmp(words[1], "two-lock") == 0 ? MSQ_TWO_LOCK : MSQ_NON_BLOCKING;
-    if (msq_queue_create(&queue, kind, NODES, MSQ_MOST_COUNT, roles, SEATS) != MSQ_OK ||
+    if (msq_seat_pool_create(&pool, kind, NODES, MSQ_MOST_COUNT, roles, SEATS) != MSQ_OK ||
         msq_create(kind, NODES, MSQ_MOST_COUNT, roles, 1, &plain, 1) != MSQ_OK) {
         return 1;
     }
-    msq_seat *seat = strcmp(words[2], "kept") == 0 ? msq_lease(&queue, MSQ_BOTH) : &plain;
+    msq_seat *seat = strcmp(words[2], "kept") == 0 ? msq_lease(&pool, MSQ_BOTH) : &plain;
     clock_gettime(CLOCK_MONOTONIC, &began);
-    int done = calls(&queue, seat, words[2], strtoull(words[3], NULL, 10));
+    int done = calls(&pool, seat, words[2], strtoull(words[3], NULL, 10));
     clock_gettime(CLOCK_MONOTONIC, &ended);
     printf("%lld\n", (long long)(ended.tv_sec - began.tv_sec) * 1000000000 + (ended.tv_nsec - began.tv_nsec));
     return !done;

@@ -131,7 +131,7 @@ fn time_in<T: Value>(name: &str, kind: &[Work], count: u64) -> Option<u128> {
         "non-blocking" => time_of(&of(msq::Kind::NonBlocking)?, kind, count),
         "two-lock" => time_of(&of(msq::Kind::TwoLock)?, kind, count),
         "ring" => time_of(&of(msq::Kind::Ring)?, kind, count),
-        "channel" => time_of(&msq::channel::bounded_for::<T>(ROOM, 4).ok()?, kind, count),
+        "channel" => time_of(&msq::channel::bounded_of::<T>(msq::Kind::NonBlocking, ROOM, 4).ok()?, kind, count),
         "channel-ring" => time_of(&msq::channel::bounded_of::<T>(msq::Kind::Ring, ROOM, 4).ok()?, kind, count),
         #[cfg(crossbeam)]
         "crossbeam-channel" => time_of(&crossbeam_channel::bounded::<T>(ROOM as usize), kind, count),

@@ -33,14 +33,16 @@ struct seats {
 static const uint8_t roles[] = {MSQ_BOTH, MSQ_BOTH};
 static uint64_t came[2], pushed;
 static msq_queue queue;
+static msq_word_queue of_word;
+static msq_words_queue of_three;
 static msq_seat *seats[2];
 static msq_words_seat word_seats[2];
 static msq_word_seat single_seats[2];
 
 static uint32_t open_numbers(uint64_t limit) {
-    const uint32_t code = msq_queue_create(&queue, MSQ_NON_BLOCKING, 4, limit, roles, 2);
-    seats[ME] = msq_lease(&queue, MSQ_BOTH);
-    seats[ANOTHER] = msq_lease(&queue, MSQ_BOTH);
+    const uint32_t code = msq_seat_pool_create(&queue.seats, MSQ_NON_BLOCKING, 4, limit, roles, 2);
+    seats[ME] = msq_lease(&queue.seats, MSQ_BOTH);
+    seats[ANOTHER] = msq_lease(&queue.seats, MSQ_BOTH);
     return code;
 }
 
@@ -56,7 +58,7 @@ static uint32_t pop_number(enum who who, uint32_t turns) {
 }
 
 static void drop_numbers(void) {
-    msq_queue_drop(&queue);
+    msq_seat_pool_drop(&queue.seats);
 }
 
 static uint32_t open_words(uint64_t limit) {
@@ -102,43 +104,43 @@ static void drop_singles(void) {
 
 static uint32_t open_single_queue(uint64_t limit) {
     (void)limit;
-    return msq_word_open(&queue, MSQ_NON_BLOCKING, 4, 2);
+    return msq_word_open(&of_word, MSQ_NON_BLOCKING, 4, 2);
 }
 
 static uint32_t push_to_single_queue(enum who who, uint32_t turns) {
     (void)who, (void)turns;
-    return msq_word_queue_push(&queue, ++pushed);
+    return msq_word_queue_push(&of_word, ++pushed);
 }
 
 static uint32_t pop_of_single_queue(enum who who, uint32_t turns) {
     uint64_t word;
     (void)who, (void)turns;
-    return msq_word_queue_pop(&queue, &word);
+    return msq_word_queue_pop(&of_word, &word);
 }
 
 static void drop_single_queue(void) {
-    (void)msq_word_destroy(&queue, NULL, NULL);
+    (void)msq_word_destroy(&of_word, NULL, NULL);
 }
 
 static uint32_t open_word_queue(uint64_t limit) {
     (void)limit;
-    return msq_words_open(&queue, MSQ_NON_BLOCKING, 4, 2);
+    return msq_words_open(&of_three, MSQ_NON_BLOCKING, 4, 2);
 }
 
 static uint32_t push_to_queue(enum who who, uint32_t turns) {
     const msq_words words = {{++pushed, 0, 0}};
     (void)who, (void)turns;
-    return msq_words_queue_push(&queue, &words);
+    return msq_words_queue_push(&of_three, &words);
 }
 
 static uint32_t pop_of_queue(enum who who, uint32_t turns) {
     msq_words words;
     (void)who, (void)turns;
-    return msq_words_queue_pop(&queue, &words);
+    return msq_words_queue_pop(&of_three, &words);
 }
 
 static void drop_word_queue(void) {
-    (void)msq_words_destroy(&queue, NULL, NULL);
+    (void)msq_words_destroy(&of_three, NULL, NULL);
 }
 
 static const struct seats numbers = {open_numbers, push_number, pop_number, drop_numbers};
@@ -158,20 +160,20 @@ static uint32_t push_all(void) {
 }
 
 static uint32_t push_wake(void) {
-    return msq_push_wake(seats[ME], &queue.bells, 4, 8);
+    return msq_push_wake(seats[ME], &queue.seats.bells, 4, 8);
 }
 
 static uint32_t push_all_wake(void) {
     size_t count;
-    return msq_push_all_wake(seats[ME], &queue.bells, &pushed, 1, 8, &count);
+    return msq_push_all_wake(seats[ME], &queue.seats.bells, &pushed, 1, 8, &count);
 }
 
 static uint32_t push_wait(void) {
-    return msq_push_wait(seats[ME], &queue.bells, 4);
+    return msq_push_wait(seats[ME], &queue.seats.bells, 4);
 }
 
 static uint32_t push_wait_for(void) {
-    return msq_push_wait_for(seats[ME], &queue.bells, 4, 1);
+    return msq_push_wait_for(seats[ME], &queue.seats.bells, 4, 1);
 }
 
 static uint32_t words_push(void) {
@@ -184,17 +186,17 @@ static uint32_t word_push(void) {
 
 /* These lease a seat: the only one that is free. */
 static uint32_t queue_push(void) {
-    msq_release(&queue, seats[ME]);
+    msq_release(&queue.seats, seats[ME]);
     return msq_queue_push(&queue, &queue);
 }
 
 static uint32_t queue_push_wait(void) {
-    msq_release(&queue, seats[ME]);
+    msq_release(&queue.seats, seats[ME]);
     return msq_queue_push_wait(&queue, &queue);
 }
 
 static uint32_t queue_push_wait_for(void) {
-    msq_release(&queue, seats[ME]);
+    msq_release(&queue.seats, seats[ME]);
     return msq_queue_push_wait_for(&queue, &queue, 1);
 }
 
@@ -204,7 +206,7 @@ static uint32_t try_shut(void) {
 }
 
 static uint32_t shut_wake(void) {
-    return msq_shut_wake(seats[ME], &queue.bells, 1);
+    return msq_shut_wake(seats[ME], &queue.seats.bells, 1);
 }
 
 static uint32_t words_shut(void) {
@@ -220,7 +222,7 @@ static uint32_t see_word(void) {
 }
 
 static uint32_t see_single_queue(void) {
-    return msq_word_queue_emptiness(&queue);
+    return msq_word_queue_emptiness(&of_word);
 }
 
 static uint32_t see_words(void) {
@@ -228,7 +230,7 @@ static uint32_t see_words(void) {
 }
 
 static uint32_t see_word_queue(void) {
-    return msq_words_queue_emptiness(&queue);
+    return msq_words_queue_emptiness(&of_three);
 }
 
 /* Pushes of one turn, by the other thread. */

@@ -116,8 +116,8 @@ static void count_word(uint64_t left, void *number) {
     *(uint32_t *)number += left == word;
 }
 static uint32_t number;
-CALL(end_words, msq_words_destroy(&queue, count_words, &number))
-CALL(end_word, msq_word_destroy(&queue, count_word, &number))
+CALL(end_words, msq_words_destroy(&word_queue, count_words, &number))
+CALL(end_word, msq_word_destroy(&single_queue, count_word, &number))
 
 /* Words of which pops end before there are none go to who frees them, each once. */
 static void worn_words_are_freed(const struct family *of_words, const struct call *end) {

@@ -32,6 +32,11 @@ struct family {
         return made;                                                                                                   \
     }
 
+/* What a call answers, where it doesn't matter. */
+static inline void any(uint32_t code) {
+    (void)code;
+}
+
 static unsigned right, wrong;
 
 static void expect(const char *family, const char *call, const char *when, uint32_t found, uint32_t due) {
@@ -66,8 +71,8 @@ static void drop_numbers(void) {
 CALL(see_numbers, msq_emptiness(taker))
 static void push_and_pop_numbers(void) {
     static msq_value own;
-    (void)msq_try_push(&seats[2], 7, 8);
-    (void)msq_try_pop(&seats[3], 8, &own);
+    any(msq_try_push(&seats[2], 7, 8));
+    any(msq_try_pop(&seats[3], 8, &own));
 }
 CALL(try_push, msq_try_push(giver, body, turns))
 CALL(push_all, msq_push_all(giver, &body, 1, turns, &count))
@@ -100,8 +105,8 @@ static void drop_words(void) {
 CALL(see_words, msq_words_emptiness(word_taker))
 static void push_and_pop_words(void) {
     static msq_item own;
-    (void)msq_words_push(&word_seats[2], &words, 8);
-    (void)msq_words_pop(&word_seats[3], 8, &own);
+    any(msq_words_push(&word_seats[2], &words, 8));
+    any(msq_words_pop(&word_seats[3], 8, &own));
 }
 CALL(words_push, msq_words_push(word_giver, &words, turns))
 CALL(words_pop, msq_words_pop(word_taker, turns, &item))
@@ -123,8 +128,8 @@ static void drop_singles(void) {
 CALL(see_singles, msq_word_emptiness(single_taker))
 static void push_and_pop_singles(void) {
     static msq_value own;
-    (void)msq_word_push(&single_seats[2], word, 8);
-    (void)msq_word_pop(&single_seats[3], 8, &own);
+    any(msq_word_push(&single_seats[2], word, 8));
+    any(msq_word_pop(&single_seats[3], 8, &own));
 }
 CALL(word_push, msq_word_push(single_giver, word, turns))
 CALL(word_pop, msq_word_pop(single_taker, turns, &single))
@@ -139,9 +144,12 @@ static inline void sit(size_t gives, size_t takes) {
 
 /* Pointers, and words, by queues that any thread calls. */
 static msq_queue queue;
+static msq_words_queue word_queue;
+static msq_word_queue single_queue;
+static const uint8_t both[SEATS] = {MSQ_BOTH, MSQ_BOTH, MSQ_BOTH, MSQ_BOTH};
 
 static uint32_t open_queue(uint32_t kind, uint32_t nodes, uint64_t limit, uint16_t number) {
-    return msq_queue_create(&queue, kind, nodes, limit, roles, number);
+    return msq_seat_pool_create(&queue.seats, kind, nodes, limit, both, number);
 }
 static void drop_queue(void) {
     (void)msq_destroy(&queue, NULL, NULL);
@@ -149,8 +157,8 @@ static void drop_queue(void) {
 CALL(see_queue, msq_queue_emptiness(&queue))
 static void push_and_pop_queue(void) {
     void *own;
-    (void)msq_queue_push(&queue, &queue);
-    (void)msq_queue_pop(&queue, &own);
+    any(msq_queue_push(&queue, &queue));
+    any(msq_queue_pop(&queue, &own));
 }
 static void *object(void) {
     return (void *)(uintptr_t)body;
@@ -166,60 +174,58 @@ CALL(queue_shut, msq_queue_shut(&queue))
 
 /* Such a queue has no limit, but that of other seats that take the places of its own. */
 static uint32_t open_word_queue(uint32_t kind, uint32_t nodes, uint64_t limit, uint16_t number) {
-    static const uint8_t both[SEATS] = {MSQ_BOTH, MSQ_BOTH, MSQ_BOTH, MSQ_BOTH};
-    uint32_t code = msq_words_open(&queue, kind, nodes, number);
+    uint32_t code = msq_words_open(&word_queue, kind, nodes, number);
     if (code == MSQ_OK && limit != MSQ_MOST_COUNT) {
         code = msq_words_create(kind, nodes, limit, both, number, word_seats, number);
         for (size_t k = 0; code == MSQ_OK && k < number; k++) {
-            msq_words_drop(msq_as_words(&queue.places[k].seat));
-            queue.places[k].seat = word_seats[k].seat;
+            msq_words_drop(msq_as_words(&word_queue.seats.places[k].seat));
+            word_queue.seats.places[k].seat = word_seats[k].seat;
             word_seats[k].seat.full = false;
         }
     }
     return code;
 }
 static void drop_word_queue(void) {
-    (void)msq_words_destroy(&queue, NULL, NULL);
+    (void)msq_words_destroy(&word_queue, NULL, NULL);
 }
-CALL(see_word_queue, msq_words_queue_emptiness(&queue))
+CALL(see_word_queue, msq_words_queue_emptiness(&word_queue))
 static void push_and_pop_word_queue(void) {
     msq_words own;
-    (void)msq_words_queue_push(&queue, &words);
-    (void)msq_words_queue_pop(&queue, &own);
+    any(msq_words_queue_push(&word_queue, &words));
+    any(msq_words_queue_pop(&word_queue, &own));
 }
-CALL(words_queue_push, msq_words_queue_push(&queue, &words))
-CALL(words_queue_push_wait_for, msq_words_queue_push_wait_for(&queue, &words, 1))
-CALL(words_queue_pop, msq_words_queue_pop(&queue, &item.words))
-CALL(words_queue_pop_wait_for, msq_words_queue_pop_wait_for(&queue, &item.words, 1))
-CALL(words_queue_shut, msq_words_queue_shut(&queue))
+CALL(words_queue_push, msq_words_queue_push(&word_queue, &words))
+CALL(words_queue_push_wait_for, msq_words_queue_push_wait_for(&word_queue, &words, 1))
+CALL(words_queue_pop, msq_words_queue_pop(&word_queue, &item.words))
+CALL(words_queue_pop_wait_for, msq_words_queue_pop_wait_for(&word_queue, &item.words, 1))
+CALL(words_queue_shut, msq_words_queue_shut(&word_queue))
 
 static uint32_t open_single_queue(uint32_t kind, uint32_t nodes, uint64_t limit, uint16_t number) {
-    static const uint8_t both[SEATS] = {MSQ_BOTH, MSQ_BOTH, MSQ_BOTH, MSQ_BOTH};
-    uint32_t code = msq_word_open(&queue, kind, nodes, number);
+    uint32_t code = msq_word_open(&single_queue, kind, nodes, number);
     if (code == MSQ_OK && limit != MSQ_MOST_COUNT) {
         code = msq_word_create(kind, nodes, limit, both, number, single_seats, number);
         for (size_t k = 0; code == MSQ_OK && k < number; k++) {
-            msq_word_drop(msq_as_word(&queue.places[k].seat));
-            queue.places[k].seat = single_seats[k].seat;
+            msq_word_drop(msq_as_word(&single_queue.seats.places[k].seat));
+            single_queue.seats.places[k].seat = single_seats[k].seat;
             single_seats[k].seat.full = false;
         }
     }
     return code;
 }
 static void drop_single_queue(void) {
-    (void)msq_word_destroy(&queue, NULL, NULL);
+    (void)msq_word_destroy(&single_queue, NULL, NULL);
 }
-CALL(see_single_queue, msq_word_queue_emptiness(&queue))
+CALL(see_single_queue, msq_word_queue_emptiness(&single_queue))
 static void push_and_pop_single_queue(void) {
     uint64_t own;
-    (void)msq_word_queue_push(&queue, word);
-    (void)msq_word_queue_pop(&queue, &own);
+    any(msq_word_queue_push(&single_queue, word));
+    any(msq_word_queue_pop(&single_queue, &own));
 }
-CALL(word_queue_push, msq_word_queue_push(&queue, word))
-CALL(word_queue_push_wait_for, msq_word_queue_push_wait_for(&queue, word, 1))
-CALL(word_queue_pop, msq_word_queue_pop(&queue, &single.body))
-CALL(word_queue_pop_wait_for, msq_word_queue_pop_wait_for(&queue, &single.body, 1))
-CALL(word_queue_shut, msq_word_queue_shut(&queue))
+CALL(word_queue_push, msq_word_queue_push(&single_queue, word))
+CALL(word_queue_push_wait_for, msq_word_queue_push_wait_for(&single_queue, word, 1))
+CALL(word_queue_pop, msq_word_queue_pop(&single_queue, &single.body))
+CALL(word_queue_pop_wait_for, msq_word_queue_pop_wait_for(&single_queue, &single.body, 1))
+CALL(word_queue_shut, msq_word_queue_shut(&single_queue))
 
 static const struct family families[] = {
     {"numbers", true, true, open_numbers, drop_numbers, see_numbers, push_and_pop_numbers,

@@ -19,8 +19,9 @@ int main(void) {
     if (msq_queue_open(&queue, MSQ_NON_BLOCKING, 1000, 8) != MSQ_OK || pthread_create(&worker, NULL, work, NULL) != 0) {
         return 1;
     }
-    msq_queue_push_wait(&queue, "a job");
-    msq_queue_push_wait(&queue, "another job");
+    if (msq_queue_push_wait(&queue, "a job") != MSQ_OK || msq_queue_push_wait(&queue, "another job") != MSQ_OK) {
+        return 1;
+    }
     msq_queue_shut(&queue);
     pthread_join(worker, NULL);
     return msq_destroy(&queue, NULL, NULL) != MSQ_OK;

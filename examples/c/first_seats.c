@@ -9,8 +9,7 @@ int main(void) {
     if (msq_create(MSQ_NON_BLOCKING, 64, MSQ_MOST_COUNT, roles, 2, seats, 2) != MSQ_OK) {
         return 1;
     }
-    msq_try_push(&seats[0], 42, 8);
-    if (msq_try_pop(&seats[1], 8, &value) == MSQ_OK) {
+    if (msq_try_push(&seats[0], 42, 8) == MSQ_OK && msq_try_pop(&seats[1], 8, &value) == MSQ_OK) {
         printf("%llu from seat %u\n", (unsigned long long)value.body, value.from);
     }
     msq_drop(&seats[0]);

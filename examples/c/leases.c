@@ -14,7 +14,7 @@
 #define VALUES 1000
 #define NODES 256
 
-static msq_queue queue;
+static msq_seat_pool pool;
 static uint32_t takes[PAIRS * VALUES]; /* how often each value was popped */
 static unsigned wrong;
 
@@ -26,7 +26,7 @@ static void is_wrong(const char *what, uint64_t number) {
 /* A seat of this role, once there is one. */
 static msq_seat *lease(uint32_t role) {
     for (;;) {
-        msq_seat *seat = msq_lease(&queue, role);
+        msq_seat *seat = msq_lease(&pool, role);
         if (seat != NULL) {
             return seat;
         }
@@ -48,7 +48,7 @@ static void *give(void *visit) {
             break;
         }
     }
-    msq_release(&queue, seat);
+    msq_release(&pool, seat);
     return NULL;
 }
 
@@ -70,7 +70,7 @@ static void *take(void *unused) {
             taken++;
         }
     }
-    msq_release(&queue, seat);
+    msq_release(&pool, seat);
     return unused;
 }
 
@@ -94,7 +94,7 @@ static int is_right(uint32_t kind, unsigned rounds) {
     for (unsigned k = 0; k < 2 * SEATS; k++) {
         roles[k] = k % 2 ? MSQ_TAKER : MSQ_GIVER;
     }
-    uint32_t code = msq_queue_create(&queue, kind, NODES, MSQ_MOST_COUNT, roles, 2 * SEATS);
+    uint32_t code = msq_seat_pool_create(&pool, kind, NODES, MSQ_MOST_COUNT, roles, 2 * SEATS);
     if (code != MSQ_OK) {
         is_wrong("create", code);
         return 0;
@@ -109,7 +109,7 @@ static int is_right(uint32_t kind, unsigned rounds) {
             break;
         }
     }
-    code = msq_queue_close(&queue, NULL, 0, &rest);
+    code = msq_seat_pool_close(&pool, NULL, 0, &rest);
     if (code != MSQ_OK || rest.left != 0 || !rest.whole || rest.taken != (uint64_t)rounds * PAIRS * VALUES) {
         is_wrong("close", code);
     }
@@ -122,30 +122,30 @@ static int is_refused(void) {
     msq_value left[3];
     msq_rest rest;
     msq_seat *giver, *taker;
-    if (msq_queue_close(&queue, left, 3, &rest) != MSQ_NO_SEAT || msq_lease(&queue, MSQ_GIVER) != NULL ||
-        msq_queue_create(&queue, 3, 4, MSQ_MOST_COUNT, roles, 2) != MSQ_BAD_SIZE ||
-        msq_queue_create(&queue, MSQ_TWO_LOCK, 4, MSQ_MOST_COUNT, roles, 0) != MSQ_BAD_SIZE ||
-        msq_queue_create(&queue, MSQ_TWO_LOCK, 4, MSQ_MOST_COUNT, roles, 2) != MSQ_OK ||
-        msq_queue_create(&queue, MSQ_TWO_LOCK, 4, MSQ_MOST_COUNT, roles, 2) != MSQ_IN_USE) {
+    if (msq_seat_pool_close(&pool, left, 3, &rest) != MSQ_NO_SEAT || msq_lease(&pool, MSQ_GIVER) != NULL ||
+        msq_seat_pool_create(&pool, 3, 4, MSQ_MOST_COUNT, roles, 2) != MSQ_BAD_SIZE ||
+        msq_seat_pool_create(&pool, MSQ_TWO_LOCK, 4, MSQ_MOST_COUNT, roles, 0) != MSQ_BAD_SIZE ||
+        msq_seat_pool_create(&pool, MSQ_TWO_LOCK, 4, MSQ_MOST_COUNT, roles, 2) != MSQ_OK ||
+        msq_seat_pool_create(&pool, MSQ_TWO_LOCK, 4, MSQ_MOST_COUNT, roles, 2) != MSQ_IN_USE) {
         return 0;
     }
-    giver = msq_lease(&queue, MSQ_GIVER);
-    taker = msq_lease(&queue, MSQ_TAKER);
-    if (giver == NULL || taker == NULL || msq_lease(&queue, MSQ_GIVER) != NULL || msq_lease(&queue, MSQ_BOTH) != NULL ||
+    giver = msq_lease(&pool, MSQ_GIVER);
+    taker = msq_lease(&pool, MSQ_TAKER);
+    if (giver == NULL || taker == NULL || msq_lease(&pool, MSQ_GIVER) != NULL || msq_lease(&pool, MSQ_BOTH) != NULL ||
         msq_try_push(giver, 7, 8) != MSQ_OK || msq_try_push(taker, 7, 8) != MSQ_NO_ROLE || msq_meet(giver, taker) != MSQ_OK) {
         return 0;
     }
-    msq_release(&queue, NULL);
-    msq_release(&queue, taker);
-    if (msq_queue_close(&queue, left, 3, &rest) != MSQ_IN_USE || msq_lease(&queue, MSQ_TAKER) != taker) {
+    msq_release(&pool, NULL);
+    msq_release(&pool, taker);
+    if (msq_seat_pool_close(&pool, left, 3, &rest) != MSQ_IN_USE || msq_lease(&pool, MSQ_TAKER) != taker) {
         return 0;
     }
-    msq_release(&queue, taker);
-    msq_release(&queue, giver);
-    if (msq_queue_close(&queue, left, 3, &rest) != MSQ_OK || rest.left != 1 || left[0].body != 7) {
+    msq_release(&pool, taker);
+    msq_release(&pool, giver);
+    if (msq_seat_pool_close(&pool, left, 3, &rest) != MSQ_OK || rest.left != 1 || left[0].body != 7) {
         return 0;
     }
-    return msq_queue_create(&queue, MSQ_NON_BLOCKING, 4, MSQ_MOST_COUNT, roles, 2) == MSQ_OK;
+    return msq_seat_pool_create(&pool, MSQ_NON_BLOCKING, 4, MSQ_MOST_COUNT, roles, 2) == MSQ_OK;
 }
 
 int main(int count, char **words) {
@@ -158,7 +158,7 @@ int main(int count, char **words) {
         fprintf(stderr, "leases: a call answers otherwise\n");
         return 1;
     }
-    msq_queue_drop(&queue);
+    msq_seat_pool_drop(&pool);
     for (uint32_t kind = MSQ_NON_BLOCKING; kind <= MSQ_RING; kind++) {
         if (!is_right(kind, rounds)) {
             return 1;

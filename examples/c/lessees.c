@@ -1,8 +1,9 @@
 /* Runs the calls of msq_lease.h and msq_queue.h in random interleavings of their steps, one access of memory that threads share at
  * a time: two to four threads with three calls each, over a queue of its own with two or three seats and room for one or two
- * values, which may be busy, worn or shut. No seat is leased twice, or in two calls at one time, or does what its role doesn't let
- * it do; each value comes once, or is left to msq_destroy, from the front; no call goes on for good, or sleeps beside what it waits
- * for; and at the end each seat is back, and is dropped.
+ * values, which may be busy, worn or shut; or a queue of pointers, and threads that each push once, or shut it, beside one that pops
+ * all of it and destroys it. No seat is leased twice, or in two calls at one time, or does what its role doesn't let it do; each
+ * value comes once, or is left to msq_destroy, from the front; no call goes on for good, sleeps beside what it waits for, or touches
+ * a queue that is no more; and at the end each seat is back, and is dropped.
  *
  *     lessees RUNS: prints the first run in which that isn't so, or that there is none */
 #include <sched.h>
@@ -16,21 +17,22 @@
 #include <ucontext.h>
 
 static void step(void);
+static void touches(const void *at);
 
 /* Each access of the headers lets others go on first. */
-#define __atomic_load_n(at, order) (step(), *(at))
-#define __atomic_store_n(at, value, order) (step(), *(at) = (value))
-#define __atomic_fetch_add(at, by, order) (step(), (*(at) += (by)) - (by))
-#define __atomic_fetch_sub(at, by, order) (step(), (*(at) -= (by)) + (by))
+#define __atomic_load_n(at, order) (touches(at), *(at))
+#define __atomic_store_n(at, value, order) (touches(at), *(at) = (value))
+#define __atomic_fetch_add(at, by, order) (touches(at), (*(at) += (by)) - (by))
+#define __atomic_fetch_sub(at, by, order) (touches(at), (*(at) -= (by)) + (by))
 #define __atomic_compare_exchange_n(at, was, value, weak, order, other)                                                \
-    (step(), *(at) == *(was) ? (*(at) = (value), true) : (*(was) = *(at), false))
+    (touches(at), *(at) == *(was) ? (*(at) = (value), true) : (*(was) = *(at), false))
 #define sched_yield() step()
 #define MSQ_LOOKS 1
 #include "msq_queue.h"
 
 enum { MOST = 4, CALLS = 3, SEATS = 3, STACK = 1 << 16, STEPS = 20000, BODIES = 64 };
-enum does { PUSH, PUSH_WAIT, POP, POP_WAIT, LOOK, LEASE, SHUT, KINDS };
-static const char *const names[KINDS] = {"push", "push_wait", "pop", "pop_wait", "look", "lease", "shut"};
+enum does { PUSH, PUSH_WAIT, POP, POP_WAIT, LOOK, LEASE, SHUT, KINDS, END = KINDS, NOTHING };
+static const char *const names[] = {"push", "push_wait", "pop", "pop_wait", "look", "lease", "shut", "end", "nothing"};
 
 struct thread {
     ucontext_t at;
@@ -52,6 +54,8 @@ static ucontext_t scheduler;
 static uint64_t random_state;
 static const char *fault;
 static msq_queue queue;
+static const char *block, *block_end; /* where its seats lie */
+static bool has_roles, is_gone;       /* whether its seats do different things, and whether it was destroyed */
 
 /* The queue: its seats, how many values it has room for, the bodies in it, how many pops it has, and what became of the bodies. */
 static struct held seats_of[SEATS];
@@ -72,6 +76,16 @@ static void step(void) {
 
 static void is_wrong(const char *what) {
     fault = fault == NULL ? what : fault;
+}
+
+/* A step to an access of this word, which isn't made where it is of a queue that is no more. */
+static void touches(const void *at) {
+    const char *word = (const char *)at;
+    step();
+    if (is_gone && ((word >= (const char *)&queue && word < (const char *)(&queue + 1)) || (word >= block && word < block_end))) {
+        is_wrong("a queue that is no more is touched");
+        step();
+    }
 }
 
 /* A call by a seat begins, in which it does what this role lets it do, and may find others in the way. */
@@ -189,7 +203,7 @@ long syscall(long number, ...) {
     va_start(more, number);
     uint32_t *word = va_arg(more, uint32_t *);
     const long does = va_arg(more, long), value = va_arg(more, long);
-    step();
+    touches(word);
     if (does == FUTEX_WAKE_PRIVATE) {
         for (unsigned k = 0; k < count; k++) {
             threads[k].sleeps = false;
@@ -223,8 +237,9 @@ static void gives(uint32_t code, uint64_t body) {
 
 /* A seat of a role, by which its thread pushes or pops, and which it gives back. */
 static void leases(uint8_t role, uint64_t body) {
-    msq_seat *seat = msq_lease(&queue, role);
+    msq_seat *seat = msq_lease(&queue.seats, role);
     msq_value value = {0, 0};
+    void *object = NULL;
     struct held *it;
     if (seat == NULL) {
         return;
@@ -235,13 +250,35 @@ static void leases(uint8_t role, uint64_t body) {
     }
     it->leased = true;
     if (role == MSQ_TAKER) {
-        const uint32_t code = msq_pop_wake(seat, &queue.bells, 8, &value);
+        const uint32_t code = msq_pop_wake(seat, &queue.seats.bells, 8, &value);
         takes(code, value.body);
     } else {
-        gives(msq_push_wake(seat, &queue.bells, body, 8), body);
+        gives(msq_push_wake(seat, &queue.seats.bells, body, 8), body);
+    }
+    if (!has_roles) { /* a try waits for no other seat */
+        const uint32_t code = msq_queue_pop(&queue, &object);
+        takes(code, (uintptr_t)object);
     }
     it->leased = false;
-    msq_release(&queue, seat);
+    msq_release(&queue.seats, seat);
+}
+
+static void free_one(void *object, void *context);
+
+/* Pops each value that comes, and destroys the queue beside the last of the pushes, or beside the shut. */
+static void pops_all(void) {
+    const unsigned due = threads[1].calls[1] == SHUT ? BODIES : count - 1, seats = (unsigned)queue.seats.count;
+    uint32_t code = MSQ_OK;
+    for (unsigned k = 0; k < due && code == MSQ_OK; k++) {
+        void *object = NULL;
+        code = msq_queue_pop_wait(&queue, &object);
+        takes(code, (uintptr_t)object);
+    }
+    code = msq_destroy(&queue, free_one, &freed);
+    is_gone = true;
+    if (code != MSQ_OK || freed != 0 || dropped != seats) {
+        is_wrong("it isn't destroyed");
+    }
 }
 
 static void makes(enum does does, uint64_t body) {
@@ -259,10 +296,16 @@ static void makes(enum does does, uint64_t body) {
         takes(code, (uintptr_t)object);
         break;
     case LOOK:
-        msq_queue_emptiness(&queue);
+        code = msq_queue_emptiness(&queue);
+        (void)code;
         break;
     case LEASE:
-        leases((uint8_t)(1 + any(3)), body);
+        leases((uint8_t)(has_roles ? 1 + any(3) : MSQ_BOTH), body);
+        break;
+    case END:
+        pops_all();
+        break;
+    case NOTHING:
         break;
     default:
         code = msq_queue_shut(&queue);
@@ -285,7 +328,7 @@ static void run_calls(void) {
 static bool is_left(void) {
     for (unsigned k = 0; k < count; k++) {
         const unsigned does = threads[k].calls[threads[k].call];
-        if (threads[k].sleeps && (is_shut || (does == POP_WAIT ? left > 0 : left < room))) {
+        if (threads[k].sleeps && (is_shut || (does == POP_WAIT || does == END ? left > 0 : left < room))) {
             return true;
         }
     }
@@ -303,13 +346,24 @@ static unsigned picked(void) {
     return count;
 }
 
+/* The call of a thread: any, or by a lease where seats have roles; or where one thread ends the queue, a push or a shut. */
+static unsigned picked_call(unsigned thread, unsigned call, bool ends) {
+    if (has_roles) {
+        return LEASE;
+    }
+    if (ends) {
+        return call > 0 ? NOTHING : thread == 0 ? END : PUSH_WAIT;
+    }
+    return any(any(4) ? SHUT : KINDS);
+}
+
 /* The threads, each at its first call. */
-static void set_out(void) {
+static void set_out(bool ends) {
     for (unsigned k = 0; k < count; k++) {
         struct thread *one = &threads[k];
         one->over = one->sleeps = false;
         for (unsigned j = 0; j < CALLS; j++) {
-            one->calls[j] = any(any(4) ? SHUT : KINDS);
+            one->calls[j] = picked_call(k, j, ends);
         }
         getcontext(&one->at);
         one->at.uc_stack.ss_sp = one->stack;
@@ -324,27 +378,37 @@ static void free_one(void *object, void *context) {
     freed += context == &freed;
 }
 
-/* At the end each seat can be leased; beside a lease the queue isn't ended, and else each object comes, and each seat is dropped. */
+/* Beside a lease a pool isn't closed. */
+static void close_pool(unsigned due) {
+    msq_value values[SEATS];
+    msq_rest rest = {0, 0, false, false};
+    msq_seat *seat = msq_lease(&queue.seats, queue.seats.roles[1]);
+    if (seat == NULL || msq_seat_pool_close(&queue.seats, values, SEATS, &rest) != MSQ_IN_USE) {
+        is_wrong("an end beside a lease");
+        return;
+    }
+    msq_release(&queue.seats, seat);
+    if (msq_seat_pool_close(&queue.seats, values, SEATS, &rest) != MSQ_OK || rest.left != due) {
+        is_wrong("what is left isn't told");
+    }
+}
+
+/* At the end each seat can be leased; each object that is left comes, and each seat is dropped. */
 static void end(bool sleeps) {
-    const unsigned due = left, seats = (unsigned)queue.count;
-    uint32_t code;
-    for (size_t k = 0; k < queue.count; k++) {
-        if (queue.places[k].free_role != queue.roles[k]) {
+    const unsigned due = left, seats = (unsigned)queue.seats.count;
+    for (size_t k = 0; k < seats; k++) {
+        if (queue.seats.places[k].free_role != queue.seats.roles[k]) {
             is_wrong("a seat isn't back");
             return;
         }
     }
     if (sleeps) {
-        msq_queue_drop(&queue);
+        msq_seat_pool_drop(&queue.seats);
+    } else if (has_roles) {
+        close_pool(due);
     } else {
-        msq_seat *seat = msq_lease(&queue, queue.roles[1]);
-        if (seat == NULL || msq_destroy(&queue, free_one, &freed) != MSQ_IN_USE || freed != 0) {
-            is_wrong("an end beside a lease");
-            return;
-        }
-        msq_release(&queue, seat);
-        code = msq_destroy(&queue, free_one, &freed);
-        if (code != MSQ_OK || freed != due || queue.places != NULL) {
+        const uint32_t code = msq_destroy(&queue, free_one, &freed);
+        if (code != MSQ_OK || freed != due || queue.seats.places != NULL) {
             is_wrong("what is left isn't freed");
         }
     }
@@ -356,8 +420,10 @@ static void end(bool sleeps) {
 /* A queue whose seats do both, or some one thing alone. */
 static void open_queue(void) {
     const uint8_t roles[SEATS] = {MSQ_GIVER, MSQ_TAKER, MSQ_BOTH};
-    const uint32_t code = any(2) ? msq_queue_open(&queue, MSQ_NON_BLOCKING, room, (uint16_t)(2 + any(SEATS - 1)))
-                                 : msq_queue_create(&queue, MSQ_NON_BLOCKING, room + 4, 1, roles, SEATS);
+    const uint32_t code = has_roles ? msq_seat_pool_create(&queue.seats, MSQ_NON_BLOCKING, room + 4, 1, roles, SEATS)
+                                    : msq_queue_open(&queue, MSQ_NON_BLOCKING, room, (uint16_t)(2 + any(SEATS - 1)));
+    block = (const char *)queue.seats.places;
+    block_end = (const char *)(queue.seats.places + queue.seats.count);
     if (code != MSQ_OK) {
         is_wrong("no queue");
     }
@@ -365,22 +431,28 @@ static void open_queue(void) {
 
 static bool run(uint64_t seed) {
     unsigned steps = 0;
-    bool sleeps = false;
+    bool sleeps = false, ends;
     random_state = seed;
+    has_roles = any(3) == 0;
+    ends = any(2) == 0 && !has_roles;
+    is_gone = false;
     memset(&queue, 0, sizeof queue);
     memset(pushed, 0, sizeof pushed);
     memset(came, 0, sizeof came);
     room = 1 + any(2);
     left = dropped = freed = 0;
     busy = any(3) == 0;
-    pops = any(4) ? 1000 : any(3);
+    pops = ends || any(4) ? 1000 : any(3);
     is_shut = false;
     next_body = 1;
     fault = NULL;
     count = current = 0;
     open_queue();
     count = 2 + any(MOST - 1);
-    set_out();
+    set_out(ends);
+    if (ends && count == 2 && any(2)) {
+        threads[1].calls[1] = SHUT;
+    }
     for (current = picked(); current < count && fault == NULL; current = picked()) {
         swapcontext(&scheduler, &threads[current].at);
         if (++steps > STEPS) {
@@ -394,7 +466,10 @@ static bool run(uint64_t seed) {
     if (fault == NULL && is_left()) {
         is_wrong("one sleeps beside what it waits for");
     }
-    if (fault == NULL) {
+    if (fault == NULL && ends && !is_gone) {
+        is_wrong("it isn't destroyed");
+    }
+    if (fault == NULL && !ends) {
         end(sleeps);
     }
     return fault == NULL;

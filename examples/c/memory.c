@@ -65,6 +65,8 @@ static msq_value values[8];
 static msq_item items[8];
 static msq_rest rest;
 static msq_queue queue;
+static msq_words_queue word_queue;
+static msq_word_queue single_queue;
 static int freed;
 
 static uint32_t create(uint32_t kind) {
@@ -96,12 +98,12 @@ static uint32_t close_singles(uint32_t kind) {
 
 /* With the limit 1 its pops end before it is empty. */
 static uint32_t create_queue(uint32_t kind) {
-    return msq_queue_create(&queue, kind, 8, 1, roles, 2);
+    return msq_seat_pool_create(&queue.seats, kind, 8, 1, roles, 2);
 }
 
 static uint32_t close_queue(uint32_t kind) {
     (void)kind;
-    return msq_queue_close(&queue, values, sizeof values / sizeof *values, &rest);
+    return msq_seat_pool_close(&queue.seats, values, sizeof values / sizeof *values, &rest);
 }
 
 static uint32_t open_queue(uint32_t kind) {
@@ -109,11 +111,11 @@ static uint32_t open_queue(uint32_t kind) {
 }
 
 static uint32_t open_words(uint32_t kind) {
-    return msq_words_open(&queue, kind, 8, 2);
+    return msq_words_open(&word_queue, kind, 8, 2);
 }
 
 static uint32_t open_singles(uint32_t kind) {
-    return msq_word_open(&queue, kind, 8, 2);
+    return msq_word_open(&single_queue, kind, 8, 2);
 }
 
 static void count_one(void *object, void *context) {
@@ -133,7 +135,7 @@ static void count_words(const msq_words *words, void *context) {
 
 static uint32_t destroy_words(uint32_t kind) {
     (void)kind;
-    return msq_words_destroy(&queue, count_words, NULL);
+    return msq_words_destroy(&word_queue, count_words, NULL);
 }
 
 static void count_word(uint64_t word, void *context) {
@@ -143,7 +145,7 @@ static void count_word(uint64_t word, void *context) {
 
 static uint32_t destroy_singles(uint32_t kind) {
     (void)kind;
-    return msq_word_destroy(&queue, count_word, NULL);
+    return msq_word_destroy(&single_queue, count_word, NULL);
 }
 
 static void seats_with_numbers(uint32_t kind) {
@@ -164,7 +166,7 @@ static void seats_with_words(uint32_t kind) {
     is_done_at_last("close", close_words, kind);
     expect("what is left", rest.left, VALUES);
     is_done_at_last("open", open_words, kind);
-    expect("its end", msq_words_destroy(&queue, NULL, NULL), MSQ_OK);
+    expect("its end", msq_words_destroy(&word_queue, NULL, NULL), MSQ_OK);
 }
 
 static void seats_with_one_word(uint32_t kind) {
@@ -175,7 +177,7 @@ static void seats_with_one_word(uint32_t kind) {
     is_done_at_last("close", close_singles, kind);
     expect("what is left", rest.left, VALUES);
     is_done_at_last("open", open_singles, kind);
-    expect("its end", msq_word_destroy(&queue, NULL, NULL), MSQ_OK);
+    expect("its end", msq_word_destroy(&single_queue, NULL, NULL), MSQ_OK);
 }
 
 static void queues_of_pointers(uint32_t kind) {
@@ -203,12 +205,12 @@ static void worn_queues_of_words(uint32_t kind) {
     expect("open", open_words(kind), MSQ_OK);
     expect("create", msq_words_create(kind, 8, 1, roles, 2, word_seats, 2), MSQ_OK);
     for (size_t k = 0; k < 2; k++) {
-        msq_words_drop(msq_as_words(&queue.places[k].seat));
-        queue.places[k].seat = word_seats[k].seat;
+        msq_words_drop(msq_as_words(&word_queue.seats.places[k].seat));
+        word_queue.seats.places[k].seat = word_seats[k].seat;
         word_seats[k].seat.full = false;
     }
-    expect("a push", msq_words_queue_push(&queue, &words), MSQ_OK);
-    expect("a push", msq_words_queue_push(&queue, &words), MSQ_OK);
+    expect("a push", msq_words_queue_push(&word_queue, &words), MSQ_OK);
+    expect("a push", msq_words_queue_push(&word_queue, &words), MSQ_OK);
     freed = 0;
     is_done_at_last("its end", destroy_words, kind);
     expect("each is freed once", (uint64_t)freed, 2);
@@ -218,12 +220,12 @@ static void worn_queues_of_one_word(uint32_t kind) {
     expect("open", open_singles(kind), MSQ_OK);
     expect("create", msq_word_create(kind, 8, 1, roles, 2, single_seats, 2), MSQ_OK);
     for (size_t k = 0; k < 2; k++) {
-        msq_word_drop(msq_as_word(&queue.places[k].seat));
-        queue.places[k].seat = single_seats[k].seat;
+        msq_word_drop(msq_as_word(&single_queue.seats.places[k].seat));
+        single_queue.seats.places[k].seat = single_seats[k].seat;
         single_seats[k].seat.full = false;
     }
-    expect("a push", msq_word_queue_push(&queue, 1), MSQ_OK);
-    expect("a push", msq_word_queue_push(&queue, 2), MSQ_OK);
+    expect("a push", msq_word_queue_push(&single_queue, 1), MSQ_OK);
+    expect("a push", msq_word_queue_push(&single_queue, 2), MSQ_OK);
     freed = 0;
     is_done_at_last("its end", destroy_singles, kind);
     expect("each is freed once", (uint64_t)freed, 2);

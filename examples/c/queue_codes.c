@@ -63,10 +63,12 @@ static void a_queue_answers(uint32_t kind) {
     size_t count = 2;
     msq_seat *seat;
     expect("open", msq_queue_open(&queue, kind, 2, 1), MSQ_OK);
-    seat = msq_lease_for(&queue, MSQ_BOTH);
-    expect("a push while each seat is leased", msq_queue_push_wait_for(&queue, objects, MILLISECOND), MSQ_BUSY);
-    expect("a pop", msq_queue_pop_wait_for(&queue, &object, MILLISECOND), MSQ_BUSY);
-    msq_release(&queue, seat);
+    seat = msq_lease_free(&queue.seats);
+    expect("a push while each seat is leased", msq_queue_push(&queue, objects), MSQ_BUSY);
+    expect("one that waits", msq_queue_push_wait_for(&queue, objects, MILLISECOND), MSQ_BUSY);
+    expect("a pop", msq_queue_pop(&queue, &object), MSQ_BUSY);
+    expect("one that waits", msq_queue_pop_wait_for(&queue, &object, MILLISECOND), MSQ_BUSY);
+    msq_release(&queue.seats, seat);
     expect("it is empty", msq_queue_emptiness(&queue), MSQ_EMPTY);
     expect("a pop of nothing", msq_queue_pop(&queue, &object), MSQ_EMPTY);
     expect("one that waits", msq_queue_pop_wait_for(&queue, &object, MILLISECOND), MSQ_EMPTY);
@@ -104,60 +106,43 @@ static void a_queue_answers(uint32_t kind) {
 
 static void what_is_left_is_freed(uint32_t kind) {
     msq_queue queue = {0};
-    msq_seat *seat;
+    void *object = NULL;
     freed = 0;
     expect("open", msq_queue_open(&queue, kind, 100, 3), MSQ_OK);
     for (size_t k = 0; k < 100; k++) {
         expect("a push", msq_queue_push(&queue, &objects[k]), MSQ_OK);
     }
-    seat = msq_lease_for(&queue, MSQ_BOTH);
-    expect("an end beside a lease", msq_destroy(&queue, count_one, objects), MSQ_IN_USE);
-    expect("nothing was freed", freed, 0);
-    msq_release(&queue, seat);
     expect("its end", msq_destroy(&queue, count_one, objects), MSQ_OK);
     expect("all were freed", freed, 100);
-    expect("there is none", msq_queue_pop(&queue, (void **)&seat), MSQ_NO_SEAT);
-}
-
-/* So is what is left where no seat may pop. */
-static void what_no_seat_pops_is_freed(uint32_t kind) {
-    const uint8_t roles[] = {MSQ_GIVER, MSQ_GIVER};
-    msq_queue queue = {0};
-    freed = 0;
-    expect("create", msq_queue_create(&queue, kind, 8, MSQ_MOST_COUNT, roles, 2), MSQ_OK);
-    expect("a push", msq_queue_push(&queue, &objects[0]), MSQ_OK);
-    expect("a push", msq_queue_push(&queue, &objects[1]), MSQ_OK);
-    expect("a pop", msq_queue_pop(&queue, &(void *){NULL}), MSQ_NO_SEAT);
-    expect("its end", msq_destroy(&queue, count_one, objects), MSQ_OK);
-    expect("both were freed", freed, 2);
+    expect("there is none", msq_queue_pop(&queue, &object), MSQ_NO_SEAT);
 }
 
 /* Seats are leased one by one, and a queue ends once all are back. */
 static void seats_are_leased(uint32_t kind) {
     const uint8_t roles[] = {MSQ_GIVER, MSQ_TAKER};
-    msq_queue queue = {0};
+    msq_seat_pool pool = {0};
     msq_value value = {7, 7};
     msq_rest rest = {9, 9, false, false};
     msq_seat *giver;
-    expect("no seat of none", msq_lease(&queue, MSQ_GIVER) == NULL, true);
-    expect("a close of none", msq_queue_close(&queue, &value, 1, &rest), MSQ_NO_SEAT);
-    expect("no role", msq_queue_create(&queue, kind, 8, MSQ_MOST_COUNT, roles, 0), MSQ_BAD_SIZE);
-    expect("one node", msq_queue_create(&queue, kind, 1, MSQ_MOST_COUNT, roles, 2), MSQ_BAD_SIZE);
-    expect("create", msq_queue_create(&queue, kind, 8, MSQ_MOST_COUNT, roles, 2), MSQ_OK);
-    expect("create again", msq_queue_create(&queue, kind, 8, MSQ_MOST_COUNT, roles, 2), MSQ_IN_USE);
-    giver = msq_lease(&queue, MSQ_GIVER);
+    expect("no seat of none", msq_lease(&pool, MSQ_GIVER) == NULL, true);
+    expect("a close of none", msq_seat_pool_close(&pool, &value, 1, &rest), MSQ_NO_SEAT);
+    expect("no role", msq_seat_pool_create(&pool, kind, 8, MSQ_MOST_COUNT, roles, 0), MSQ_BAD_SIZE);
+    expect("one node", msq_seat_pool_create(&pool, kind, 1, MSQ_MOST_COUNT, roles, 2), MSQ_BAD_SIZE);
+    expect("create", msq_seat_pool_create(&pool, kind, 8, MSQ_MOST_COUNT, roles, 2), MSQ_OK);
+    expect("create again", msq_seat_pool_create(&pool, kind, 8, MSQ_MOST_COUNT, roles, 2), MSQ_IN_USE);
+    giver = msq_lease(&pool, MSQ_GIVER);
     expect("a seat", msq_try_push(giver, 5, 8), MSQ_OK);
-    expect("no further one", msq_lease(&queue, MSQ_GIVER) == NULL, true);
-    expect("none for both", msq_lease(&queue, MSQ_BOTH) == NULL, true);
-    expect("a close beside a lease", msq_queue_close(&queue, &value, 1, &rest), MSQ_IN_USE);
+    expect("no further one", msq_lease(&pool, MSQ_GIVER) == NULL, true);
+    expect("none for both", msq_lease(&pool, MSQ_BOTH) == NULL, true);
+    expect("a close beside a lease", msq_seat_pool_close(&pool, &value, 1, &rest), MSQ_IN_USE);
     expect("nothing is written", value.body + rest.left, 7 + 9);
-    msq_release(&queue, giver);
-    expect("the seat again", msq_lease(&queue, MSQ_GIVER) == giver, true);
-    msq_release(&queue, giver);
-    msq_release(&queue, NULL);
-    expect("a close", msq_queue_close(&queue, &value, 1, &rest), MSQ_OK);
+    msq_release(&pool, giver);
+    expect("the seat again", msq_lease(&pool, MSQ_GIVER) == giver, true);
+    msq_release(&pool, giver);
+    msq_release(&pool, NULL);
+    expect("a close", msq_seat_pool_close(&pool, &value, 1, &rest), MSQ_OK);
     expect("what is left", value.body + rest.left, 5 + 1);
-    expect("there is none", msq_lease(&queue, MSQ_GIVER) == NULL, true);
+    expect("there is none", msq_lease(&pool, MSQ_GIVER) == NULL, true);
 }
 
 /* A ring has no more than 32,767 seats. */
@@ -169,13 +154,13 @@ static void a_ring_has_fewer_seats(void) {
 
 /* At the limit 1 pops end with a worn word, before the queue is empty. */
 static void a_worn_queue_is_freed(uint32_t kind) {
-    const uint8_t roles[] = {MSQ_GIVER, MSQ_TAKER};
+    const uint8_t roles[] = {MSQ_BOTH, MSQ_BOTH};
     const uint32_t due = kind == MSQ_TWO_LOCK ? MSQ_WORN_HEAD : MSQ_WORN_TAIL;
     msq_queue queue = {0};
     void *object = NULL;
     size_t count = 0;
     uint32_t code;
-    expect("create", msq_queue_create(&queue, kind, 16, 1, roles, 2), MSQ_OK);
+    expect("create", msq_seat_pool_create(&queue.seats, kind, 16, 1, roles, 2), MSQ_OK);
     while (count < 4 && msq_queue_push(&queue, &objects[count]) == MSQ_OK) {
         count++;
     }
@@ -195,7 +180,6 @@ int main(void) {
         sizes_have_their_ranges(kind);
         a_queue_answers(kind);
         what_is_left_is_freed(kind);
-        what_no_seat_pops_is_freed(kind);
         seats_are_leased(kind);
     }
     for (uint32_t kind = MSQ_NON_BLOCKING; kind <= MSQ_TWO_LOCK; kind++) {

@@ -19,7 +19,7 @@ typedef struct task {
 enum { ROOM = 256, CALLS = 8 };
 
 typedef struct scheduler {
-    msq_queue tasks; /* all zeros before it is opened */
+    msq_words_queue tasks; /* all zeros before it is opened */
 } scheduler;
 
 static uint32_t scheduler_open(scheduler *me, uint32_t kind) {
@@ -82,7 +82,7 @@ static void count_dropped(const msq_words *words, void *context) {
 
 /* Whether each task of so many runs once, and none is left. */
 static bool all_run(uint32_t kind, atomic_uint *runs, size_t count) {
-    scheduler all = {{0}};
+    scheduler all = {0};
     pthread_t ids[STAYING + VISITORS];
     size_t workers = 0, dropped = 0;
     bool right = scheduler_open(&all, kind) == MSQ_OK;
@@ -109,7 +109,7 @@ static bool all_run(uint32_t kind, atomic_uint *runs, size_t count) {
 
 /* Whether a task that no worker takes goes to who is to drop it. */
 static bool what_is_left_is_dropped(uint32_t kind) {
-    scheduler none = {{0}};
+    scheduler none = {0};
     size_t dropped = 0;
     return scheduler_open(&none, kind) == MSQ_OK && submit(&none, count_up, NULL) == MSQ_OK &&
            scheduler_destroy(&none, count_dropped, &dropped) == MSQ_OK && dropped == 1;

@@ -22,7 +22,7 @@ static void expect(const char *what, uint64_t found, uint64_t due) {
     }
 }
 
-static msq_queue queue;
+static msq_word_queue queue;
 static msq_word_seat seats[MOST_THREADS];
 static uint32_t kind;
 static unsigned givers;
@@ -206,7 +206,7 @@ static void count_one(uint64_t word, void *count) {
 }
 
 static void what_is_left_is_freed(void) {
-    msq_queue shared = {0};
+    msq_word_queue shared = {0};
     msq_length length = {0, 0};
     msq_seat *seat, *other;
     uint64_t count = 0, word = 3;
@@ -218,21 +218,19 @@ static void what_is_left_is_freed(void) {
     expect("again", msq_word_open(&shared, kind, 10, 2), MSQ_IN_USE);
     expect("empty", msq_word_queue_pop_wait_for(&shared, &word, MILLISECOND), MSQ_EMPTY);
     expect("nothing is written", word, 3);
-    seat = msq_lease_for(&shared, MSQ_BOTH);
-    other = msq_lease_for(&shared, MSQ_BOTH);
-    expect("a push while each seat is leased", msq_word_queue_push_wait_for(&shared, 1, MILLISECOND), MSQ_BUSY);
-    expect("a pop", msq_word_queue_pop_wait_for(&shared, &word, MILLISECOND), MSQ_BUSY);
-    msq_release(&shared, seat);
-    msq_release(&shared, other);
+    seat = msq_lease_free(&shared.seats);
+    other = msq_lease_free(&shared.seats);
+    expect("a push while each seat is leased", msq_word_queue_push(&shared, 1), MSQ_BUSY);
+    expect("one that waits", msq_word_queue_push_wait_for(&shared, 1, MILLISECOND), MSQ_BUSY);
+    expect("a pop", msq_word_queue_pop(&shared, &word), MSQ_BUSY);
+    expect("one that waits", msq_word_queue_pop_wait_for(&shared, &word, MILLISECOND), MSQ_BUSY);
+    msq_release(&shared.seats, seat);
+    msq_release(&shared.seats, other);
     for (uint64_t number = 0; number < 10; number++) {
         expect("a push", msq_word_queue_push(&shared, key_of(5, number)), MSQ_OK);
     }
     expect("their length", msq_word_queue_len(&shared, &length), kind == MSQ_TWO_LOCK ? MSQ_UNCOUNTED : MSQ_OK);
     expect("ten", length.least + length.most, kind == MSQ_TWO_LOCK ? 0 : 20);
-    seat = msq_lease_for(&shared, MSQ_BOTH);
-    expect("an end beside a lease", msq_word_destroy(&shared, count_one, &count), MSQ_IN_USE);
-    expect("nothing was freed", count, 0);
-    msq_release(&shared, seat);
     expect("its end", msq_word_destroy(&shared, count_one, &count), MSQ_OK);
     expect("each came", count, 10);
 }

@@ -33,7 +33,7 @@ static bool are(const msq_words *one, const msq_words *other) {
     return memcmp(one, other, sizeof *one) == 0;
 }
 
-static msq_queue queue;
+static msq_words_queue queue;
 static msq_words_seat seats[MOST_THREADS];
 static uint32_t kind;
 static unsigned givers;
@@ -236,10 +236,10 @@ static void count_one(const msq_words *words, void *count) {
 }
 
 static void what_is_left_is_freed(void) {
-    msq_queue shared = {0};
+    msq_words_queue shared = {0};
     msq_words words = words_of(5, 0);
     msq_length length = {0, 0};
-    msq_seat *seat;
+    msq_seat *seat, *other;
     uint64_t count = 0;
     expect("no queue", msq_words_queue_push(&shared, &words), MSQ_NO_SEAT);
     expect("no queue to be seen", msq_words_queue_emptiness(&shared), MSQ_NO_SEAT);
@@ -260,10 +260,12 @@ static void what_is_left_is_freed(void) {
     expect("ten", length.least + length.most, kind == MSQ_TWO_LOCK ? 0 : 20);
     while (msq_words_queue_push(&shared, &words) == MSQ_OK) {
     }
-    seat = msq_lease_for(&shared, MSQ_BOTH);
-    expect("an end beside a lease", msq_words_destroy(&shared, count_one, &count), MSQ_IN_USE);
-    expect("nothing was freed", count, 0);
-    msq_release(&shared, seat);
+    seat = msq_lease_free(&shared.seats);
+    other = msq_lease_free(&shared.seats);
+    expect("a push while each seat is leased", msq_words_queue_push(&shared, &words), MSQ_BUSY);
+    expect("a pop", msq_words_queue_pop(&shared, &words), MSQ_BUSY);
+    msq_release(&shared.seats, seat);
+    msq_release(&shared.seats, other);
     expect("full", msq_words_queue_push_wait_for(&shared, &words, MILLISECOND), MSQ_NO_NODE);
     expect("its end", msq_words_destroy(&shared, count_one, &count), MSQ_OK);
     expect("each came", count, 10);

@@ -99,9 +99,9 @@ template <class Seat> struct stepped {
 
 template <class Seat> msq_code pop_once(Seat &it) {
     msq_value value{};
-    return it.try_pop(value, 1);
+    return it.try_pop(value, 1).code();
 }
-template <class Seat> msq_code push_one(Seat &it) { return it.try_push(1); }
+template <class Seat> msq_code push_one(Seat &it) { return it.try_push(1).code(); }
 
 // A push behind a pop in which another one comes.
 template <class Seat> msq_code push_behind(stepped<Seat> &all, call<Seat> push, long instruction) {
@@ -142,10 +142,10 @@ template <class Seat> void try_push_call(const char *name, call<Seat> push) {
 }
 
 template <class Seat> void try_each_call() {
-    try_push_call<Seat>("try_push", [](Seat &it) { return it.try_push(4); });
-    try_push_call<Seat>("push_wait", [](Seat &it) { return it.push_wait(4); });
-    try_push_call<Seat>("push_wait_for", [](Seat &it) { return it.push_wait_for(4, soon); });
-    try_each_place<Seat>("try_shut", [](Seat &it) { return it.try_shut(1); }, shut_beside<Seat>, MSQ_BUSY);
+    try_push_call<Seat>("try_push", [](Seat &it) { return it.try_push(4).code(); });
+    try_push_call<Seat>("push_wait", [](Seat &it) { return it.push_wait(4).code(); });
+    try_push_call<Seat>("push_wait_for", [](Seat &it) { return it.push_wait_for(4, soon).code(); });
+    try_each_place<Seat>("try_shut", [](Seat &it) { return it.try_shut(1).code(); }, shut_beside<Seat>, MSQ_BUSY);
 }
 
 } // namespace
@@ -160,7 +160,7 @@ int main() {
     try_push_call<msq::seat>("try_push_all", [](msq::seat &it) {
         const uint64_t body = 4;
         size_t count = 0;
-        return it.try_push_all(&body, 1, count);
+        return it.try_push_all(&body, 1, count).code();
     });
     return wrong;
 }

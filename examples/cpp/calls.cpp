@@ -27,6 +27,10 @@ void expect(const char *call, const char *when, uint32_t found, uint32_t due) {
     }
 }
 
+void expect(const char *call, const char *when, const msq::result &found, uint32_t due) {
+    expect(call, when, found.code(), due);
+}
+
 constexpr auto soon = std::chrono::nanoseconds(1);
 uint64_t body;
 uint32_t turns;
@@ -38,7 +42,7 @@ enum class how { turns, times, waits };
 template <class Seat> struct call {
     const char *name;
     how is;
-    msq_code (*make)(Seat &);
+    msq::result (*make)(Seat &);
 };
 
 // All calls that push, pop or shut.
@@ -52,20 +56,20 @@ template <class Seat> struct calls {
     std::vector<call<Seat>> shuts{{"try_shut", how::turns, [](Seat &it) { return it.try_shut(turns); }}};
 
     calls() {
-        add_optional(*this);
+        add_popped(*this);
         add_others(*this);
     }
 };
 
-// The code of a pop that answers an optional value, which is there exactly at MSQ_OK: else a code that no pop answers.
-template <class Popped> msq_code told(const Popped &popped) {
-    return popped.second.has_value() == (popped.first == MSQ_OK) ? popped.first : MSQ_IN_USE;
+// What a pop answers that has a value where it is true: else a code that no pop answers.
+msq::result told(const msq::result &popped) {
+    return static_cast<bool>(popped) == (popped == MSQ_OK) ? popped : msq::result(MSQ_IN_USE);
 }
 
-template <class Seat> void add_optional(calls<Seat> &all) {
-    all.pops.push_back({"try_pop, optional", how::turns, [](Seat &it) { return told(it.try_pop(turns)); }});
-    all.pops.push_back({"pop_wait_for, optional", how::times, [](Seat &it) { return told(it.pop_wait_for(soon)); }});
-    all.pops.push_back({"pop_wait, optional", how::waits, [](Seat &it) { return told(it.pop_wait()); }});
+template <class Seat> void add_popped(calls<Seat> &all) {
+    all.pops.push_back({"try_pop, popped", how::turns, [](Seat &it) { return told(it.try_pop(turns)); }});
+    all.pops.push_back({"pop_wait_for, popped", how::times, [](Seat &it) { return told(it.pop_wait_for(soon)); }});
+    all.pops.push_back({"pop_wait, popped", how::waits, [](Seat &it) { return told(it.pop_wait()); }});
 }
 
 // A seat pushes and pops many too, which a lease doesn't.
@@ -193,10 +197,12 @@ template <class Seat> void a_full_queue_is_told() {
 // What a lease has no call for.
 void others_are_refused(std::vector<msq::lease> &) {}
 void others_are_refused(std::vector<msq::seat> &seats) {
+    msq_length length{};
+    msq_remaining left{};
     expect("keep_nodes", "another call", seats[0].keep_nodes(true), MSQ_TWO_CALLS);
     expect("emptiness", "another call", seats[0].emptiness(), MSQ_TWO_CALLS);
-    expect("len", "another call", seats[0].len().first, MSQ_TWO_CALLS);
-    expect("left", "another call", seats[0].left().first, MSQ_TWO_CALLS);
+    expect("len", "another call", seats[0].len(length), MSQ_TWO_CALLS);
+    expect("left", "another call", seats[0].left(left), MSQ_TWO_CALLS);
     for (int k = 0; k < 1000; k++) {
         expect("close", "another call", msq::close(seats).code, MSQ_TWO_CALLS);
     }
@@ -212,7 +218,7 @@ template <class Seat> void another_call_uses_the_seat(msq::kind kind) {
         msq_value found{};
         msq_code code = MSQ_TWO_CALLS;
         while (code == MSQ_TWO_CALLS) {
-            code = seats[0].pop_wait(found);
+            code = seats[0].pop_wait(found).code();
         }
         expect("pop_wait", "a value at last", code, MSQ_OK);
     });
@@ -279,8 +285,8 @@ const roles four{msq::role::giver, msq::role::taker, msq::role::giver, msq::role
 // Pushes and pops by the seats that other calls don't use.
 template <class Seat> void push_and_pop(std::vector<Seat> &seats) {
     static msq_value own;
-    seats[2].try_push(7);
-    seats[3].try_pop(own);
+    (void)seats[2].try_push(7);
+    (void)seats[3].try_pop(own);
 }
 
 // A thread stopped with the lock of Tail, and one with that of Head: who needs it finds the queue busy.
@@ -294,7 +300,7 @@ template <class Seat> void locks_are_held() {
         if (code == MSQ_BUSY) {
             each(all.pushes, seats[0], "a held lock", MSQ_BUSY, true);
         } else { // so that the queue isn't full at last, where a push lacks a node before it looks at the lock
-            seats[1].try_pop(value);
+            (void)seats[1].try_pop(value);
         }
         return code == MSQ_BUSY;
     });
@@ -313,15 +319,15 @@ template <class T> void value_locks_are_held() {
     T found{};
     const auto act = [&] {
         static T own;
-        queue.try_push(T(7));
-        queue.try_pop(own);
+        (void)queue.try_push(T(7));
+        (void)queue.try_pop(own);
     };
     stop_within(act, [&] {
         const auto code = queue.try_push(T(7));
         if (code == MSQ_BUSY) {
             expect("push_wait_for of values", "a held lock", queue.push_wait_for(T(7), soon), MSQ_BUSY);
         } else {
-            queue.try_pop(found);
+            (void)queue.try_pop(found);
         }
         return code == MSQ_BUSY;
     });
@@ -351,8 +357,8 @@ void a_place_is_claimed() {
     uint32_t found = 0;
     const auto act = [&] {
         static uint32_t own;
-        queue.try_push(7);
-        queue.try_pop(own);
+        (void)queue.try_push(7);
+        (void)queue.try_pop(own);
     };
     stop_within(act, [&] {
         const bool claimed = queue.try_pop(found) == MSQ_BUSY;

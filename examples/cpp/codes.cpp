@@ -2,6 +2,10 @@
 // answers were as they should be. Compiled without exceptions, it leaves out the calls that throw.
 #include "msq_queue.hpp"
 
+#if __cplusplus >= 201703L
+#include <optional>
+#endif
+
 #include <cstdio>
 #include <memory>
 #include <string>
@@ -137,8 +141,8 @@ static void small_values_pass() {
     expect("what lies in place", lies_in_place<uint64_t>::value && lies_in_place<std::unique_ptr<int>>::value &&
                                      lies_in_place<std::shared_ptr<int>>::value && lies_in_place<small>::value &&
                                      lies_in_place<middle>::value);
-    expect("as one word", std::is_same<msq::detail::width_of<small>, msq::detail::one_word>::value);
-    expect("as three", std::is_same<msq::detail::width_of<middle>, msq::detail::three_words>::value);
+    expect("as one word", std::is_same<msq::detail::by_words<small>::words, uint64_t>::value);
+    expect("as three", std::is_same<msq::detail::by_words<middle>::words, msq_words>::value);
     expect("what doesn't", !lies_in_place<std::string>::value && !lies_in_place<large>::value);
     expect("zeros", comes<uint64_t>(0) && comes(0) && comes(false));
     expect("ones", comes<uint64_t>(UINT64_MAX) && comes(UINT32_MAX) && comes(-1) && comes(true));
@@ -151,7 +155,7 @@ static void small_values_pass() {
     const auto shared = std::make_shared<int>(7);
     expect("a shared pointer", comes(shared) && shared.use_count() == 1);
     for (auto kind : kinds) {
-        msq::queue<std::shared_ptr<int>>::create(4, kind).second.try_push(shared);
+        expect("a copy goes in", bool(msq::queue<std::shared_ptr<int>>::create(4, kind).second.try_push(shared)));
         expect("what is left ends with its queue", shared.use_count() == 1);
     }
     const auto high = reinterpret_cast<int *>(UINTPTR_MAX);
@@ -169,7 +173,7 @@ static void a_sleeper_is_woken() {
     std::string found;
     std::thread giver([&] {
         for (int k = 0; k < 1000; k++) {
-            moved.push_wait(std::string(40, 'x'));
+            expect("a push that sleeps", bool(moved.push_wait(std::string(40, 'x'))));
         }
         moved.close();
     });
@@ -238,7 +242,7 @@ template <class T> static void a_throw_destroys_one(msq::kind kind) {
         expect("ends that value", T::alive == static_cast<int>(pushed));
         try {
             T value;
-            queue.try_pop(value);
+            (void)queue.try_pop(value);
             expect("a pop that can't give its value", false);
         } catch (int) {
             expect("ends that value too", T::alive == static_cast<int>(pushed) - 1);
@@ -279,18 +283,17 @@ static void calls_throw() {
 }
 #endif
 
-#if __cplusplus >= 201703L
-template <class box> static void optional_values_come(msq::kind kind) {
+template <class box> static void popped_values_come(msq::kind kind) {
     auto queue = msq::queue<box>::create(4, kind).second;
     expect("none of an empty queue", !queue.try_pop() && !queue.pop_wait_for(milliseconds(1)));
     for (int number = 1; number <= 3; number++) {
-        queue.try_push(box(number));
+        expect("a push", bool(queue.try_push(box(number))));
     }
     const auto one = queue.try_pop(), two = queue.pop_wait_for(milliseconds(1)), three = queue.pop_wait();
     expect("each in its order", one && two && three && **one == 1 && **two == 2 && **three == 3);
     std::thread giver([&] {
         for (int number = 1; number <= 1000; number++) {
-            queue.push_wait(box(number));
+            (void)queue.push_wait(box(number));
         }
         queue.close();
     });
@@ -304,7 +307,6 @@ template <class box> static void optional_values_come(msq::kind kind) {
     msq::queue<box> no_queue;
     expect("none of no queue", !no_queue.try_pop() && !no_queue.pop_wait() && !no_queue.pop_wait_for(milliseconds(1)));
 }
-#endif
 
 // As boost::lockfree::queue has it.
 static void values_are_consumed() {
@@ -314,11 +316,11 @@ static void values_are_consumed() {
         const auto use = [&](std::string &&text) { all += std::move(text); };
         expect("none of nothing", !queue.consume_one(use) && queue.consume_all(use) == 0 && all.empty());
         for (const char *text : {"a", "b", "c"}) {
-            queue.try_push(text);
+            expect("a push", bool(queue.try_push(text)));
         }
         expect("the first one", queue.consume_one(use) && all == "a");
         expect("all others", queue.consume_all(use) == 2 && all == "abc");
-        queue.try_push("d");
+        expect("one more", bool(queue.try_push("d")));
         queue.close();
         expect("what a closed one has", queue.consume_all(use) == 1 && all == "abcd");
         expect("none of a closed one", !queue.consume_one(use));
@@ -346,14 +348,14 @@ int main() {
         a_throw_destroys_one<boxed_thrower>(kind);
     }
 #endif
-#if __cplusplus >= 201703L
     for (auto kind : kinds) {
-        optional_values_come<small>(kind);
-        optional_values_come<middle>(kind);
-        optional_values_come<large>(kind);
-        optional_values_come<std::optional<int>>(kind);
-    }
+        popped_values_come<small>(kind);
+        popped_values_come<middle>(kind);
+        popped_values_come<large>(kind);
+#if __cplusplus >= 201703L
+        popped_values_come<std::optional<int>>(kind);
 #endif
+    }
     std::printf("%u answers as they should be, %u not\n", right, wrong);
     return wrong != 0;
 }

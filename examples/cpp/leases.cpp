@@ -47,8 +47,8 @@ void take(msq::seat_pool queue) {
     std::array<uint64_t, pairs> next{};
     auto lease = leased(queue, msq::role::taker);
     for (uint64_t taken = 0; taken < values && !wrong;) {
-        auto [code, value] = lease.try_pop();
-        if (code == MSQ_EMPTY || code == MSQ_BUSY) {
+        auto value = lease.try_pop();
+        if (value == MSQ_EMPTY || value == MSQ_BUSY) {
             std::this_thread::yield();
         } else if (!value || value->body >= pairs * values || value->body % values < next[value->body / values]) {
             wrong = true;

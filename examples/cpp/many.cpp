@@ -56,7 +56,7 @@ static void sleepers_are_woken(msq::kind kind) {
         while (came < total) {
             size_t count = 0;
             expect("a value", taker.pop_wait(values[0]) == MSQ_OK);
-            taker.try_pop_up_to(values + 1, 15, count);
+            (void)taker.try_pop_up_to(values + 1, 15, count);
             for (size_t k = 0; k <= count; k++) {
                 in_order = in_order && values[k].body == came;
                 came++;
@@ -66,7 +66,7 @@ static void sleepers_are_woken(msq::kind kind) {
     for (uint64_t next = 0; next < total;) {
         const uint64_t bodies[] = {next, next + 1, next + 2, next + 3};
         size_t count = 0;
-        giver.try_push_all(bodies, std::min<size_t>(4, total - next), count);
+        (void)giver.try_push_all(bodies, std::min<size_t>(4, total - next), count);
         next += count;
         if (count == 0 && giver.push_wait(next) == MSQ_OK) {
             next++;
@@ -90,7 +90,7 @@ static void many_pass_between_four(msq::kind kind) {
             std::vector<uint64_t> mine(total);
             std::iota(mine.begin(), mine.end(), 0);
             for (size_t next = 0, count = 0; next < total; next += count) {
-                made.second[k].try_push_all(mine.data() + next, std::min<size_t>(50, total - next), count);
+                (void)made.second[k].try_push_all(mine.data() + next, std::min<size_t>(50, total - next), count);
                 if (count == 0) {
                     std::this_thread::yield();
                 }
@@ -101,7 +101,7 @@ static void many_pass_between_four(msq::kind kind) {
             std::vector<std::vector<uint64_t>> mine(2);
             while (came < 2 * total) {
                 size_t count = 0;
-                made.second[2 + k].try_pop_up_to(values.data(), values.size(), count);
+                (void)made.second[2 + k].try_pop_up_to(values.data(), values.size(), count);
                 for (size_t v = 0; v < count; v++) {
                     std::vector<uint64_t> &those = mine.at(values[v].from - 1u);
                     in_order = in_order && (those.empty() || those.back() < values[v].body);

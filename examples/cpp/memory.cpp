@@ -31,7 +31,7 @@ template <class Call> void is_done_at_last(const char *what, Call call) {
     long allocations = -1;
     while (code == MSQ_MEMORY) {
         before = ++allocations;
-        code = call();
+        code = msq::result(call()).code();
         before = -1;
         refused += code == MSQ_MEMORY;
     }
@@ -56,7 +56,7 @@ void seats(msq::kind kind) {
         made = std::move(answer.second);
         return answer.first;
     });
-    made[0].try_push(7);
+    expect("a push", bool(made[0].try_push(7)));
     is_done_at_last("close", [&] {
         const auto ended = msq::close(made);
         expect("what is left", ended.left.size() == (ended.code == MSQ_OK));
@@ -71,7 +71,7 @@ void pools(msq::kind kind) {
         made = std::move(answer.second);
         return answer.first;
     });
-    made.lease(msq::role::giver).try_push(7);
+    expect("a push", bool(made.lease(msq::role::giver).try_push(7)));
     is_done_at_last("its close", [&] {
         const auto ended = made.close();
         expect("what is left", ended.left.size() == (ended.code == MSQ_OK));

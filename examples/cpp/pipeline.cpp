@@ -41,7 +41,7 @@ void push_all(worker &me) {
 
 void pop_all(worker &me) {
     for (;;) {
-        auto [code, value] = me.seat.try_pop();
+        auto value = me.seat.try_pop();
         if (value) {
             if (value->from >= me.next.size() || value->body < me.next[value->from] || value->body >= me.values) {
                 me.fault = "out of order";
@@ -51,10 +51,10 @@ void pop_all(worker &me) {
             uint64_t place = (value->from - 1) * me.values + value->body;
             me.popped[place / 64] |= uint64_t{1} << place % 64;
             me.count++;
-        } else if (code == MSQ_EMPTY || code == MSQ_BUSY) {
+        } else if (value == MSQ_EMPTY || value == MSQ_BUSY) {
             std::this_thread::yield();
         } else {
-            me.fault = code == MSQ_CLOSED ? "" : "a pop was refused";
+            me.fault = value == MSQ_CLOSED ? "" : "a pop was refused";
             return;
         }
     }

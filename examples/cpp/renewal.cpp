@@ -65,7 +65,7 @@ public:
     // MSQ_OK, MSQ_CLOSED or MSQ_MEMORY.
     msq_code give(uint64_t body) {
         for (;;) {
-            auto code = seat().try_push(body);
+            auto code = seat().try_push(body).code();
             if (code == MSQ_BUSY || (code == MSQ_NO_NODE && at_->nodes == most_nodes)) {
                 std::this_thread::yield();
                 continue;
@@ -81,10 +81,10 @@ public:
     }
 
     // MSQ_OK, MSQ_EMPTY, MSQ_BUSY, or MSQ_CLOSED where the whole is shut and empty.
-    std::pair<msq_code, std::optional<msq_value>> take() {
+    msq::popped<msq_value> take() {
         for (;;) {
             auto taken = seat().try_pop();
-            if (taken.first != MSQ_CLOSED || !go_on()) {
+            if (taken != MSQ_CLOSED || !go_on()) {
                 return taken;
             }
         }
@@ -141,7 +141,7 @@ private:
     // Shuts this queue, or finds it shut.
     msq_code shut() {
         for (;;) {
-            auto code = seat().try_shut();
+            auto code = seat().try_shut().code();
             if (code != MSQ_BUSY) {
                 return code == MSQ_CLOSED ? MSQ_OK : code;
             }
@@ -183,15 +183,15 @@ struct worker {
     void pop_all() {
         std::vector<uint64_t> next(seen.size() / values + 1);
         for (;;) {
-            auto [code, value] = self.take();
+            auto value = self.take();
             if (value) {
                 good = good && value->body >= next[value->from] && value->body < values;
                 next[value->from] = value->body + 1;
                 seen[(value->from - 1) * values + value->body]++;
-            } else if (code == MSQ_EMPTY || code == MSQ_BUSY) {
+            } else if (value == MSQ_EMPTY || value == MSQ_BUSY) {
                 std::this_thread::yield();
             } else {
-                good = good && code == MSQ_CLOSED;
+                good = good && value == MSQ_CLOSED;
                 return;
             }
         }

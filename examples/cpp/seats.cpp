@@ -17,6 +17,9 @@ void expect(const char *what, uint32_t found, uint32_t due) {
         std::fprintf(stderr, "seats: %s: %s, and not %s\n", what, msq_code_name(found), msq_code_name(due));
     }
 }
+void expect(const char *what, const msq::result &found, uint32_t due) {
+    expect(what, found.code(), due);
+}
 
 const std::vector<msq::role> two{msq::role::giver, msq::role::taker};
 

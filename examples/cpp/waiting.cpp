@@ -28,25 +28,17 @@ struct alignas(64) worker {
 
 void push_all(worker &me, uint64_t values) {
     for (uint64_t k = 0; k < values && me.end == MSQ_OK; k++) {
-        me.end = me.seat.push_wait(me.first + k);
+        me.end = me.seat.push_wait(me.first + k).code();
     }
 }
 
 void pop_all(worker &me) {
     while (me.end == MSQ_OK) {
-#if __cplusplus >= 201703L
-        auto [code, value] = me.seat.pop_wait();
+        auto value = me.seat.pop_wait();
         if (value) {
             me.popped.push_back(value->body);
         }
-        me.end = code;
-#else
-        msq_value value{};
-        me.end = me.seat.pop_wait(value);
-        if (me.end == MSQ_OK) {
-            me.popped.push_back(value.body);
-        }
-#endif
+        me.end = value.code();
     }
 }
 
@@ -137,7 +129,7 @@ std::string one_by_one(msq::kind kind) {
 std::string closed_with_too_little_room(msq::kind kind) {
     auto made = msq::create(kind, 8, {msq::role::both});
     for (uint64_t body = 1; body <= 3; body++) {
-        made.second[0].try_push(body);
+        (void)made.second[0].try_push(body);
     }
     auto ended = msq::close(made.second, 1);
     return ended.code == MSQ_OK && ended.left.size() == 1 && ended.left[0].body == 1 && ended.lost == 2 ? "" : "a close";

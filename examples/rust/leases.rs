@@ -1,7 +1,8 @@
 //! Threads that come and go over few seats: each has a clone of one handle, leases a seat, pushes or pops some values, and ends.
 //!
 //!     leases ROUNDS: in each round 32 threads push and 32 pop 1,000 values each by 8 seats of each role, over either queue.
-use msq::{Body, Kind, Lease, Refusal, SeatPool};
+use msq::seats::{Body, Lease, SeatPool};
+use msq::{Kind, Refusal};
 use std::env;
 use std::process::ExitCode;
 use std::sync::atomic::{AtomicU32, Ordering};
@@ -23,11 +24,11 @@ fn waited<S>(lease: impl Fn() -> Option<Lease<S>>) -> Lease<S> {
 
 // Pushes the values of a visit, in order.
 fn give(queue: &SeatPool, visit: u64) -> Result<(), Refusal> {
-    let mut sender = waited(|| queue.sender());
+    let mut giver = waited(|| queue.giver());
     for number in visit * VALUES..(visit + 1) * VALUES {
         let body = Body::new(number).ok_or(Refusal::BadSize)?;
         loop {
-            match sender.try_push(body, 8) {
+            match giver.try_push(body, 8) {
                 Err(Refusal::NoNode | Refusal::Busy) => thread::yield_now(),
                 done => break done?,
             }
@@ -39,10 +40,10 @@ fn give(queue: &SeatPool, visit: u64) -> Result<(), Refusal> {
 // Pops as many values as a visit pushes; those of one visit rise.
 fn take(queue: &SeatPool, takes: &[AtomicU32]) -> Result<(), Refusal> {
     let mut next = [0; PAIRS as usize];
-    let mut receiver = waited(|| queue.receiver());
+    let mut taker = waited(|| queue.taker());
     let mut taken = 0;
     while taken < VALUES {
-        match receiver.try_pop(8) {
+        match taker.try_pop(8) {
             Ok(None) | Err(Refusal::Busy) => thread::yield_now(),
             Ok(Some(value)) => {
                 let number = value.body.number();
@@ -78,7 +79,7 @@ fn is_right(kind: Kind, rounds: u32) -> bool {
     };
     let takes = Arc::new((0..PAIRS * VALUES).map(|_| AtomicU32::new(0)).collect::<Vec<_>>());
     let done = (0..rounds).all(|_| come_and_go(&queue, &takes));
-    let leased: Vec<_> = (0..9).map_while(|_| queue.sender()).collect();
+    let leased: Vec<_> = (0..9).map_while(|_| queue.giver()).collect();
     done && leased.len() == 8 && takes.iter().all(|count| count.load(Ordering::SeqCst) == rounds)
 }
 

@@ -1,17 +1,18 @@
 //! Producers push numbers, consumers pop them, over either queue: each producer's values come in order, each once.
 //!
 //!     pipeline THREADS VALUES: half of the threads push, half pop; so many values go through each queue.
-use msq::{Body, Kind, Receiver, Refusal, Sender};
+use msq::seats::{Body, Giver, Taker};
+use msq::{Kind, Refusal};
 use std::thread;
 use std::time::Instant;
 
 const NODES: u32 = 1024;
 
-fn push_all(sender: &mut Sender, values: u64) -> Result<(), Refusal> {
+fn push_all(giver: &mut Giver, values: u64) -> Result<(), Refusal> {
     for value in 0..values {
         let body = Body::new(value).ok_or(Refusal::BadSize)?;
         loop {
-            match sender.try_push(body, 8) {
+            match giver.try_push(body, 8) {
                 Err(Refusal::NoNode | Refusal::Busy) => thread::yield_now(),
                 done => break done?,
             }
@@ -20,12 +21,12 @@ fn push_all(sender: &mut Sender, values: u64) -> Result<(), Refusal> {
     Ok(())
 }
 
-// Pops until the queue is shut and empty: a bit for each value of each sender that was popped.
-fn pop_all(mut receiver: Receiver, senders: usize, values: u64) -> Result<Vec<u64>, Refusal> {
-    let mut next = vec![0; senders + 1];
-    let mut popped = vec![0; senders * values as usize / 64 + 1];
+// Pops until the queue is shut and empty: a bit for each value of each giver that was popped.
+fn pop_all(mut taker: Taker, givers: usize, values: u64) -> Result<Vec<u64>, Refusal> {
+    let mut next = vec![0; givers + 1];
+    let mut popped = vec![0; givers * values as usize / 64 + 1];
     loop {
-        match receiver.try_pop(8) {
+        match taker.try_pop(8) {
             Ok(Some(value)) => {
                 let from = usize::from(value.from);
                 let number = value.body.number();
@@ -41,16 +42,16 @@ fn pop_all(mut receiver: Receiver, senders: usize, values: u64) -> Result<Vec<u6
     }
 }
 
-fn shut(sender: &mut Sender) -> Result<(), Refusal> {
+fn shut(giver: &mut Giver) -> Result<(), Refusal> {
     loop {
-        match sender.try_shut(8) {
+        match giver.try_shut(8) {
             Err(Refusal::Busy) => thread::yield_now(),
             done => return done,
         }
     }
 }
 
-// Whether the receivers together popped each of so many values, and none of them twice.
+// Whether the takers together popped each of so many values, and none of them twice.
 fn each_once(popped: &[Vec<u64>], values: usize) -> bool {
     (0..=values / 64).all(|word| {
         let (mut all, mut twice) = (0, 0);
@@ -66,25 +67,25 @@ fn each_once(popped: &[Vec<u64>], values: usize) -> bool {
 fn run(kind: Kind, threads: u16, values: u64) -> Result<(), Refusal> {
     let half = threads / 2;
     let each = values / u64::from(half);
-    let (senders, receivers) = msq::queue(kind, NODES, half, half)?;
+    let (givers, takers) = msq::seats::queue(kind, NODES, half, half)?;
     let began = Instant::now();
     let popped = thread::scope(|scope| {
-        let takers: Vec<_> = receivers
+        let taking: Vec<_> = takers
             .into_iter()
             .map(|one| scope.spawn(move || pop_all(one, usize::from(half), each)))
             .collect();
-        let givers: Vec<_> = senders
+        let giving: Vec<_> = givers
             .into_iter()
             .map(|mut one| scope.spawn(move || push_all(&mut one, each).map(|()| one)))
             .collect();
-        let mut senders = Vec::new();
-        for giver in givers {
-            senders.push(giver.join().expect("a sender stopped")?);
+        let mut givers = Vec::new();
+        for one in giving {
+            givers.push(one.join().expect("a giver stopped")?);
         }
-        shut(&mut senders[0])?;
-        takers
+        shut(&mut givers[0])?;
+        taking
             .into_iter()
-            .map(|taker| taker.join().expect("a receiver stopped"))
+            .map(|one| one.join().expect("a taker stopped"))
             .collect::<Result<Vec<_>, Refusal>>()
     })?;
     let all = u64::from(half) * each;

@@ -6,14 +6,15 @@
 //! A giver sees that its queue is worn by `WornOut(Free)`, and that it is full by `NoNode`. It publishes the link to a further
 //! queue, and then shuts its own: who is refused `Closed` always finds the link, and goes on there. A pop is refused so only
 //! where nothing is left. examples/c/renewal.c says what sizes and limits have to be.
-use msq::{Body, Kind, Receiver, Refusal, Sender, Value, WornWord};
+use msq::seats::{self, Body, Value};
+use msq::{Kind, Refusal, WornWord};
 use std::sync::atomic::{AtomicU8, AtomicUsize, Ordering};
 use std::sync::{Arc, Mutex, OnceLock};
 use std::thread;
 
 const FIRST_NODES: u32 = 8;
 const MOST_NODES: u32 = 64;
-/// So small that it wears out; `msq::queue` takes the greatest one.
+/// So small that it wears out; `msq::seats::queue` takes the greatest one.
 const LIMIT: u64 = 2 * MOST_NODES as u64 + 1;
 
 static QUEUES: AtomicUsize = AtomicUsize::new(0);
@@ -33,8 +34,8 @@ type Place<S> = Mutex<Option<S>>;
 struct Segment {
     shape: Shape,
     nodes: u32,
-    senders: Vec<Place<Sender>>,
-    receivers: Vec<Place<Receiver>>,
+    givers: Vec<Place<seats::Giver>>,
+    takers: Vec<Place<seats::Taker>>,
     next: OnceLock<Next>,
 }
 
@@ -55,13 +56,13 @@ fn taken<S>(place: &Place<S>) -> S {
 
 impl Segment {
     fn new(shape: Shape, nodes: u32) -> Result<Arc<Segment>, Refusal> {
-        let (senders, receivers) =
-            msq::queue_with_limit(shape.kind, nodes, LIMIT, shape.givers, shape.takers)?;
+        let (givers, takers) =
+            seats::queue_with_limit(shape.kind, nodes, LIMIT, shape.givers, shape.takers)?;
         Ok(Arc::new(Segment {
             shape,
             nodes,
-            senders: places(senders),
-            receivers: places(receivers),
+            givers: places(givers),
+            takers: places(takers),
             next: OnceLock::new(),
         }))
     }
@@ -79,12 +80,12 @@ impl Segment {
 struct Giver {
     number: usize,
     at: Arc<Segment>,
-    seat: Sender,
+    seat: seats::Giver,
 }
 
 impl Giver {
     fn new(number: usize, at: Arc<Segment>) -> Giver {
-        let seat = taken(&at.senders[number]);
+        let seat = taken(&at.givers[number]);
         Giver { number, at, seat }
     }
 
@@ -149,12 +150,12 @@ impl Giver {
 struct Taker {
     number: usize,
     at: Arc<Segment>,
-    seat: Receiver,
+    seat: seats::Taker,
 }
 
 impl Taker {
     fn new(number: usize, at: Arc<Segment>) -> Taker {
-        let seat = taken(&at.receivers[number]);
+        let seat = taken(&at.takers[number]);
         Taker { number, at, seat }
     }
 

@@ -38,7 +38,7 @@ impl<'a> Scheduler<'a> {
     /// Works in the thread that calls it: runs so many tasks and lets the thread go, or ends once the scheduler is closed and all its
     /// tasks were taken. It sleeps while there is none. Answers how many it ran.
     fn work(&self, most: usize) -> usize {
-        let tasks = iter::from_fn(|| self.tasks.pop_wait());
+        let tasks = iter::from_fn(|| self.tasks.pop_wait().ok());
         tasks.take(most).map(|task| task()).count()
     }
 

@@ -54,7 +54,7 @@ fn passes_a_queue(kind: Kind, threads: usize, came: &Came) -> bool {
         };
         let giving: Vec<_> = (0..givers).map(give).collect();
         let taking: Vec<_> = (givers..threads)
-            .map(|_| scope.spawn(|| take(std::iter::from_fn(|| queue.pop_wait()), came)))
+            .map(|_| scope.spawn(|| take(std::iter::from_fn(|| queue.pop_wait().ok()), came)))
             .collect();
         let gave = giving
             .into_iter()

@@ -1,8 +1,9 @@
-//! Threads that send and receive by calls that sleep, over either queue: in random runs each ends, and each value comes once,
-//! or is dropped with its queue.
+//! Threads that push and pop by calls that sleep, over each queue: in random runs each ends, and each value comes once, or is dropped
+//! with its queue.
 //!
-//!     waiting RUNS: so many runs, each with up to three threads on either side, few nodes, deadlines, pauses and a shut
-use msq::{Body, BoxReceiver, BoxSender, Kind, Refusal};
+//!     waiting RUNS: so many runs, each with up to three threads on either side, few places and seats, deadlines, pauses and a close
+use msq::seats::{self, Body};
+use msq::{Kind, PushError, Queue, Refusal};
 use std::sync::atomic::{AtomicUsize, Ordering::SeqCst};
 use std::thread;
 use std::time::{Duration, Instant};
@@ -32,9 +33,9 @@ struct Counted<'a> {
 }
 
 impl<'a> Counted<'a> {
-    fn new(number: u64, alive: &'a AtomicUsize) -> Box<Counted<'a>> {
+    fn new(number: u64, alive: &'a AtomicUsize) -> Counted<'a> {
         alive.fetch_add(1, SeqCst);
-        Box::new(Counted { number, alive })
+        Counted { number, alive }
     }
 }
 
@@ -44,25 +45,25 @@ impl Drop for Counted<'_> {
     }
 }
 
-// Sends up to so many values: how many it sent.
-fn send_all<'a>(mut sender: BoxSender<Counted<'a>>, alive: &'a AtomicUsize, first: u64, mut random: Random) -> u64 {
+// Pushes up to so many values: how many it pushed.
+fn push_all<'a>(queue: &Queue<Counted<'a>>, alive: &'a AtomicUsize, first: u64, mut random: Random) -> u64 {
     let most = random.below(VALUES + 1);
     let mut sent = 0;
     let mut value = Counted::new(first, alive);
     while sent < most {
         let answer = match random.below(3) {
-            0 => sender.send(value),
-            1 => sender.send_timeout(value, Duration::from_micros(random.below(200))),
-            _ => sender.try_push(value, 8),
+            0 => queue.push_wait(value),
+            1 => queue.push_timeout(value, Duration::from_micros(random.below(200))),
+            _ => queue.push(value),
         };
         value = match answer {
             Ok(()) => {
                 sent += 1;
                 Counted::new(first + sent, alive)
             }
-            Err((Refusal::NoNode | Refusal::Busy, value)) => value,
-            Err((refusal, _)) => {
-                assert_eq!(refusal, Refusal::Closed);
+            Err(PushError { refusal: Refusal::NoNode | Refusal::Busy, value }) => value,
+            Err(unpushed) => {
+                assert_eq!(unpushed.refusal, Refusal::Closed);
                 return sent;
             }
         };
@@ -71,14 +72,14 @@ fn send_all<'a>(mut sender: BoxSender<Counted<'a>>, alive: &'a AtomicUsize, firs
     sent
 }
 
-// Receives until the queue is shut and empty, or so many values.
-fn receive_all(mut receiver: BoxReceiver<Counted>, most: usize, mut random: Random) -> Vec<u64> {
+// Pops until the queue is closed and empty, or so many values.
+fn pop_all(queue: &Queue<Counted>, most: usize, mut random: Random) -> Vec<u64> {
     let mut numbers = Vec::new();
     while numbers.len() < most {
         let answer = match random.below(3) {
-            0 => receiver.recv().map(Some),
-            1 => receiver.recv_timeout(Duration::from_micros(random.below(200))),
-            _ => receiver.try_pop(8),
+            0 => queue.pop_wait().map(Some),
+            1 => queue.pop_timeout(Duration::from_micros(random.below(200))),
+            _ => queue.pop(),
         };
         match answer {
             Ok(value) => numbers.extend(value.map(|value| value.number)),
@@ -95,34 +96,26 @@ fn receive_all(mut receiver: BoxReceiver<Counted>, most: usize, mut random: Rand
 
 fn run(kind: Kind, random: &mut Random) {
     let alive = AtomicUsize::new(0);
-    let (givers, takers) = (1 + random.below(3) as u16, random.below(4) as u16);
-    let nodes = 2 + random.below(6) as u32;
-    let (mut senders, receivers) = msq::boxed(kind, nodes, givers + 1, takers).expect("a queue");
-    let mut last = senders.pop().expect("a sender");
+    let (givers, takers) = (1 + random.below(3), random.below(4));
+    let queue = Queue::of(kind, 1 + random.below(6) as u32, 1 + random.below(6) as u16).expect("a queue");
     // (one that leaves before the end may leave values in the queue)
     let most = if random.below(4) == 0 { random.below(20) as usize } else { usize::MAX };
     let pause = Duration::from_micros(random.below(300));
     let (sent, mut received) = thread::scope(|scope| {
-        let taking: Vec<_> = receivers
-            .into_iter()
-            .map(|one| (one, Random(random.below(1 << 30))))
-            .map(|(one, its)| scope.spawn(move || receive_all(one, most, its)))
+        let (queue, alive) = (&queue, &alive);
+        let taking: Vec<_> = (0..takers)
+            .map(|_| Random(random.below(1 << 30)))
+            .map(|its| scope.spawn(move || pop_all(queue, most, its)))
             .collect();
-        let giving: Vec<_> = (0..)
-            .zip(senders)
-            .map(|(number, one)| (number * 2 * VALUES, one, Random(random.below(1 << 30))))
-            .map(|(first, one, its)| (first, scope.spawn({
-                let alive = &alive;
-                move || send_all(one, alive, first, its)
-            })))
+        let giving: Vec<_> = (0..givers)
+            .map(|number| (number * 2 * VALUES, Random(random.below(1 << 30))))
+            .map(|(first, its)| (first, scope.spawn(move || push_all(queue, alive, first, its))))
             .collect();
         thread::sleep(pause);
-        while last.try_shut(8) == Err(Refusal::Busy) {
-            thread::yield_now();
-        }
-        let ended = |(first, one): (u64, thread::ScopedJoinHandle<u64>)| first..first + one.join().expect("a sender stopped");
+        queue.close().expect("it wasn't closed before");
+        let ended = |(first, one): (u64, thread::ScopedJoinHandle<u64>)| first..first + one.join().expect("a push stopped");
         let sent: Vec<u64> = giving.into_iter().flat_map(ended).collect();
-        let received: Vec<u64> = taking.into_iter().flat_map(|one| one.join().expect("a receiver stopped")).collect();
+        let received: Vec<u64> = taking.into_iter().flat_map(|one| one.join().expect("a pop stopped")).collect();
         (sent, received)
     });
     received.sort_unstable();
@@ -130,44 +123,29 @@ fn run(kind: Kind, random: &mut Random) {
     assert!(received.iter().all(|one| sent.contains(one)), "a value came that wasn't sent");
     let left = alive.load(SeqCst);
     assert_eq!(left, sent.len() - received.len(), "a value is lost");
-    drop(last);
+    drop(queue);
     assert_eq!(alive.load(SeqCst), 0, "what is left isn't dropped with the queue");
 }
 
 // The calls of one thread, each as it should be answered, and none before its time.
 fn one_by_one(kind: Kind) -> Result<(), Refusal> {
     let began = Instant::now();
-    let (mut senders, mut receivers) = msq::queue(kind, 2, 1, 1)?;
+    let (mut givers, mut takers) = seats::queue(kind, 2, 1, 1)?;
     let time = Duration::from_millis(20);
-    assert_eq!(receivers[0].recv_timeout(time), Ok(None));
+    assert_eq!(takers[0].recv_timeout(time), Ok(None));
     assert!(began.elapsed() >= time, "a call ended before its time");
-    senders[0].send(Body::from(1))?;
+    givers[0].send(Body::from(1))?;
     // (a ring of two has room for two values, a queue of two nodes for one)
-    let more = (0..100).take_while(|_| senders[0].try_push(Body::from(1), 8).is_ok()).count();
+    let more = (0..100).take_while(|_| givers[0].try_push(Body::from(1), 8).is_ok()).count();
     assert_eq!(more, if kind == Kind::Ring { 1 } else { 0 });
-    assert_eq!(senders[0].send_timeout(Body::from(2), time), Err(Refusal::NoNode));
+    assert_eq!(givers[0].send_timeout(Body::from(2), time), Err(Refusal::NoNode));
     assert!(began.elapsed() >= 2 * time, "a call ended before its time");
-    senders[0].try_shut(8)?;
-    assert_eq!(senders[0].send(Body::from(2)), Err(Refusal::Closed));
+    givers[0].try_shut(8)?;
+    assert_eq!(givers[0].send(Body::from(2)), Err(Refusal::Closed));
     for _ in 0..=more {
-        assert_eq!(receivers[0].recv()?.body.number(), 1);
+        assert_eq!(takers[0].recv()?.body.number(), 1);
     }
-    assert_eq!(receivers[0].recv(), Err(Refusal::Closed));
-    Ok(())
-}
-
-// Of a queue whose pops are worn what is left is dropped too.
-fn a_worn_queue(kind: Kind) -> Result<(), Refusal> {
-    let alive = AtomicUsize::new(0);
-    let (mut senders, mut receivers) = msq::boxed_with_limit(kind, 8, 1, 1, 1)?;
-    for number in 1..=2 {
-        senders[0].send(Counted::new(number, &alive)).map_err(|(refusal, _)| refusal)?;
-    }
-    assert_eq!(receivers[0].recv()?.number, 1);
-    assert!(matches!(receivers[0].recv(), Err(Refusal::WornOut(_))));
-    assert_eq!(alive.load(SeqCst), 1);
-    drop((senders, receivers));
-    assert_eq!(alive.load(SeqCst), 0, "what is left isn't dropped with a worn queue");
+    assert_eq!(takers[0].recv(), Err(Refusal::Closed));
     Ok(())
 }
 
@@ -176,9 +154,6 @@ fn main() -> Result<(), Refusal> {
     let mut random = Random(1);
     for kind in [Kind::NonBlocking, Kind::TwoLock, Kind::Ring] {
         one_by_one(kind)?;
-        if kind != Kind::Ring {
-            a_worn_queue(kind)?;
-        }
         (0..runs / 3).for_each(|_| run(kind, &mut random));
     }
     println!("{runs} runs ended, each value came once or was dropped with its queue");

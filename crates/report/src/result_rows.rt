@@ -5,6 +5,7 @@ ghost use Rattle.report.specs.ResultsTable.{value_text, results_header_text, res
 
 use crate::columns::{push_left, push_right};
 use crate::job_kinds::name_of_job;
+use itoa::Buffer;
 use job_results::{JobKind, JobResult, Value};
 use text_io::{LINE_ROOM, LineBuffer};
 
@@ -68,17 +69,5 @@ fn push_wide_number(line: &mut LineBuffer, number: u128)
     ensures digits { line.new ≡ line.old ++ decimal number }
     ensures short { length line.new ≤ length line.old + MOST_DIGITS }
 {
-    push_digits(line, number);
-}
-
-fn push_digits(line: &mut LineBuffer, number: u128)
-    requires { length line.old + length (decimal number) ≤ LINE_ROOM }
-    ensures { line.new ≡ line.old ++ decimal number }
-{
-    if number < 10 {
-        line.push(&[b'0' + number as u8]);
-    } else {
-        push_digits(line, number / 10);
-        line.push(&[b'0' + (number % 10) as u8]);
-    }
+    line.push(Buffer::new().format(number).as_bytes());
 }

@@ -62,7 +62,7 @@ Answers-unmade t s a same refusal fault is memory unchanged =
 
 module _ (t : RunText) (s : Schedule) (counted : RunExtent) (count : IsExtentOf s counted) (text : List ℕ) (due : IsDue t s counted count.world text) (a b : SinkState) (same : Type 0) where
   -- where all events can be made, it is written of all
-  is_whole : counted.refusal ≡ None → IsWholeOf t s text
+  pub is_whole : counted.refusal ≡ None → IsWholeOf t s text
   is_whole none =
       let over = stops_at s counted count None none in
       record {
@@ -72,7 +72,7 @@ module _ (t : RunText) (s : Schedule) (counted : RunExtent) (count : IsExtentOf 
       }
 
   -- it is written up to an event that is refused
-  is_stop : (refusal : Refusal) (line : ℕ) → counted.refusal ≡ Some refusal → line ≡ header_lines s.version + counted.made + 1 → IsStopOf t s line refusal text
+  pub is_stop : (refusal : Refusal) (line : ℕ) → counted.refusal ≡ Some refusal → line ≡ header_lines s.version + counted.made + 1 → IsStopOf t s line refusal text
   is_stop refusal line some at =
       let stops = stops_at s counted count (Some refusal) some in
       record {
@@ -86,7 +86,7 @@ module _ (t : RunText) (s : Schedule) (counted : RunExtent) (count : IsExtentOf 
   is_due (Some refusal) some = inr (header_lines s.version + counted.made + 1, refusal, is_stop refusal (header_lines s.version + counted.made + 1) some refl)
 
   -- a prefix of it was written
-  has_begun : TakesPrefix a.contents b.contents text → HasBegun t s a b
+  pub has_begun : TakesPrefix a.contents b.contents text → HasBegun t s a b
   has_begun begun = (text, is_due counted.refusal refl, begun)
 
   -- its writing stopped

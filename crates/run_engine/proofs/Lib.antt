@@ -11,4 +11,4 @@ pub mod HasCounted
 pub mod TraceStops
 pub mod Answered
 pub mod Standings
-mod Traced
+pub mod Traced

@@ -13,7 +13,7 @@ use std::alloc::Global;
 use step_machine::WorldOf;
 
 /// How far the events of a schedule can be made.
-#[derive(Drop)]
+#[derive(Clone, Copy)]
 pub struct RunExtent {
     /// How many of them can be, one after another.
     pub made: usize,

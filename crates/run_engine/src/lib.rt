@@ -19,5 +19,6 @@ pub use engine::run_text;
 pub use events::make;
 pub use printers::RunPrinter;
 pub use printing::{moves_in, print_run};
-pub use stands::{line_of, push_at};
+pub use stands::{line_of, push_at, stand_line};
+pub use traces::write_trace;
 pub use tracing::trace_text;

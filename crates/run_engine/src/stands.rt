@@ -52,7 +52,7 @@ fn touching_line<const B: u32>(world: &WorldOf<B>, actor: u16, word: WordName) -
 }
 
 /// Where an actor stands, or nothing where it has no call.
-pub(crate) fn stand_line<const B: u32>(world: &WorldOf<B>, actor: u16) -> LineBuffer
+pub fn stand_line<const B: u32>(world: &WorldOf<B>, actor: u16) -> LineBuffer
     ensures { result ≡ standing_text B world.now actor }
 {
     match world.touches(actor) {

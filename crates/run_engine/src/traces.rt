@@ -63,8 +63,8 @@ impl<const B: u32> RunPrinter<B> for Trace {
 }
 
 /// Writes the header, and then the steps of the events of a schedule that can be made, and where the actors stand if the next one
-/// is refused.
-pub(crate) fn write_trace<const B: u32, W: Sink>(
+/// is refused. It takes memory; whether it waits is up to the writer.
+pub fn write_trace<const B: u32, W: Sink>(
     alloc: Global,
     schedule: &Schedule,
     counted: &RunExtent,

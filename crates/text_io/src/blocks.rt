@@ -3,6 +3,7 @@ ghost use Rattle.std.specs.Prelude.{◌≡◌, ◌+◌, ◌≤◌, ◌++◌, [],
 ghost use Rattle.text_io.specs.Blocks.{Puts, Writes};
 
 use crate::devices::Sink;
+use arrayvec::ArrayVec;
 use history::Refusal;
 use std::marker::Model;
 
@@ -14,18 +15,15 @@ pub const BLOCK: usize = 4096;
 /// Each call is handed the same sink. A block that isn't finished drops the bytes that it holds.
 #[derive(Drop)]
 pub struct Block {
-    bytes: [u8; BLOCK],
-    len: usize,
+    bytes: ArrayVec<u8, BLOCK>,
 }
 
 impl Model for Block {
-    ghost use Rattle.std.specs.Prelude.{ℕ, List, take, ◌≤◌};
+    ghost use Rattle.std.specs.Prelude.{ℕ, List};
 
     ghost Value = { List ℕ };
 
-    ghost view = { λ b. take b.len b.bytes };
-
-    ghost invariant = { λ b. b.len ≤ 4096 };
+    ghost view = { λ b. b.bytes.items };
 }
 
 impl Block {
@@ -34,8 +32,7 @@ impl Block {
         ensures { result ≡ [] }
     {
         Block {
-            bytes: [0; BLOCK],
-            len: 0,
+            bytes: ArrayVec::new(),
         }
     }
 
@@ -47,7 +44,7 @@ impl Block {
         ensures { Puts (W.state sink.old) (W.state sink.new)
             (self.old ++ bytes.now) self.new result }
     {
-        if bytes.len() > BLOCK - self.len {
+        if bytes.len() > self.bytes.remaining_capacity() {
             self.empty(sink)?;
             if bytes.len() > BLOCK {
                 return write_all(sink, bytes);
@@ -68,7 +65,7 @@ impl Block {
     fn held(&self) -> &[u8]
         ensures { result.now ≡ self.now }
     {
-        &self.bytes[..self.len]
+        self.bytes.as_slice()
     }
 
     // Hands the sink all that is held, and then holds nothing.
@@ -77,7 +74,7 @@ impl Block {
         ensures emptied { OnOk result (self.new ≡ []) }
     {
         write_all(sink, self.held())?;
-        self.len = 0;
+        self.bytes.clear();
         Ok(())
     }
 
@@ -85,9 +82,7 @@ impl Block {
         requires { length self.old + length bytes.now ≤ 4096 }
         ensures { self.new ≡ self.old ++ bytes.now }
     {
-        let end = self.len + bytes.len();
-        self.bytes[self.len..end].copy_from_slice(bytes);
-        self.len = end;
+        self.bytes.try_extend_from_slice(bytes).unwrap();
     }
 }
 

@@ -25,7 +25,7 @@ pub use blocks::{BLOCK, Block};
 pub use devices::{Sink, Source};
 pub use formats::{ItemError, ListingFormat};
 pub use history::TextCause;
-pub use line_splits::line_at;
+pub use line_splits::{line_at, split_once};
 pub use lines::{LINE_ROOM, LineBuffer};
 pub use listing_readers::{due_line, parse_listing};
 pub use numbers::number_in;

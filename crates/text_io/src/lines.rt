@@ -1,6 +1,8 @@
 //! One line of a text, built in an array.
 ghost use Rattle.std.specs.Prelude.{◌≡◌, ◌+◌, ◌≤◌, ◌++◌, [], length, decimal};
 
+use arrayvec::ArrayVec;
+use itoa::Buffer;
 use std::marker::Model;
 
 /// How many bytes a line has room for.
@@ -9,18 +11,15 @@ pub const LINE_ROOM: usize = 192;
 /// The bytes of a line. They lie in an array, so no call takes memory.
 #[derive(Drop)]
 pub struct LineBuffer {
-    bytes: [u8; LINE_ROOM],
-    len: usize,
+    bytes: ArrayVec<u8, LINE_ROOM>,
 }
 
 impl Model for LineBuffer {
-    ghost use Rattle.std.specs.Prelude.{ℕ, List, take, ◌≤◌};
+    ghost use Rattle.std.specs.Prelude.{ℕ, List};
 
     ghost Value = { List ℕ };
 
-    ghost view = { λ l. take l.len l.bytes };
-
-    ghost invariant = { λ l. l.len ≤ 192 };
+    ghost view = { λ l. l.bytes.items };
 }
 
 impl LineBuffer {
@@ -29,8 +28,7 @@ impl LineBuffer {
         ensures { result ≡ [] }
     {
         LineBuffer {
-            bytes: [0; LINE_ROOM],
-            len: 0,
+            bytes: ArrayVec::new(),
         }
     }
 
@@ -38,7 +36,7 @@ impl LineBuffer {
     pub fn as_slice(&self) -> &[u8]
         ensures { result.now ≡ self.now }
     {
-        &self.bytes[..self.len]
+        self.bytes.as_slice()
     }
 
     /// Puts bytes at the end.
@@ -47,9 +45,7 @@ impl LineBuffer {
         ensures bytes { self.new ≡ self.old ++ bytes.now }
         ensures len { length self.new ≡ length self.old + length bytes.now }
     {
-        let end = self.len + bytes.len();
-        self.bytes[self.len..end].copy_from_slice(bytes);
-        self.len = end;
+        self.bytes.try_extend_from_slice(bytes).unwrap();
     }
 
     /// Puts a number in decimal at the end: at most 20 digits, none of them a leading 0.
@@ -58,18 +54,6 @@ impl LineBuffer {
         ensures digits { self.new ≡ self.old ++ decimal number }
         ensures short { length self.new ≤ length self.old + 20 }
     {
-        self.push_digits(number);
-    }
-
-    fn push_digits(&mut self, number: u64)
-        requires { length self.old + length (decimal number) ≤ LINE_ROOM }
-        ensures { self.new ≡ self.old ++ decimal number }
-    {
-        if number < 10 {
-            self.push(&[b'0' + number as u8]);
-        } else {
-            self.push_digits(number / 10);
-            self.push(&[b'0' + (number % 10) as u8]);
-        }
+        self.push(Buffer::new().format(number).as_bytes());
     }
 }

@@ -66,7 +66,7 @@ fn rest(looks: u32) {
 }
 
 impl Bell {
-    fn ring(&self, sleepers: c_int) {
+    pub fn ring(&self, sleepers: c_int) {
         if self.listeners.load(SeqCst) != 0 {
             self.rings.fetch_add(1, SeqCst);
             // SAFETY: the word is there while the call runs, and a wake reads no other argument.

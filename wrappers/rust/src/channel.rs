@@ -14,12 +14,12 @@
 //! assert_eq!(names, ["one", "two"]);
 //! ```
 //!
-//! A value of up to 24 bytes, aligned to 8 at most, as a `String` or a `Box`, lies in the channel itself; any other, and over a ring
-//! each, is in a box. Values of one thread come in its order, each once, and what is left is dropped with the last receiver. How long a
-//! channel lasts docs/QUEUES.md says of its queue, up to 65,469 places for years; one that is worn out refuses sends as disconnected,
-//! and what is left of it is dropped with the last end.
+//! Each value is in a box; over a queue of nodes, one of up to 24 bytes, aligned to 8 at most, as a `String` or a `Box`, lies in the
+//! channel itself. Values of one thread come in its order, each once, and what is left is dropped with the last receiver: where a drop
+//! panics, the others are dropped too, and then the panic goes on. How long a channel lasts docs/QUEUES.md says of its queue, a ring
+//! for good; one that is worn out tells `Worn`, and what is left of it is dropped with the last end.
 use crate::bells::{after, Deadline};
-use crate::pooled::{Pooled, THREADS};
+use crate::pooled::{Panicked, Pooled, THREADS};
 use crate::{Kind, Refusal};
 use std::fmt;
 use std::iter::FusedIterator;
@@ -28,288 +28,9 @@ use std::sync::atomic::Ordering::SeqCst;
 use std::sync::Arc;
 use std::time::{Duration, Instant};
 
-/// A value that wasn't sent, since all receivers are gone.
-#[derive(Clone, Copy, PartialEq, Eq)]
-pub struct SendError<T>(pub T);
+mod errors;
 
-/// A value that wasn't sent by [`Sender::try_send`].
-#[derive(Clone, Copy, PartialEq, Eq)]
-pub enum TrySendError<T> {
-    /// The channel is full.
-    Full(T),
-    /// All receivers are gone.
-    Disconnected(T),
-}
-
-/// A value that wasn't sent by [`Sender::send_timeout`].
-#[derive(Clone, Copy, PartialEq, Eq)]
-pub enum SendTimeoutError<T> {
-    /// The time was over: the channel was full, or others were in the way.
-    Timeout(T),
-    /// All receivers are gone.
-    Disconnected(T),
-}
-
-/// Nothing was received: the channel is empty, and all senders are gone.
-#[derive(Clone, Copy, Debug, PartialEq, Eq)]
-pub struct RecvError;
-
-/// Why nothing was received by [`Receiver::try_recv`].
-#[derive(Clone, Copy, Debug, PartialEq, Eq)]
-pub enum TryRecvError {
-    /// The channel is empty.
-    Empty,
-    /// It is empty, and all senders are gone.
-    Disconnected,
-}
-
-/// Why nothing was received by [`Receiver::recv_timeout`].
-#[derive(Clone, Copy, Debug, PartialEq, Eq)]
-pub enum RecvTimeoutError {
-    /// The time was over: the channel was empty, or others were in the way.
-    Timeout,
-    /// It is empty, and all senders are gone.
-    Disconnected,
-}
-
-impl<T> SendError<T> {
-    /// The value.
-    ///
-    /// ```
-    /// let unsent = msq::channel::SendError(1);
-    /// assert_eq!(unsent.into_inner(), 1);
-    /// ```
-    pub fn into_inner(self) -> T {
-        self.0
-    }
-}
-
-impl<T> TrySendError<T> {
-    /// The value.
-    ///
-    /// ```
-    /// use msq::channel::{SendError, TrySendError};
-    /// let unsent = TrySendError::from(SendError(1));
-    /// assert!(unsent.is_disconnected() && !unsent.is_full());
-    /// assert_eq!(unsent.into_inner(), 1);
-    /// ```
-    pub fn into_inner(self) -> T {
-        match self {
-            TrySendError::Full(value) | TrySendError::Disconnected(value) => value,
-        }
-    }
-
-    /// Whether the channel is full.
-    ///
-    /// ```
-    /// let (sender, receiver) = msq::channel::bounded(8).unwrap();
-    /// while sender.try_send(1).is_ok() {}
-    /// assert!(sender.is_full() && receiver.is_full());
-    /// ```
-    ///
-    /// ```
-    /// use msq::channel::TrySendError;
-    /// assert!(TrySendError::Full(1).is_full());
-    /// ```
-    pub fn is_full(&self) -> bool {
-        matches!(self, TrySendError::Full(_))
-    }
-
-    /// Whether all receivers are gone.
-    ///
-    /// ```
-    /// use msq::channel::TrySendError;
-    /// assert!(TrySendError::Disconnected(1).is_disconnected());
-    /// ```
-    pub fn is_disconnected(&self) -> bool {
-        matches!(self, TrySendError::Disconnected(_))
-    }
-}
-
-impl<T> SendTimeoutError<T> {
-    /// The value.
-    ///
-    /// ```
-    /// let unsent = msq::channel::SendTimeoutError::Timeout(1);
-    /// assert!(unsent.is_timeout() && !unsent.is_disconnected());
-    /// assert_eq!(unsent.into_inner(), 1);
-    /// ```
-    pub fn into_inner(self) -> T {
-        match self {
-            SendTimeoutError::Timeout(value) | SendTimeoutError::Disconnected(value) => value,
-        }
-    }
-
-    /// Whether the time was over.
-    ///
-    /// ```
-    /// use msq::channel::SendTimeoutError;
-    /// assert!(SendTimeoutError::Timeout(1).is_timeout());
-    /// ```
-    pub fn is_timeout(&self) -> bool {
-        matches!(self, SendTimeoutError::Timeout(_))
-    }
-
-    /// Whether all receivers are gone.
-    ///
-    /// ```
-    /// use msq::channel::SendTimeoutError;
-    /// assert!(SendTimeoutError::Disconnected(1).is_disconnected());
-    /// ```
-    pub fn is_disconnected(&self) -> bool {
-        matches!(self, SendTimeoutError::Disconnected(_))
-    }
-}
-
-impl TryRecvError {
-    /// Whether the channel is empty, and senders are left.
-    ///
-    /// ```
-    /// let (_sender, receiver) = msq::channel::bounded::<String>(8).unwrap();
-    /// assert!(receiver.try_recv().unwrap_err().is_empty());
-    /// ```
-    pub fn is_empty(&self) -> bool {
-        *self == TryRecvError::Empty
-    }
-
-    /// Whether the channel is empty, and all senders are gone.
-    ///
-    /// ```
-    /// let (sender, receiver) = msq::channel::bounded::<String>(8).unwrap();
-    /// drop(sender);
-    /// assert!(receiver.try_recv().unwrap_err().is_disconnected());
-    /// ```
-    pub fn is_disconnected(&self) -> bool {
-        *self == TryRecvError::Disconnected
-    }
-}
-
-impl RecvTimeoutError {
-    /// Whether the time was over.
-    ///
-    /// ```
-    /// assert!(msq::channel::RecvTimeoutError::Timeout.is_timeout());
-    /// ```
-    pub fn is_timeout(&self) -> bool {
-        *self == RecvTimeoutError::Timeout
-    }
-
-    /// Whether the channel is empty, and all senders are gone.
-    ///
-    /// ```
-    /// assert!(msq::channel::RecvTimeoutError::Disconnected.is_disconnected());
-    /// ```
-    pub fn is_disconnected(&self) -> bool {
-        *self == RecvTimeoutError::Disconnected
-    }
-}
-
-impl<T> From<SendError<T>> for TrySendError<T> {
-    fn from(SendError(value): SendError<T>) -> TrySendError<T> {
-        TrySendError::Disconnected(value)
-    }
-}
-
-impl<T> From<SendError<T>> for SendTimeoutError<T> {
-    fn from(SendError(value): SendError<T>) -> SendTimeoutError<T> {
-        SendTimeoutError::Disconnected(value)
-    }
-}
-
-impl From<RecvError> for TryRecvError {
-    fn from(_: RecvError) -> TryRecvError {
-        TryRecvError::Disconnected
-    }
-}
-
-impl From<RecvError> for RecvTimeoutError {
-    fn from(_: RecvError) -> RecvTimeoutError {
-        RecvTimeoutError::Disconnected
-    }
-}
-
-// (these don't ask the values to be `Debug`)
-impl<T> fmt::Debug for SendError<T> {
-    fn fmt(&self, f: &mut fmt::Formatter<'_>) -> fmt::Result {
-        f.write_str("SendError(..)")
-    }
-}
-
-impl<T> fmt::Debug for TrySendError<T> {
-    fn fmt(&self, f: &mut fmt::Formatter<'_>) -> fmt::Result {
-        f.write_str(match self {
-            TrySendError::Full(_) => "Full(..)",
-            TrySendError::Disconnected(_) => "Disconnected(..)",
-        })
-    }
-}
-
-impl<T> fmt::Debug for SendTimeoutError<T> {
-    fn fmt(&self, f: &mut fmt::Formatter<'_>) -> fmt::Result {
-        f.write_str(match self {
-            SendTimeoutError::Timeout(_) => "Timeout(..)",
-            SendTimeoutError::Disconnected(_) => "Disconnected(..)",
-        })
-    }
-}
-
-const NO_RECEIVER: &str = "sending on a disconnected channel";
-const NO_SENDER: &str = "receiving on an empty and disconnected channel";
-
-impl<T> fmt::Display for SendError<T> {
-    fn fmt(&self, f: &mut fmt::Formatter<'_>) -> fmt::Result {
-        f.write_str(NO_RECEIVER)
-    }
-}
-
-impl<T> fmt::Display for TrySendError<T> {
-    fn fmt(&self, f: &mut fmt::Formatter<'_>) -> fmt::Result {
-        f.write_str(match self {
-            TrySendError::Full(_) => "sending on a full channel",
-            TrySendError::Disconnected(_) => NO_RECEIVER,
-        })
-    }
-}
-
-impl<T> fmt::Display for SendTimeoutError<T> {
-    fn fmt(&self, f: &mut fmt::Formatter<'_>) -> fmt::Result {
-        f.write_str(match self {
-            SendTimeoutError::Timeout(_) => "timed out waiting on send operation",
-            SendTimeoutError::Disconnected(_) => NO_RECEIVER,
-        })
-    }
-}
-
-impl fmt::Display for RecvError {
-    fn fmt(&self, f: &mut fmt::Formatter<'_>) -> fmt::Result {
-        f.write_str(NO_SENDER)
-    }
-}
-
-impl fmt::Display for TryRecvError {
-    fn fmt(&self, f: &mut fmt::Formatter<'_>) -> fmt::Result {
-        f.write_str(match self {
-            TryRecvError::Empty => "receiving on an empty channel",
-            TryRecvError::Disconnected => NO_SENDER,
-        })
-    }
-}
-
-impl fmt::Display for RecvTimeoutError {
-    fn fmt(&self, f: &mut fmt::Formatter<'_>) -> fmt::Result {
-        f.write_str(match self {
-            RecvTimeoutError::Timeout => "timed out waiting on receive operation",
-            RecvTimeoutError::Disconnected => NO_SENDER,
-        })
-    }
-}
-
-impl<T> std::error::Error for SendError<T> {}
-impl<T> std::error::Error for TrySendError<T> {}
-impl<T> std::error::Error for SendTimeoutError<T> {}
-impl std::error::Error for RecvError {}
-impl std::error::Error for TryRecvError {}
-impl std::error::Error for RecvTimeoutError {}
+pub use errors::*;
 
 // What the ends of a channel share, and how many there are of each.
 struct Shared<T> {
@@ -318,19 +39,21 @@ struct Shared<T> {
     receivers: AtomicUsize,
 }
 
-/// A channel with room for `capacity` values at least, 1 or more, over the non-blocking queue. Refused `BadSize` or `Memory`.
+/// A channel with room for just `capacity` values, 1 or more, over a ring. Refused `ZeroCapacity`, `BadSize` or `Memory`.
 ///
 /// ```
-/// let (sender, receiver) = msq::channel::bounded(2).unwrap();
+/// let (sender, receiver) = msq::channel::bounded(1).unwrap();
 /// sender.send(1).unwrap();
+/// assert!(sender.try_send(2).unwrap_err().is_full());
 /// assert_eq!(receiver.recv(), Ok(1));
+/// assert_eq!(msq::channel::bounded::<u8>(0).err(), Some(msq::Refusal::ZeroCapacity));
 /// ```
 pub fn bounded<T: Send>(capacity: u32) -> Result<(Sender<T>, Receiver<T>), Refusal> {
     bounded_for(capacity, THREADS)
 }
 
-/// As [`bounded`], with seats for so many threads, 1 to 65,535: if more are in a call at one time, some wait. A thread that sleeps has
-/// no seat.
+/// As [`bounded`], with seats for so many threads, 1 to 32,767: if more are in a call at one time, some wait, and a try is told `Busy`.
+/// A thread that sleeps has no seat.
 ///
 /// ```
 /// let (sender, receiver) = msq::channel::bounded_for(8, 4).unwrap();
@@ -341,15 +64,16 @@ pub fn bounded_for<T: Send>(
     capacity: u32,
     threads: u16,
 ) -> Result<(Sender<T>, Receiver<T>), Refusal> {
-    bounded_of(Kind::NonBlocking, capacity, threads)
+    bounded_of(Kind::Ring, capacity, threads)
 }
 
-/// As [`bounded_for`], over a queue of this kind: a ring takes the least time, and of a ring a thread that stops in a push holds up
-/// those that pop, and the last receiver that is dropped; over a two-lock queue it holds up those that push, and the last end of a
-/// side that is dropped.
+/// As [`bounded_for`], over a queue of this kind. A ring takes the least time, and of a ring a thread that stops in a push holds up
+/// those that pop, and the last receiver that is dropped. Over the non-blocking queue it holds up nobody, and over a two-lock queue
+/// those that push, and the last end of a side that is dropped; both have 65,535 seats at most, and may find room for one value more a
+/// seat.
 ///
 /// ```
-/// let (sender, receiver) = msq::channel::bounded_of(msq::Kind::Ring, 2, 8).unwrap();
+/// let (sender, receiver) = msq::channel::bounded_of(msq::Kind::NonBlocking, 2, 8).unwrap();
 /// sender.send("a text".to_string()).unwrap();
 /// assert_eq!(receiver.recv().unwrap(), "a text");
 /// ```
@@ -358,15 +82,19 @@ pub fn bounded_of<T: Send>(
     capacity: u32,
     threads: u16,
 ) -> Result<(Sender<T>, Receiver<T>), Refusal> {
+    Ok(ends_of(Pooled::new(kind, capacity, threads)?))
+}
+
+fn ends_of<T>(queue: Pooled<T>) -> (Sender<T>, Receiver<T>) {
     let shared = Arc::new(Shared {
-        queue: Pooled::new(kind, capacity, threads)?,
+        queue,
         senders: AtomicUsize::new(1),
         receivers: AtomicUsize::new(1),
     });
     let sender = Sender {
         shared: Arc::clone(&shared),
     };
-    Ok((sender, Receiver { shared }))
+    (sender, Receiver { shared })
 }
 
 /// The sending end of a channel. A clone is a further one, and the last one that is dropped disconnects the channel.
@@ -404,7 +132,7 @@ pub struct Sender<T> {
 /// let (answers, answered) = bounded::<u32>(1).unwrap();
 /// asks.send(answers).unwrap();
 /// drop(asked); // and with it the other channel's sender
-/// assert_eq!(answered.recv(), Err(RecvError));
+/// assert_eq!(answered.recv(), Err(RecvError::Disconnected));
 /// ```
 pub struct Receiver<T> {
     shared: Arc<Shared<T>>,
@@ -420,15 +148,20 @@ impl<T> Sender<T> {
     /// assert_eq!(sender.send("lost".to_string()).unwrap_err().into_inner(), "lost");
     /// ```
     pub fn send(&self, value: T) -> Result<(), SendError<T>> {
-        self.send_until(value, None)
-            .map_err(|(_, value)| SendError(value))
+        self.shared
+            .queue
+            .push_until(value, None)
+            .map_err(|(refusal, value)| match refusal {
+                Refusal::WornOut(_) => SendError::Worn(value),
+                _ => SendError::Disconnected(value),
+            })
     }
 
-    /// Sends a value unless the channel is full.
+    /// Sends a value unless the channel is full, and waits for nothing.
     ///
     /// ```
     /// let (sender, receiver) = msq::channel::bounded(1).unwrap();
-    /// while sender.try_send(1).is_ok() {}
+    /// sender.try_send(1).unwrap();
     /// assert!(sender.try_send(2).unwrap_err().is_full());
     /// ```
     pub fn try_send(&self, value: T) -> Result<(), TrySendError<T>> {
@@ -437,6 +170,8 @@ impl<T> Sender<T> {
             .try_push(value)
             .map_err(|(refusal, value)| match refusal {
                 Refusal::NoNode => TrySendError::Full(value),
+                Refusal::Busy => TrySendError::Busy(value),
+                Refusal::WornOut(_) => TrySendError::Worn(value),
                 _ => TrySendError::Disconnected(value),
             })
     }
@@ -446,7 +181,7 @@ impl<T> Sender<T> {
     /// ```
     /// use std::time::Duration;
     /// let (sender, _receiver) = msq::channel::bounded(1).unwrap();
-    /// while sender.try_send(1).is_ok() {}
+    /// sender.send(1).unwrap();
     /// assert!(sender.send_timeout(2, Duration::from_millis(1)).unwrap_err().is_timeout());
     /// ```
     pub fn send_timeout(&self, value: T, time: Duration) -> Result<(), SendTimeoutError<T>> {
@@ -468,15 +203,14 @@ impl<T> Sender<T> {
     }
 
     fn send_in_time(&self, value: T, until: Deadline) -> Result<(), SendTimeoutError<T>> {
-        self.send_until(value, until)
+        self.shared
+            .queue
+            .push_until(value, until)
             .map_err(|(refusal, value)| match refusal {
                 Refusal::NoNode | Refusal::Busy => SendTimeoutError::Timeout(value),
+                Refusal::WornOut(_) => SendTimeoutError::Worn(value),
                 _ => SendTimeoutError::Disconnected(value),
             })
-    }
-
-    fn send_until(&self, value: T, until: Deadline) -> Result<(), (Refusal, T)> {
-        self.shared.queue.push_until(value, until)
     }
 }
 
@@ -491,16 +225,16 @@ impl<T> Receiver<T> {
     /// });
     /// ```
     pub fn recv(&self) -> Result<T, RecvError> {
-        loop {
-            match self.shared.queue.pop_until(None) {
-                Ok(Some(value)) => return Ok(value),
-                Ok(None) => {}
-                Err(_) => return Err(RecvError),
-            }
-        }
+        self.shared
+            .queue
+            .pop_wait()
+            .map_err(|refusal| match refusal {
+                Refusal::WornOut(_) => RecvError::Worn,
+                _ => RecvError::Disconnected,
+            })
     }
 
-    /// Receives the value at the front, unless the channel is empty.
+    /// Receives the value at the front, unless the channel is empty, and waits for nothing.
     ///
     /// ```
     /// use msq::channel::{bounded, TryRecvError};
@@ -513,6 +247,8 @@ impl<T> Receiver<T> {
         match self.shared.queue.try_pop() {
             Ok(Some(value)) => Ok(value),
             Ok(None) => Err(TryRecvError::Empty),
+            Err(Refusal::Busy) => Err(TryRecvError::Busy),
+            Err(Refusal::WornOut(_)) => Err(TryRecvError::Worn),
             Err(_) => Err(TryRecvError::Disconnected),
         }
     }
@@ -548,11 +284,12 @@ impl<T> Receiver<T> {
         match self.shared.queue.pop_until(until) {
             Ok(Some(value)) => Ok(value),
             Ok(None) | Err(Refusal::Busy) => Err(RecvTimeoutError::Timeout),
+            Err(Refusal::WornOut(_)) => Err(RecvTimeoutError::Worn),
             Err(_) => Err(RecvTimeoutError::Disconnected),
         }
     }
 
-    /// The values that come, which sleeps while there is none, until all senders are gone.
+    /// The values that come, which sleeps while there is none, until all senders are gone, or the channel is worn, as `recv` then tells.
     ///
     /// ```
     /// let (sender, receiver) = msq::channel::bounded(8).unwrap();
@@ -563,7 +300,7 @@ impl<T> Receiver<T> {
         Iter { receiver: self }
     }
 
-    /// The values that are there, until the channel is found empty.
+    /// The values that are there, until the channel is found empty; it tries again while others are in the way.
     ///
     /// ```
     /// let (sender, receiver) = msq::channel::bounded(8).unwrap();
@@ -611,14 +348,14 @@ macro_rules! ends {
             /// ```
             /// let (sender, receiver) = msq::channel::bounded(1).unwrap();
             /// assert!(!receiver.is_full());
-            /// while sender.try_send(1).is_ok() {}
+            /// sender.send(1).unwrap();
             /// assert!(sender.is_full());
             /// ```
             pub fn is_full(&self) -> bool {
                 self.len() >= self.shared.queue.capacity() as usize
             }
 
-            /// How many values there is room for at least.
+            /// How many values there is room for, over a queue of nodes at least.
             ///
             /// ```
             /// let (sender, receiver) = msq::channel::bounded(8).unwrap();
@@ -671,9 +408,9 @@ macro_rules! ends {
 
 // Drops the values that no receiver takes any more.
 fn drain<T>(shared: &Shared<T>) {
-    while let Ok(Some(value)) = shared.queue.try_pop() {
-        drop(value);
-    }
+    let mut panicked = Panicked::default();
+    shared.queue.drain(&mut panicked);
+    panicked.go_on();
 }
 
 ends!(Sender, senders, Receiver, |_| ());
@@ -715,7 +452,7 @@ impl<T> Iterator for TryIter<'_, T> {
     type Item = T;
 
     fn next(&mut self) -> Option<T> {
-        self.receiver.try_recv().ok()
+        self.receiver.shared.queue.pop_now().ok().flatten()
     }
 }
 
@@ -755,5 +492,51 @@ impl<'a, T> IntoIterator for &'a Receiver<T> {
 
     fn into_iter(self) -> Iter<'a, T> {
         self.iter()
+    }
+}
+
+#[cfg(test)]
+mod tests {
+    use super::*;
+
+    const SHORT: Duration = Duration::from_millis(1);
+
+    #[test]
+    fn a_worn_channel_is_told() {
+        for kind in [Kind::NonBlocking, Kind::TwoLock, Kind::Ring] {
+            let (sender, receiver) = ends_of(Pooled::with_limit(kind, 2, 1, 1).unwrap());
+            while sender.try_send(7).is_ok() {
+                let _ = receiver.try_recv();
+            }
+            assert_eq!(sender.send(7), Err(SendError::Worn(7)), "{kind:?}");
+            assert_eq!(sender.try_send(7), Err(TrySendError::Worn(7)), "{kind:?}");
+            assert_eq!(
+                sender.send_timeout(7, SHORT),
+                Err(SendTimeoutError::Worn(7))
+            );
+        }
+        for kind in [Kind::NonBlocking, Kind::TwoLock] {
+            let (sender, receiver) = ends_of(Pooled::with_limit(kind, 8, 1, 1).unwrap());
+            (0..2).for_each(|_| sender.send(7).unwrap());
+            assert_eq!(receiver.recv(), Ok(7));
+            assert_eq!(receiver.try_recv(), Err(TryRecvError::Worn), "{kind:?}");
+            assert_eq!(receiver.recv(), Err(RecvError::Worn), "{kind:?}");
+            assert_eq!(receiver.recv_timeout(SHORT), Err(RecvTimeoutError::Worn));
+        }
+    }
+
+    #[test]
+    fn a_try_beside_calls_with_all_seats_is_busy() {
+        let (sender, receiver) = bounded_for(2, 1).unwrap();
+        let busy = |sender: &Sender<u8>, receiver: &Receiver<u8>| {
+            assert_eq!(sender.try_send(7), Err(TrySendError::Busy(7)));
+            assert_eq!(receiver.try_recv(), Err(TryRecvError::Busy));
+        };
+        sender
+            .shared
+            .queue
+            .beside_all_seats(|| busy(&sender, &receiver));
+        assert_eq!(sender.try_send(7), Ok(()));
+        assert_eq!(receiver.try_recv(), Ok(7));
     }
 }

@@ -51,10 +51,16 @@ impl Passing {
     }
 
     /// The seats of a new queue, one for each role.
-    pub fn seats(self, kind: Kind, nodes: u32, roles: &[u8]) -> Result<Vec<Seat>, Refusal> {
+    pub fn seats(
+        self,
+        kind: Kind,
+        nodes: u32,
+        limit: u64,
+        roles: &[u8],
+    ) -> Result<Vec<Seat>, Refusal> {
         match self {
-            Passing::InPlace => raw::word_seats(kind, nodes, raw::MOST_COUNT, roles),
-            Passing::Boxed => raw::seats(kind, nodes, raw::MOST_COUNT, roles),
+            Passing::InPlace => raw::word_seats(kind, nodes, limit, roles),
+            Passing::Boxed => raw::seats(kind, nodes, limit, roles),
         }
     }
 

@@ -2,16 +2,17 @@
 use crate::bells::{Bells, Deadline, TURNS};
 use crate::passing::Passing;
 use crate::raw::Words;
-use crate::{answer, raw, Kind, Length, Refusal};
+use crate::{answer, raw, Kind, Length, Refusal, WornWord};
+use std::any::Any;
 use std::cell::{Cell, UnsafeCell};
 use std::marker::PhantomData;
 use std::mem;
-use std::panic::{RefUnwindSafe, UnwindSafe};
+use std::panic::{catch_unwind, resume_unwind, AssertUnwindSafe, RefUnwindSafe, UnwindSafe};
 use std::sync::atomic::Ordering::SeqCst;
 use std::sync::atomic::{AtomicBool, AtomicUsize};
 use std::thread;
 
-/// How many threads may be in a call at one time, where none is said, before one waits for another to leave it.
+/// How many threads may be in a call at one time, where none is said, before one finds no seat.
 pub const THREADS: u16 = 64;
 
 // A seat, which one call leases at a time; no two are on one line of the cache, or on two that are fetched together.
@@ -28,6 +29,8 @@ pub struct Pooled<T> {
     nodes: u32,
     capacity: u32,
     passing: Passing,
+    // Of a ring of one whether its place is taken: the least ring has two.
+    taken: Option<AtomicBool>,
     // (a cell, since what one thread pushes is just what another gets)
     owns: PhantomData<Cell<T>>,
 }
@@ -60,9 +63,39 @@ impl Drop for Leased<'_> {
     }
 }
 
+/// What goes on where the drop of a value panicked, once all others are dropped: the first of such panics.
+#[derive(Default)]
+pub struct Panicked(Option<Box<dyn Any + Send>>);
+
+impl Panicked {
+    fn drop<T>(&mut self, value: T) {
+        let dropped = catch_unwind(AssertUnwindSafe(|| drop(value)));
+        if let Err(panic) = dropped {
+            self.0.get_or_insert(panic);
+        }
+    }
+
+    /// Goes on, unless the thread panics already.
+    pub fn go_on(self) {
+        if let (Some(panic), false) = (self.0, thread::panicking()) {
+            resume_unwind(panic);
+        }
+    }
+}
+
 impl<T> Pooled<T> {
     /// With room for so many values, and so many seats.
     pub fn new(kind: Kind, capacity: u32, threads: u16) -> Result<Pooled<T>, Refusal> {
+        Pooled::with_limit(kind, capacity, threads, raw::MOST_COUNT)
+    }
+
+    /// As `new`, with a limit of the counts.
+    pub fn with_limit(
+        kind: Kind,
+        capacity: u32,
+        threads: u16,
+        limit: u64,
+    ) -> Result<Pooled<T>, Refusal> {
         let linked = capacity
             .checked_add(1 + u32::from(threads))
             .ok_or(Refusal::BadSize)?;
@@ -72,12 +105,12 @@ impl<T> Pooled<T> {
             Kind::Ring => capacity.max(2),
         };
         if capacity == 0 {
-            return Err(Refusal::BadSize);
+            return Err(Refusal::ZeroCapacity);
         }
         let roles = vec![raw::BOTH; usize::from(threads)];
         let passing = Passing::of::<T>(kind);
         let places = passing
-            .seats(kind, nodes, &roles)?
+            .seats(kind, nodes, limit, &roles)?
             .into_iter()
             .map(|seat| Place {
                 leased: AtomicBool::new(false),
@@ -90,6 +123,7 @@ impl<T> Pooled<T> {
             nodes,
             capacity,
             passing,
+            taken: (kind == Kind::Ring && capacity == 1).then(|| AtomicBool::new(false)),
             owns: PhantomData,
         })
     }
@@ -107,25 +141,39 @@ impl<T> Pooled<T> {
         Some(Leased { place })
     }
 
+    #[cfg(test)]
+    pub fn beside_all_seats(&self, act: impl FnOnce()) {
+        let leased: Vec<_> = std::iter::from_fn(|| self.lease()).collect();
+        act();
+        drop(leased);
+    }
+
     // A call by a leased seat; busy, with nothing done, where other calls have all seats.
     fn call(&self, call: impl FnOnce(*mut raw::Seat) -> u32) -> Result<u32, Refusal> {
         let leased = self.lease().ok_or(Refusal::Busy)?;
         Ok(call(leased.place.seat.get()))
     }
 
-    // Places for words are tried one a turn: so a push that is busy, and has no time, has twice the turns, until each place was tried.
-    fn push_once(&self, words: &Words, until: Deadline) -> Result<(), Refusal> {
-        let most = if until.is_some() { TURNS } else { self.nodes };
-        let mut turns = TURNS;
-        loop {
-            // SAFETY: the seat is full, and leased by this call alone.
-            match self.call(|seat| unsafe { self.passing.push(seat, words, turns) }) {
-                Ok(raw::BUSY) if turns < most => turns = turns.saturating_mul(2),
-                Ok(code) => return self.bells.pushed(code),
-                Err(refusal) if until.is_some() => return Err(refusal),
-                Err(_) => {}
-            }
-            thread::yield_now();
+    // A push in so many turns.
+    fn push_once(&self, words: &Words, turns: u32) -> Result<(), Refusal> {
+        if self
+            .taken
+            .as_ref()
+            .is_some_and(|taken| taken.swap(true, SeqCst))
+        {
+            return self.bells.pushed(raw::NO_NODE);
+        }
+        // SAFETY: the seat is full, and leased by this call alone.
+        let told = self.call(|seat| unsafe { self.passing.push(seat, words, turns) });
+        let pushed = told.and_then(|code| self.bells.pushed(code));
+        if let (Some(taken), Err(_)) = (&self.taken, pushed) {
+            taken.store(false, SeqCst);
+            self.bells.nodes().ring(1);
+        }
+        match pushed {
+            // (its node is set aside, and another one will do)
+            Err(Refusal::WornOut(WornWord::Next)) => Err(Refusal::Busy),
+            answer => answer,
         }
     }
 
@@ -133,6 +181,9 @@ impl<T> Pooled<T> {
         let mut words = Words::of(());
         // SAFETY: as for a push.
         let code = self.call(|seat| unsafe { self.passing.pop(seat, &mut words, TURNS) })?;
+        if let (Some(taken), raw::OK) = (&self.taken, code) {
+            taken.store(false, SeqCst);
+        }
         // (a pop that was busy took no value, and there is room for `capacity` of them beside the nodes that wait in seats)
         if code != raw::BUSY {
             self.bells.popped(code);
@@ -160,32 +211,45 @@ impl<T> Pooled<T> {
         push(&words).map_err(|refusal| (refusal, self.unpacked(words)))
     }
 
-    /// Pushes a value, and tries again while others are in the way; refused `NoNode` where the queue is full.
+    // The turns of a push that tries each place for words, one a turn.
+    fn turns_for_each(&self) -> u32 {
+        self.nodes.max(TURNS)
+    }
+
+    /// Pushes a value, and waits for nothing: refused `NoNode` where the queue is full, and `Busy` where others are in the way, or no
+    /// seat is free.
     pub fn try_push(&self, value: T) -> Result<(), (Refusal, T)> {
-        self.push(value, |words| loop {
-            match self.push_once(words, None) {
-                Err(Refusal::Busy) => thread::yield_now(),
-                answer => return answer,
-            }
-        })
+        self.push(value, |words| self.push_once(words, self.turns_for_each()))
     }
 
     /// Pushes a value, and sleeps while the queue is full, until then; refused `NoNode` after it, or `Busy`.
     pub fn push_until(&self, value: T, until: Deadline) -> Result<(), (Refusal, T)> {
         self.push(value, |words| {
+            let mut turns = TURNS;
             let pushed = self
                 .bells
                 .nodes()
-                .wait(until, || match self.push_once(words, until) {
+                .wait(until, || match self.push_once(words, turns) {
                     Err(Refusal::NoNode) => Ok(None),
-                    answer => answer.map(Some),
+                    answer => {
+                        // (one that has no time, and is busy, tries ever more places)
+                        if until.is_none() && turns < self.nodes {
+                            turns = turns.saturating_mul(2);
+                        }
+                        answer.map(Some)
+                    }
                 })?;
             pushed.ok_or(Refusal::NoNode)
         })
     }
 
-    /// Pops the value at the front, and tries again while others are in the way; none where the queue is empty.
+    /// Pops the value at the front, and waits for nothing: none where the queue is empty; refused `Busy` as `try_push` is.
     pub fn try_pop(&self) -> Result<Option<T>, Refusal> {
+        self.pop_once()
+    }
+
+    /// Pops the value at the front, and tries again where that is busy.
+    pub fn pop_now(&self) -> Result<Option<T>, Refusal> {
         loop {
             match self.pop_once() {
                 Err(Refusal::Busy) => thread::yield_now(),
@@ -197,6 +261,25 @@ impl<T> Pooled<T> {
     /// Pops the value at the front, and sleeps while the queue is empty, until then; none after it, or refused `Busy`.
     pub fn pop_until(&self, until: Deadline) -> Result<Option<T>, Refusal> {
         self.bells.values().wait(until, || self.pop_once())
+    }
+
+    /// Pops the value at the front, and sleeps while the queue is empty.
+    pub fn pop_wait(&self) -> Result<T, Refusal> {
+        loop {
+            if let Some(value) = self.pop_until(None)? {
+                return Ok(value);
+            }
+        }
+    }
+
+    /// Drops each value that pops give, and tells whether they end with a worn word.
+    pub fn drain(&self, panicked: &mut Panicked) -> bool {
+        loop {
+            match self.pop_now() {
+                Ok(Some(value)) => panicked.drop(value),
+                told => return !matches!(told, Ok(None) | Err(Refusal::Closed)),
+            }
+        }
     }
 
     /// Shuts the queue: no push comes after it. Refused `Closed` where it was shut before.
@@ -242,11 +325,11 @@ impl<T> Pooled<T> {
 
 impl<T> Pooled<T> {
     // Drops what is left where a word is worn, so that pops ended before the queue was empty: a close gives it, and takes memory.
-    fn drop_rest(&self, places: &mut [Place]) {
+    fn drop_rest(&self, places: &mut [Place], panicked: &mut Panicked) {
         let taken = |place: &mut Place| mem::replace(place.seat.get_mut(), raw::Seat::EMPTY);
         let mut seats: Vec<raw::Seat> = places.iter_mut().map(taken).collect();
         for words in self.passing.closed(&mut seats, self.nodes) {
-            drop(self.unpacked(words));
+            panicked.drop(self.unpacked(words));
         }
         for (place, seat) in places.iter_mut().zip(seats) {
             *place.seat.get_mut() = seat;
@@ -256,20 +339,17 @@ impl<T> Pooled<T> {
 
 impl<T> Drop for Pooled<T> {
     fn drop(&mut self) {
-        let is_worn = loop {
-            match self.try_pop() {
-                Ok(Some(value)) => drop(value),
-                told => break !matches!(told, Ok(None) | Err(Refusal::Closed)),
-            }
-        };
+        let mut panicked = Panicked::default();
+        let is_worn = self.drain(&mut panicked);
         let mut places = mem::take(&mut self.places);
         if is_worn {
-            self.drop_rest(&mut places);
+            self.drop_rest(&mut places, &mut panicked);
         }
         for place in &mut places {
             // SAFETY: the seat is what the last call left, and in no call.
             unsafe { self.passing.drop(place.seat.get_mut()) }
         }
+        panicked.go_on();
     }
 }
 
@@ -280,6 +360,7 @@ mod tests {
     use crate::{channel, Kind, Queue, Refusal};
     use std::cell::Cell;
     use std::panic::{RefUnwindSafe, UnwindSafe};
+    use std::sync::Arc;
     use std::time::{Duration, Instant};
 
     #[test]
@@ -298,6 +379,8 @@ mod tests {
         let time = Duration::from_millis(20);
         let began = Instant::now();
         let heard = queue.bells.nodes().listen();
+        assert_eq!(queue.try_pop(), Err(Refusal::Busy));
+        assert_eq!(queue.try_push(7), Err((Refusal::Busy, 7)));
         assert_eq!(queue.pop_until(after(time)), Err(Refusal::Busy));
         assert_eq!(queue.bells.nodes().listen(), heard, "it wakes nobody");
         assert_eq!(queue.push_until(7, after(time)), Err((Refusal::Busy, 7)));
@@ -305,5 +388,20 @@ mod tests {
         drop(leased);
         assert_eq!(queue.push_until(7, after(time)), Ok(()));
         assert_eq!(queue.pop_until(after(time)), Ok(Some(7)));
+    }
+
+    #[test]
+    fn what_is_left_is_dropped_with_a_worn_queue() {
+        for kind in [Kind::NonBlocking, Kind::TwoLock] {
+            let value = Arc::new(());
+            let queue = Pooled::with_limit(kind, 8, 1, 1).unwrap();
+            (0..2).for_each(|_| queue.try_push(Arc::clone(&value)).unwrap());
+            assert!(matches!(queue.try_pop(), Ok(Some(_))));
+            let told = queue.try_pop();
+            assert!(matches!(told, Err(Refusal::WornOut(_))));
+            assert_eq!(Arc::strong_count(&value), 2);
+            drop(queue);
+            assert_eq!(Arc::strong_count(&value), 1);
+        }
     }
 }

@@ -17,7 +17,7 @@ use std::time::Duration;
 ///         queue.push_wait("text".to_string()).unwrap();
 ///         queue.close().unwrap();
 ///     });
-///     while let Some(text) = queue.pop_wait() {
+///     while let Ok(text) = queue.pop_wait() {
 ///         assert_eq!(text, "text");
 ///     }
 /// });
@@ -40,7 +40,7 @@ pub struct Queue<T> {
 /// A value that wasn't pushed, and why.
 #[derive(Clone, Copy, PartialEq, Eq)]
 pub struct PushError<T> {
-    /// `NoNode` where the queue is full, `Closed`, or a word that is worn; after a time also `Busy`.
+    /// `NoNode` where the queue is full, `Closed`, `WornOut`, or `Busy`.
     pub refusal: Refusal,
     /// The value.
     pub value: T,
@@ -78,19 +78,19 @@ fn unpushed<T>((refusal, value): (Refusal, T)) -> PushError<T> {
 }
 
 impl<T: Send> Queue<T> {
-    /// A non-blocking queue with room for so many values at least, 1 or more. Refused `BadSize` or `Memory`.
+    /// A non-blocking queue with room for so many values at least, 1 or more. Refused `ZeroCapacity`, `BadSize` or `Memory`.
     ///
     /// ```
     /// let queue = msq::Queue::new(8).unwrap();
     /// queue.push("text").unwrap();
-    /// assert_eq!(msq::Queue::<String>::new(0).err(), Some(msq::Refusal::BadSize));
+    /// assert_eq!(msq::Queue::<String>::new(0).err(), Some(msq::Refusal::ZeroCapacity));
     /// ```
     pub fn new(capacity: u32) -> Result<Queue<T>, Refusal> {
         Queue::of(Kind::NonBlocking, capacity, THREADS)
     }
 
     /// A queue of this kind, with seats for so many threads, 1 to 65,535, of a ring 32,767: if more are in a call at one time, some
-    /// wait. A thread that sleeps has no seat.
+    /// wait, and a try is refused `Busy`. A thread that sleeps has no seat. A ring has room for just `capacity` values.
     ///
     /// ```
     /// let queue = msq::Queue::of(msq::Kind::Ring, 8, 4).unwrap();
@@ -105,7 +105,8 @@ impl<T: Send> Queue<T> {
 }
 
 impl<T> Queue<T> {
-    /// Pushes a value, and tries again while others are in the way. Refused `NoNode` where the queue is full, `Closed`, or `WornOut`.
+    /// Pushes a value, and waits for nothing. Refused `NoNode` where the queue is full, `Busy` where others are in the way, or have all
+    /// seats, `Closed`, or `WornOut`.
     ///
     /// ```
     /// let queue = msq::Queue::new(8).unwrap();
@@ -126,7 +127,7 @@ impl<T> Queue<T> {
     /// let queue = msq::Queue::new(1).unwrap();
     /// std::thread::scope(|scope| {
     ///     scope.spawn(|| (1..=100).for_each(|number| queue.push_wait(number).unwrap()));
-    ///     assert!((1..=100).all(|number| queue.pop_wait() == Some(number)));
+    ///     assert!((1..=100).all(|number| queue.pop_wait() == Ok(number)));
     /// });
     /// ```
     pub fn push_wait(&self, value: T) -> Result<(), PushError<T>> {
@@ -146,7 +147,8 @@ impl<T> Queue<T> {
         self.queue.push_until(value, after(time)).map_err(unpushed)
     }
 
-    /// Pops the value at the front; none where the queue is empty. Refused `Closed` where it is closed too, or `WornOut`.
+    /// Pops the value at the front, and waits for nothing; none where the queue is empty. Refused `Closed` where it is closed too,
+    /// `Busy` where others are in the way, or have all seats, or `WornOut`.
     ///
     /// ```
     /// let queue = msq::Queue::new(8).unwrap();
@@ -158,22 +160,17 @@ impl<T> Queue<T> {
         self.queue.try_pop()
     }
 
-    /// Pops the value at the front, and sleeps while the queue is empty; none where it is closed too, or worn.
+    /// Pops the value at the front, and sleeps while the queue is empty. Refused `Closed` where it is closed too, or `WornOut`.
     ///
     /// ```
     /// let queue = msq::Queue::new(8).unwrap();
     /// queue.push(1).unwrap();
     /// queue.close().unwrap();
-    /// assert_eq!(queue.pop_wait(), Some(1));
-    /// assert_eq!(queue.pop_wait(), None);
+    /// assert_eq!(queue.pop_wait(), Ok(1));
+    /// assert_eq!(queue.pop_wait(), Err(msq::Refusal::Closed));
     /// ```
-    pub fn pop_wait(&self) -> Option<T> {
-        loop {
-            match self.queue.pop_until(None) {
-                Ok(None) => {}
-                answer => return answer.ok().flatten(),
-            }
-        }
+    pub fn pop_wait(&self) -> Result<T, Refusal> {
+        self.queue.pop_wait()
     }
 
     /// Pops the value at the front, and sleeps while the queue is empty, for this time at most; none after it. Refused `Closed` where
@@ -196,7 +193,7 @@ impl<T> Queue<T> {
     /// queue.push(1).unwrap();
     /// queue.close().unwrap();
     /// assert!(queue.push(2).is_err());
-    /// assert_eq!(queue.pop_wait(), Some(1));
+    /// assert_eq!(queue.pop_wait(), Ok(1));
     /// ```
     pub fn close(&self) -> Result<(), Refusal> {
         self.queue.shut()
@@ -238,7 +235,7 @@ impl<T> Queue<T> {
         Some(held.least >= u64::from(self.capacity()))
     }
 
-    /// The values that come, which sleeps while there is none, until the queue is closed and empty.
+    /// The values that come, which sleeps while there is none, until the queue is closed and empty, or worn, as `pop_wait` then tells.
     ///
     /// ```
     /// let queue = msq::Queue::new(8).unwrap();
@@ -251,10 +248,10 @@ impl<T> Queue<T> {
     /// });
     /// ```
     pub fn iter(&self) -> impl Iterator<Item = T> + '_ {
-        std::iter::from_fn(|| self.pop_wait())
+        std::iter::from_fn(|| self.pop_wait().ok())
     }
 
-    /// The values that are there, until the queue is found empty.
+    /// The values that are there, until the queue is found empty; it tries again while others are in the way.
     ///
     /// ```
     /// let queue = msq::Queue::new(8).unwrap();
@@ -262,7 +259,7 @@ impl<T> Queue<T> {
     /// assert!(queue.try_iter().eq(1..=3));
     /// ```
     pub fn try_iter(&self) -> impl Iterator<Item = T> + '_ {
-        std::iter::from_fn(|| self.pop().ok().flatten())
+        std::iter::from_fn(|| self.queue.pop_now().ok().flatten())
     }
 
     /// How many values there is room for at least.

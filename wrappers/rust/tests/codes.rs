@@ -2,7 +2,8 @@
 use msq::channel::{
     bounded, RecvError, RecvTimeoutError, SendTimeoutError, TryRecvError, TrySendError,
 };
-use msq::{Body, Kind, Queue, Refusal};
+use msq::seats::{self, Body};
+use msq::{Kind, Queue, Refusal};
 use std::sync::atomic::AtomicIsize;
 use std::sync::atomic::Ordering::SeqCst;
 use std::sync::Arc;
@@ -32,7 +33,7 @@ impl Drop for Counted {
 fn no_queue_has_such_sizes() {
     for kind in KINDS {
         let refused = |capacity, threads| Queue::<u8>::of(kind, capacity, threads).err();
-        assert_eq!(refused(0, 1), Some(Refusal::BadSize), "no place");
+        assert_eq!(refused(0, 1), Some(Refusal::ZeroCapacity), "no place");
         assert_eq!(refused(1, 0), Some(Refusal::BadSize), "no thread");
         assert_eq!(
             refused(u32::MAX - 1, 1),
@@ -45,33 +46,33 @@ fn no_queue_has_such_sizes() {
             "more than a number has"
         );
     }
-    assert!(matches!(bounded::<u8>(0), Err(Refusal::BadSize)));
+    assert!(matches!(bounded::<u8>(0), Err(Refusal::ZeroCapacity)));
 }
 
 #[test]
 fn many_pass_at_one_call() {
     for kind in KINDS {
-        let (mut senders, mut receivers) = msq::queue(kind, 16, 1, 1).unwrap();
-        let (sender, receiver) = (&mut senders[0], &mut receivers[0]);
+        let (mut givers, mut takers) = seats::queue(kind, 16, 1, 1).unwrap();
+        let (giver, taker) = (&mut givers[0], &mut takers[0]);
         let bodies: Vec<Body> = (0..100).map(Body::from).collect();
-        assert_eq!(sender.try_push_all(&[], 8), (0, Ok(())));
+        assert_eq!(giver.try_push_all(&[], 8), (0, Ok(())));
         assert_eq!(
-            sender.try_push_all(&bodies, 0),
+            giver.try_push_all(&bodies, 0),
             (0, Err(Refusal::BadSize)),
             "no turns"
         );
-        assert_eq!(receiver.try_pop_up_to(4, 8), (vec![], Ok(())), "empty");
-        let (held, told) = sender.try_push_all(&bodies, 8);
+        assert_eq!(taker.try_pop_up_to(4, 8), (vec![], Ok(())), "empty");
+        let (held, told) = giver.try_push_all(&bodies, 8);
         assert!((15..48).contains(&held) && told == Err(Refusal::NoNode));
-        let (first, told) = receiver.try_pop_up_to(4, 8);
+        let (first, told) = taker.try_pop_up_to(4, 8);
         assert_eq!((first.len(), told), (4, Ok(())));
-        sender.try_shut(8).unwrap();
+        giver.try_shut(8).unwrap();
         assert_eq!(
-            sender.try_push_all(&bodies, 8),
+            giver.try_push_all(&bodies, 8),
             (0, Err(Refusal::Closed)),
             "shut"
         );
-        let (rest, told) = receiver.try_pop_up_to(100, 8);
+        let (rest, told) = taker.try_pop_up_to(100, 8);
         assert_eq!(told, Err(Refusal::Closed));
         let came = first.iter().chain(&rest).map(|value| value.body);
         assert!(came.eq(bodies[..held].iter().copied()), "in their order");
@@ -81,12 +82,12 @@ fn many_pass_at_one_call() {
 #[test]
 fn more_pass_than_go_at_one_step() {
     for kind in KINDS {
-        let (mut senders, mut receivers) = msq::queue(kind, 100, 1, 1).unwrap();
+        let (mut givers, mut takers) = seats::queue(kind, 100, 1, 1).unwrap();
         let bodies: Vec<Body> = (0..90).map(Body::from).collect();
-        assert_eq!(senders[0].try_push_all(&bodies, 8), (90, Ok(())));
-        let (first, told) = receivers[0].try_pop_up_to(50, 8);
+        assert_eq!(givers[0].try_push_all(&bodies, 8), (90, Ok(())));
+        let (first, told) = takers[0].try_pop_up_to(50, 8);
         assert_eq!((first.len(), told), (50, Ok(())));
-        let (rest, told) = receivers[0].try_pop_up_to(50, 8);
+        let (rest, told) = takers[0].try_pop_up_to(50, 8);
         assert_eq!((rest.len(), told), (40, Ok(())), "empty behind them");
         let came = first.iter().chain(&rest).map(|value| value.body);
         assert!(came.eq(bodies), "in their order");
@@ -118,7 +119,7 @@ fn a_queue_answers() {
             (Refusal::NoNode, "over")
         );
         assert_eq!(queue.pop(), Ok(Some("one".to_string())));
-        assert_eq!(queue.pop_wait(), Some("two".to_string()));
+        assert_eq!(queue.pop_wait(), Ok("two".to_string()));
         assert_eq!(queue.close(), Ok(()));
         assert_eq!(queue.close(), Err(Refusal::Closed));
         let closed = queue.push_wait("late".to_string()).unwrap_err();
@@ -136,7 +137,7 @@ fn a_queue_answers() {
         while queue.pop_timeout(SHORT) == Ok(Some("more".to_string())) {}
         assert_eq!(queue.pop(), Err(Refusal::Closed));
         assert_eq!(queue.pop_timeout(SHORT), Err(Refusal::Closed));
-        assert_eq!(queue.pop_wait(), None);
+        assert_eq!(queue.pop_wait(), Err(Refusal::Closed));
         assert_eq!(format!("{queue:?}"), "Queue { capacity: 2, .. }");
         assert_eq!(
             format!("{closed:?}: {closed}"),
@@ -155,7 +156,6 @@ fn a_channel_answers() {
         Err(RecvTimeoutError::Timeout)
     );
     assert_eq!(sender.send(1), Ok(()));
-    while sender.try_send(2).is_ok() {}
     assert!(sender.is_full() && !receiver.is_empty() && sender.capacity() == Some(1));
     assert_eq!(sender.try_send(3), Err(TrySendError::Full(3)));
     assert_eq!(
@@ -167,9 +167,11 @@ fn a_channel_answers() {
         Err(SendTimeoutError::Timeout(3))
     );
     assert_eq!(receiver.recv(), Ok(1));
+    assert_eq!(sender.try_send(2), Ok(()));
     assert_eq!(receiver.recv_timeout(SHORT), Ok(2));
+    assert_eq!(sender.send_timeout(3, SHORT), Ok(()));
     drop(sender);
-    assert!(receiver.try_iter().all(|it| it == 2));
+    assert!(receiver.try_iter().eq([3]));
     assert_eq!(receiver.try_recv(), Err(TryRecvError::Disconnected));
     assert_eq!(
         receiver.recv_timeout(SHORT),
@@ -179,8 +181,41 @@ fn a_channel_answers() {
         receiver.recv_deadline(Instant::now()),
         Err(RecvTimeoutError::Disconnected)
     );
-    assert_eq!(receiver.recv(), Err(RecvError));
+    assert_eq!(receiver.recv(), Err(RecvError::Disconnected));
     assert_eq!(receiver.into_iter().next(), None);
+}
+
+#[test]
+fn a_channel_has_just_the_room_that_was_asked_for() {
+    for capacity in 1..10 {
+        let (sender, receiver) = bounded(capacity).unwrap();
+        for round in 0..100 {
+            let taken = (0..100).take_while(|_| sender.try_send(round).is_ok());
+            assert_eq!(taken.count(), capacity as usize);
+            assert_eq!(receiver.recv(), Ok(round));
+            assert_eq!(sender.try_send(round), Ok(()));
+            assert!(sender.is_full() && sender.try_send(round) == Err(TrySendError::Full(round)));
+            assert_eq!(receiver.try_iter().count(), capacity as usize);
+        }
+    }
+}
+
+#[test]
+fn a_place_is_handed_from_hand_to_hand() {
+    let (sender, receiver) = bounded(1).unwrap();
+    thread::scope(|scope| {
+        for number in 0..3 {
+            let sender = sender.clone();
+            scope.spawn(move || (0..2000).for_each(|it| sender.send((number, it)).unwrap()));
+        }
+        drop(sender);
+        let mut next = [0; 3];
+        for (number, it) in receiver {
+            assert_eq!(it, next[number]);
+            next[number] += 1;
+        }
+        assert_eq!(next, [2000; 3]);
+    });
 }
 
 #[test]
@@ -211,7 +246,7 @@ fn a_sleeper_is_woken_by_the_last_sender() {
         let waits = scope.spawn(|| receiver.recv());
         thread::sleep(Duration::from_millis(20));
         drop(sender);
-        assert_eq!(waits.join().unwrap(), Err(RecvError));
+        assert_eq!(waits.join().unwrap(), Err(RecvError::Disconnected));
     });
 }
 

@@ -1,6 +1,7 @@
 //! What is answered where there is no memory for a queue: in a process that may have 2 GiB of it.
 use msq::channel::bounded;
-use msq::{Kind, Queue, Refusal, SeatPool};
+use msq::seats::{self, SeatPool};
+use msq::{Kind, Queue, Refusal};
 use std::ffi::c_int;
 
 const RLIMIT_AS: c_int = 9;
@@ -28,8 +29,7 @@ fn there_is_no_memory_for_so_many_nodes() {
     assert_eq!(unsafe { setrlimit(RLIMIT_AS, &limit) }, 0);
     let refused = Some(Refusal::Memory);
     for kind in [Kind::NonBlocking, Kind::TwoLock, Kind::Ring] {
-        assert_eq!(msq::queue(kind, NODES, 1, 1).err(), refused);
-        assert_eq!(msq::boxed::<u64>(kind, NODES, 1, 1).err(), refused);
+        assert_eq!(seats::queue(kind, NODES, 1, 1).err(), refused);
         assert_eq!(SeatPool::new(kind, NODES, 1, 1).err(), refused);
         assert_eq!(Queue::<u64>::of(kind, NODES, 1).err(), refused);
         assert_eq!(Queue::<[u64; 9]>::of(kind, NODES, 1).err(), refused);

@@ -1,5 +1,6 @@
 //! What calls answer where others are in the way: another thread pushes and pops, and a signal stops it within a call.
-use msq::{Body, Emptiness, Kind, Queue, Refusal};
+use msq::seats::{queue, Body, Emptiness};
+use msq::{Kind, Queue, Refusal};
 use std::ffi::{c_int, c_ulong};
 use std::sync::atomic::Ordering::SeqCst;
 use std::sync::atomic::{AtomicBool, AtomicU64};
@@ -65,9 +66,9 @@ fn stop_within(mut act: impl FnMut() + Send, mut look: impl FnMut() -> bool) {
 /// A thread stopped with the lock of Tail, and one with that of Head: who needs it finds the queue busy.
 fn locks_are_held() {
     let busy = Err(Refusal::Busy);
-    let (mut senders, mut receivers) = msq::queue(Kind::TwoLock, 16, 2, 2).unwrap();
-    let (mut giver, mut taker) = (senders.remove(1), receivers.remove(1));
-    let (sender, receiver) = (&mut senders[0], &mut receivers[0]);
+    let (mut givers, mut takers) = queue(Kind::TwoLock, 16, 2, 2).unwrap();
+    let (mut giver, mut taker) = (givers.remove(1), takers.remove(1));
+    let (sender, receiver) = (&mut givers[0], &mut takers[0]);
     let mut act = move || {
         let _ = giver.try_push(Body::from(7), TURNS);
         let _ = taker.try_pop(TURNS);
@@ -94,42 +95,6 @@ fn locks_are_held() {
     });
 }
 
-/// The same of a queue of boxes, of which there are two, so that no call takes memory.
-fn locks_of_boxes_are_held() {
-    let (mut senders, mut receivers) = msq::boxed(Kind::TwoLock, 16, 2, 2).unwrap();
-    let (mut giver, mut taker) = (senders.remove(1), receivers.remove(1));
-    let (sender, receiver) = (&mut senders[0], &mut receivers[0]);
-    let (mut held, mut spare) = (Some(Box::new(7)), Some(Box::new(8)));
-    let mut act = move || {
-        held = match held.take() {
-            Some(value) => giver.try_push(value, TURNS).err().map(|(_, value)| value),
-            None => taker.try_pop(TURNS).ok().flatten(),
-        }
-    };
-    stop_within(&mut act, || {
-        let Some(value) = spare.take() else {
-            spare = receiver.try_pop(TURNS).ok().flatten();
-            return false;
-        };
-        let Err((told, value)) = sender.try_push(value, TURNS) else {
-            return false;
-        };
-        assert_eq!(told, Refusal::Busy);
-        let (told, value) = sender.send_timeout(value, SOON).unwrap_err();
-        assert_eq!(told, Refusal::Busy);
-        assert_eq!(sender.try_shut(TURNS), Err(Refusal::Busy));
-        spare = Some(value);
-        true
-    });
-    stop_within(act, || {
-        let is_busy = receiver.try_pop(TURNS) == Err(Refusal::Busy);
-        if is_busy {
-            assert_eq!(receiver.recv_timeout(SOON), Err(Refusal::Busy));
-        }
-        is_busy
-    });
-}
-
 /// The same of a queue of values.
 fn locks_of_values_are_held() {
     let queue = Queue::of(Kind::TwoLock, 16, 4).unwrap();
@@ -140,20 +105,26 @@ fn locks_of_values_are_held() {
     stop_within(act, || {
         let told = queue.push_timeout(7, SOON).map_err(|it| it.refusal);
         let is_busy = told == Err(Refusal::Busy);
-        if !is_busy {
+        if is_busy {
+            assert_eq!(queue.push(7).map_err(|it| it.refusal), told);
+        } else {
             let _ = queue.pop_timeout(SOON);
         }
         is_busy
     });
-    stop_within(act, || queue.pop_timeout(SOON) == Err(Refusal::Busy));
+    stop_within(act, || {
+        let is_busy = queue.pop_timeout(SOON) == Err(Refusal::Busy);
+        assert!(!is_busy || queue.pop() == Err(Refusal::Busy));
+        is_busy
+    });
 }
 
 /// A thread stopped before it has filled the place at the front of a ring, which is then shut: it holds the value, which no pop gets
 /// yet.
 fn a_place_is_claimed() {
-    let (mut senders, mut receivers) = msq::queue(Kind::Ring, 16, 2, 2).unwrap();
-    let (mut giver, mut taker) = (senders.remove(1), receivers.remove(1));
-    let (sender, receiver) = (&mut senders[0], &mut receivers[0]);
+    let (mut givers, mut takers) = queue(Kind::Ring, 16, 2, 2).unwrap();
+    let (mut giver, mut taker) = (givers.remove(1), takers.remove(1));
+    let (sender, receiver) = (&mut givers[0], &mut takers[0]);
     let act = move || {
         let _ = giver.try_push(Body::from(7), TURNS);
         let _ = taker.try_pop(TURNS);
@@ -174,7 +145,6 @@ fn calls_are_busy_beside_a_stopped_thread() {
     // SAFETY: the handler calls nothing that may not be called there.
     unsafe { signal(SIGUSR1, stop_here) };
     locks_are_held();
-    locks_of_boxes_are_held();
     locks_of_values_are_held();
     a_place_is_claimed();
 }

@@ -6,3 +6,4 @@ mod fates;
 mod long_runs;
 mod orders;
 mod rows;
+mod waiting;

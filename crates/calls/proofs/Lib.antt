@@ -1,0 +1,5 @@
+pub mod Kept
+pub mod Paths
+pub mod Sound
+pub mod Goes
+pub mod Queue

@@ -1,0 +1,162 @@
+-- One more state is tried, or was known, or none is left.
+use Rattle.std.proofs.Common.{◌≡◌, ◌⊎◌, inl, inr, ℕ, zero, suc, List, [], ◌∷◌, ◌++◌, ◌<◌, length, get_or, refl, sym, ap, ◌∙◌, subst, arith}
+use Rattle.std.specs.List.{AllByRecursion}
+use Rattle.std.proofs.lemmas.List.{append-nil, append_assoc, map-append}
+use Rattle.std.proofs.lemmas.List.Sorted.{IsPermutation-refl}
+use Rattle.std.proofs.lemmas.List.Elements.{recursion_from_All}
+use Rattle.history.specs.declared.operations.Stamped.{Stamped}
+use Rattle.waiting_orders.specs.declared.boards.Board.{Board}
+use Rattle.waiting_orders.specs.declared.nodes.Node.{Node}
+use Rattle.waiting_orders.specs.Waiting.{IsOfQueue, IsCall, State, Same, IsEnd, CanEnd}
+use Rattle.waiting_orders.specs.Nodes.{Spot, Among, AreCalls, HasSteps, IsBoard, IsIn, Searched, WasTried, start, state_of, turned, view, views}
+use Rattle.waiting_orders.proofs.Covering.{walks}
+use Rattle.waiting_orders.proofs.Futures.{all_moved, same_futures}
+use Rattle.waiting_orders.proofs.Limits.{all_first, all_second}
+use Rattle.waiting_orders.proofs.Stepping.{among_left, among_right}
+
+module _ (board : Board) where
+  among_split : (us vs : List Spot) (t : State) → Among board (us ++ vs) t → Among board us t ⊎ Among board vs t
+  among_split [] vs t h = inr h
+  among_split (u ∷ us) vs t (inl h) = inl (inl h)
+  among_split (u ∷ us) vs t (inr h) = go (among_split us vs t h)
+    where
+      go : Among board us t ⊎ Among board vs t → Among board (u ∷ us) t ⊎ Among board vs t
+      go (inl h) = inl (inr h)
+      go (inr h) = inr h
+
+  among_turned : (us : List Spot) (t : State) → Among board us t → Among board (turned us) t
+  among_turned [] t h = h
+  among_turned (u ∷ us) t (inl h) = among_right board (turned us) (u ∷ []) t (inl h)
+  among_turned (u ∷ us) t (inr h) = among_left board (turned us) (u ∷ []) t (among_turned us t h)
+
+  among_in : (s : Spot) (us : List Spot) (t : State) → IsIn s us → Same t (state_of board s) → Among board us t
+  among_in s [] t i h = absurd i
+  among_in s (u ∷ us) t (inl e) h = inl (subst (λ s. Same t (state_of board s)) e h)
+  among_in s (u ∷ us) t (inr i) h = inr (among_in s us t i h)
+
+  wider : (all more : List Spot) → ((t : State) → Among board all t → Among board more t) → (us : List Spot) → AllByRecursion (WasTried board all) us → AllByRecursion (WasTried board more) us
+  wider all more f [] h = tt
+  wider all more f (u ∷ us) h = (record { no_end = h.0.no_end; steps = λ c t step. f t (h.0.steps c t step) }, wider all more f us h.1)
+
+  both_tried : (P : Spot → Type 0) (us : List Spot) (s : Spot) → AllByRecursion P us → P s → AllByRecursion P (us ++ s ∷ [])
+  both_tried P [] s h p = (p, tt)
+  both_tried P (u ∷ us) s h p = (h.0, both_tried P us s h.1 p)
+
+  -- a state that is the same as one that was tried needs no try
+  pub known : (done ahead : List Spot) (s : Spot) → IsIn s done → Searched board done (ahead ++ s ∷ []) → Searched board done ahead
+  known done ahead s i h = record { start = moves (state_of board start) h.start; tried = wider (done ++ (ahead ++ s ∷ [])) (done ++ ahead) moves done h.tried }
+    where
+      last : (t : State) → Among board (ahead ++ s ∷ []) t → Among board (done ++ ahead) t
+      last t a = go (among_split ahead (s ∷ []) t a)
+        where
+          go : Among board ahead t ⊎ Among board (s ∷ []) t → Among board (done ++ ahead) t
+          go (inl a) = among_right board done ahead t a
+          go (inr (inl e)) = among_left board done ahead t (among_in s done t i e)
+          go (inr (inr e)) = absurd e
+
+      moves : (t : State) → Among board (done ++ (ahead ++ s ∷ [])) t → Among board (done ++ ahead) t
+      moves t a = go (among_split done (ahead ++ s ∷ []) t a)
+        where
+          go : Among board done t ⊎ Among board (ahead ++ s ∷ []) t → Among board (done ++ ahead) t
+          go (inl a) = among_left board done ahead t a
+          go (inr a) = last t a
+
+  pub tried : (done ahead new : List Spot) (s : Spot) → (AreCalls board → IsEnd (state_of board s) → ⊥) → HasSteps board s new → Searched board done (ahead ++ s ∷ [])
+      → Searched board (done ++ s ∷ []) (ahead ++ turned new)
+  tried done ahead new s off steps h =
+      record {
+        start = moves (state_of board start) h.start;
+        tried = both_tried (WasTried board all) done s (wider (done ++ (ahead ++ s ∷ [])) all moves done h.tried) (record { no_end = off; steps = λ c t step. made t (steps c t step) });
+      }
+    where
+      all : List Spot
+      all = (done ++ s ∷ []) ++ (ahead ++ turned new)
+
+      made : (t : State) → Among board new t → Among board all t
+      made t a = among_right board (done ++ s ∷ []) (ahead ++ turned new) t (among_right board ahead (turned new) t (among_turned new t a))
+
+      last : (t : State) → Among board ahead t ⊎ Among board (s ∷ []) t → Among board all t
+      last t (inl a) = among_right board (done ++ s ∷ []) (ahead ++ turned new) t (among_left board ahead (turned new) t a)
+      last t (inr a) = among_left board (done ++ s ∷ []) (ahead ++ turned new) t (among_right board done (s ∷ []) t a)
+
+      moves : (t : State) → Among board (done ++ (ahead ++ s ∷ [])) t → Among board all t
+      moves t a = go (among_split done (ahead ++ s ∷ []) t a)
+        where
+          go : Among board done t ⊎ Among board (ahead ++ s ∷ []) t → Among board all t
+          go (inl a) = among_left board (done ++ s ∷ []) (ahead ++ turned new) t (among_left board done (s ∷ []) t a)
+          go (inr a) = last t (among_split ahead (s ∷ []) t a)
+
+  -- where all was tried, nothing that is the same as one of the states can end
+  module _ (calls : AreCalls board) (all : List Spot) (done : AllByRecursion (WasTried board all) all) where
+    found : (us : List Spot) → AllByRecursion (WasTried board all) us → (t : State) → Among board us t → (u : Spot) × WasTried board all u × Same t (state_of board u)
+    found [] h t a = absurd a
+    found (u ∷ us) h t (inl a) = (u, h.0, a)
+    found (u ∷ us) h t (inr a) = found us h.1 t a
+
+    no_end : (n : ℕ) (t : State) → Among board all t → CanEnd n t → ⊥
+    no_end zero t a c = let f = found all done t a in f.1.no_end calls (same_futures 0 t (state_of board f.0) f.2 c)
+    no_end (suc n) t a c = let f = found all done t a in go (λ t a c. no_end n t a c) f.0 f.1 (same_futures (suc n) t (state_of board f.0) f.2 c)
+      where
+        go : ((t : State) → Among board all t → CanEnd n t → ⊥) → (u : Spot) → WasTried board all u → CanEnd (suc n) (state_of board u) → ⊥
+        go more u w (inl e) = w.no_end calls e
+        go more u w (inr e) = more e.0 (w.steps calls e.0 e.1) e.2
+
+pub begins : (board : Board) → Searched board [] (start ∷ [])
+begins board = record { start = inl (record { left = IsPermutation-refl _; shut = refl; time = omega arith }); tried = tt }
+
+-- so where nothing is left to try, the history is not one of a queue
+pub nothing_left : (ops : List Stamped) (board : Board) (done : List Spot) → IsBoard ops board → Searched board done [] → IsOfQueue ops → ⊥
+nothing_left ops board done is h q =
+    let all = board.others.operations.items ++ board.pushes.operations.items in
+    let each = all_moved IsCall ops all is.all (recursion_from_All IsCall ops q.calls) in
+    let calls : AreCalls board = record {
+      others = is.others;
+      pushes = is.pushes;
+      other_calls = all_first IsCall board.others.operations.items board.pushes.operations.items each;
+      push_calls = all_second IsCall board.others.operations.items board.pushes.operations.items each;
+    } in
+    let w = walks ops (state_of board start) (record { all = is.all; unshut = refl; time = refl }) q in
+    let none : done ++ [] ≡ done = append-nil done in
+    no_end board calls done (subst (λ all. AllByRecursion (WasTried board all) done) none h.tried) w.0 (state_of board start)
+    (subst (λ all. Among board all (state_of board start)) none h.start) w.1
+
+-- the last one of a list turned around is the first
+pub turned_last : (us : List Spot) (s : Spot) → turned (us ++ s ∷ []) ≡ s ∷ turned us
+turned_last [] s = refl
+turned_last (u ∷ us) s = ap (λ l. l ++ u ∷ []) (turned_last us s)
+
+pub turned_next : (ahead us : List Spot) (s : Spot) → (ahead ++ s ∷ []) ++ turned us ≡ ahead ++ turned (us ++ s ∷ [])
+turned_next ahead us s = append_assoc ahead (s ∷ []) (turned us) ∙ ap (λ l. ahead ++ l) (sym (turned_last us s))
+
+-- the same of what comes of it
+pub tries : (board : Board) (done ahead new put after : List Spot) (s : Spot) → put ≡ done ++ s ∷ [] → after ≡ ahead ++ turned new → (AreCalls board → IsEnd (state_of board s) → ⊥) → HasSteps board s new
+    → Searched board done (ahead ++ s ∷ []) → Searched board put after
+tries board done ahead new put after s e f off steps h =
+    subst (λ put. Searched board put after) (sym e) (subst (λ after. Searched board (done ++ s ∷ []) after) (sym f) (tried board done ahead new s off steps h))
+
+-- the same of nodes, of which the last one is put ahead
+pub next_ahead : (ahead after new rest : List Node) (node put : Node) → after ≡ ahead ++ put ∷ [] → new ≡ rest ++ node ∷ [] → view put ≡ view node
+    → views after ++ turned (views rest) ≡ views ahead ++ turned (views new)
+next_ahead ahead after new rest node put e f same =
+    ap (λ l. views l ++ turned (views rest)) e
+    ∙ ap (λ l. l ++ turned (views rest)) (map-append view ahead (put ∷ []) ∙ ap (λ s. views ahead ++ s ∷ []) same)
+    ∙ turned_next (views ahead) (views rest) (view node)
+    ∙ ap (λ l. views ahead ++ turned l) (sym (ap views f ∙ map-append view rest (node ∷ [])))
+
+pub seen_ahead : (board : Board) (done ahead rest : List Node) (node : Node) → ahead ≡ rest ++ node ∷ [] → Searched board (views done) (views ahead) → Searched board (views done) (views rest ++ view node ∷ [])
+seen_ahead board done ahead rest node e h = subst (Searched board (views done)) (ap views e ∙ map-append view rest (node ∷ [])) h
+
+pub none_ahead : (ops : List Stamped) (board : Board) (done ahead : List Node) → IsBoard ops board → ahead ≡ [] → Searched board (views done) (views ahead) → IsOfQueue ops → ⊥
+none_ahead ops board done ahead is e h q = nothing_left ops board (views done) is (subst (λ l. Searched board (views done) (views l)) e h) q
+
+pub begins_so : (board : Board) (done ahead : List Node) → views done ≡ [] → views ahead ≡ start ∷ [] → Searched board (views done) (views ahead)
+begins_so board done ahead e f = subst (λ l. Searched board l (views ahead)) (sym e) (subst (Searched board []) (sym f) (begins board))
+
+in_views : (ns : List Node) (k : ℕ) (n : Node) (s : Spot) → k < length ns → n ≡ get_or ns k n → s ≡ view n → IsIn s (views ns)
+in_views [] k n s h e f = absurd (omega (arith, h))
+in_views (m ∷ ns) zero n s h e f = inl (f ∙ ap view e)
+in_views (m ∷ ns) (suc k) n s h e f = inr (in_views ns k n s (omega (arith, h)) e f)
+
+-- a state is the same as one that was read
+pub in_read : (items read : List Node) (k : ℕ) (n : Node) (s : Spot) → read ≡ items → k < length read → n ≡ get_or read k n → s ≡ view n → IsIn s (views items)
+in_read items read k n s same h e f = subst (λ l. IsIn s (views l)) same (in_views read k n s h e f)

@@ -1,0 +1,19 @@
+-- A state that was tried before is left out; another one is put to those that were tried, and all that one step leads to to those ahead.
+use Rattle.std.proofs.Common.{◌≡◌, ◌++◌, None, sym, ap, ◌∙◌, subst}
+use Rattle.std.specs.List.{AllByRecursion}
+use Rattle.waiting_orders.specs.Lines.{left_of, view_left}
+use Rattle.waiting_orders.specs.Nodes.{view, views, turned}
+use Rattle.waiting_orders.proofs.Stepping.{unended}
+use Rattle.waiting_orders.proofs.Trying.{known, tries}
+use Rattle.waiting_orders.proofs.searching.Search.try_one.Goals as goal
+
+pub returns-then-is_known-clause-kept : goal.returns-then-is_known-clause-kept
+returns-then-is_known-clause-kept c =
+    λ h e. known c.args.board.now (views c.args.self.now.done.items) (views c.args.self.now.ahead.items) (view c.args.node) (c.is_known.ensures c.if-is_known.true) h
+
+pub returns-clause-kept : goal.returns-clause-kept
+returns-clause-kept c =
+    λ h e. tries c.args.board.now (views c.args.self.now.done.items) (views c.args.self.now.ahead.items) (views c.in_ok-new.new.items)
+    (views c.put_ahead.new.self.done.items) (views c.put_ahead.new.self.ahead.items) (view c.args.node)
+    (ap views c.in_ok-put_ahead.ensures.1 ∙ c.in_ok-put.ensures.0) (c.in_ok-put_ahead.ensures.0 ∙ ap (λ l. views l ++ turned (views c.in_ok-new.new.items)) c.in_ok-put.ensures.1)
+    (λ calls end. absurd (cc (sym (c.is_end.ensures (subst (λ ops. AllByRecursion (λ o. o.last ≡ None) (left_of ops (view_left c.args.node.others))) (sym c.deref.ensures.value) (unended c.args.board.now (view c.args.node) calls end))) ∙ c.if-is_end.false))) c.in_ok-new.ensures h

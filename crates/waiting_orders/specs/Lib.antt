@@ -1,0 +1,4 @@
+pub mod Waiting
+pub mod Lines
+pub mod Nodes
+pub mod Search

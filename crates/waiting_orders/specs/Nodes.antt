@@ -1,0 +1,195 @@
+-- States of the search: what is left of the pushes that wait, and of all other operations, each by first numbers.
+use Rattle.std.specs.Prelude.{◌≡◌, ℕ, zero, suc, max, Bool, true, false, not, ◌&&◌, ◌||◌, ◌⊎◌, List, [], ◌∷◌, ◌++◌, Option, None, Some, is_some, length, slice_get, map, take}
+use Rattle.std.specs.List.{AllByRecursion, filter, list_all}
+use Rattle.std.specs.List.Sorted.{IsPermutation}
+use Rattle.history.specs.declared.refusals.Refusal.{Refusal}
+use Rattle.history.specs.declared.operations.Op.{Op}
+use Rattle.history.specs.declared.operations.Op.TheVariants.{Enq, Deq, Shut}
+use Rattle.history.specs.declared.operations.Reply.{Reply}
+use Rattle.history.specs.declared.operations.Reply.TheVariants.{Done, Value, Empty, Refused}
+use Rattle.history.specs.declared.operations.Stamped.{Stamped}
+use Rattle.history.specs.History.{leaves, is_closed}
+use Rattle.waiting_orders.specs.declared.lines.Pick.{Pick}
+use Rattle.waiting_orders.specs.declared.nodes.Node.{Node}
+use Rattle.waiting_orders.specs.declared.nodes.Front.{Front}
+use Rattle.waiting_orders.specs.declared.boards.Board.{Board}
+use Rattle.waiting_orders.specs.Waiting.{IsCall, State, Step, Same, IsEnd, waits, is_open_at, fits}
+use Rattle.waiting_orders.specs.Lines.{Left, view_left, left_of, spelled, IsRising}
+
+-- what is left, whether the queue is shut, and the number of the last operation placed
+pub record Spot : Type 0 where
+  pub others : Left
+  pub pushes : Left
+  pub shut : Bool
+  pub time : ℕ
+
+-- the state that a node is
+abbrev pub view : Node → Spot
+view n = record { others = view_left n.others; pushes = view_left n.pushes; shut = n.is_shut; time = n.time }
+
+-- the states that nodes are
+abbrev pub views : List Node → List Spot
+views ns = map view ns
+
+-- nothing is placed
+abbrev pub start : Spot
+start = record { others = record { kept = []; from = 0 }; pushes = record { kept = []; from = 0 }; shut = false; time = 0 }
+
+-- the state that this is of a history with these operations
+abbrev pub state_of : Board → Spot → State
+state_of board s = record { left = left_of board.others.operations.items s.others ++ left_of board.pushes.operations.items s.pushes; shut = s.shut; time = s.time }
+
+-- both lists of operations are by first numbers
+pub record AreRising (board : Board) : Type 0 where
+  pub others : IsRising board.others.operations.items
+  pub pushes : IsRising board.pushes.operations.items
+
+-- the operations of a history: those that wait as pushes, and the others, each by first numbers
+pub record IsBoard (ops : List Stamped) (board : Board) : Type 0 where
+  pub rising : AreRising board
+  pub all : IsPermutation ops (board.others.operations.items ++ board.pushes.operations.items)
+  pub others : AllByRecursion (λ o. waits o ≡ false) board.others.operations.items
+  pub pushes : AllByRecursion (λ o. waits o ≡ true) board.pushes.operations.items
+
+-- ---- steps
+
+-- whether all numbers of a list pass a test
+abbrev pub each : (ℕ → Bool) → List ℕ → Bool
+each test ns = list_all test ns
+
+-- one state
+abbrev pub one : (others pushes : Left) → (shut : Bool) → (time : ℕ) → List Spot
+one others pushes shut time = record { others = others; pushes = pushes; shut = shut; time = time } ∷ []
+
+-- a state, where something holds
+abbrev pub where_so : Bool → (others pushes : Left) → (shut : Bool) → (time : ℕ) → List Spot
+where_so true others pushes shut time = one others pushes shut time
+where_so false others pushes shut time = []
+
+-- the least number at which an operation has its effect
+abbrev pub time_of : Spot → Pick → ℕ
+time_of s way = max s.time way.operation.first
+
+-- the state behind an operation that changes nothing, where something holds
+abbrev pub stay : Bool → Spot → Front → Pick → List Spot
+stay holds s f way = where_so (holds && is_open_at (time_of s way) f.limit) (view_left way.rest) s.pushes s.shut (time_of s way)
+
+-- the state behind a pop told that the queue is shut and empty, where something holds: pushes that wait are left out
+abbrev pub drained : Bool → (pushes : List Stamped) → Spot → Front → Pick → List Spot
+drained holds pushes s f way =
+    where_so (holds && s.shut && is_open_at (time_of s way) f.limit && not (is_some f.push_limit)) (view_left way.rest)
+    (record { kept = []; from = length pushes }) s.shut (time_of s way)
+
+-- whether the push at a place began by a number
+abbrev pub began : Option ℕ → Option Stamped → Bool
+began limit None = false
+began limit (Some p) = is_open_at p.first limit
+
+-- whether there is a push at a place that began by a number
+abbrev pub began_by : (pushes : List Stamped) → Option ℕ → ℕ → Bool
+began_by pushes limit place = began limit (slice_get pushes place)
+
+-- whether the push at a place began by a number, or never ended
+abbrev pub goes : Option ℕ → Option Stamped → Bool
+goes limit None = true
+goes limit (Some p) = is_open_at p.first limit || not (is_some p.last)
+
+-- whether the push at a place, if there is one, began by a number or never ended
+abbrev pub may_go : (pushes : List Stamped) → Option ℕ → ℕ → Bool
+may_go pushes limit place = goes limit (slice_get pushes place)
+
+-- the state behind a shut: pushes that began too late are left out
+abbrev pub shut_of : (pushes : List Stamped) → Spot → Front → Pick → List Spot
+shut_of pushes s f way =
+    where_so (not s.shut && is_open_at (time_of s way) f.limit && each (may_go pushes f.limit) (spelled (length pushes) s.pushes)) (view_left way.rest)
+    (record { kept = filter (began_by pushes f.limit) (spelled (length pushes) s.pushes); from = length pushes }) true (time_of s way)
+
+-- the state behind a take of a push that waits
+abbrev pub take_of : (Stamped → Bool) → Spot → Front → Pick → Pick → List Spot
+take_of suits s f way take =
+    where_so (suits take.operation && is_open_at (max (time_of s way) take.operation.first) f.limit) (view_left way.rest) (view_left take.rest) s.shut
+    (max (time_of s way) take.operation.first)
+
+-- the state behind a take of the push at a place, if there is one
+abbrev pub take_at : (Stamped → Bool) → Spot → Front → Pick → Option Pick → List Spot
+take_at suits s f way None = []
+take_at suits s f way (Some take) = take_of suits s f way take
+
+-- the states behind takes of the first pushes of those that may be taken
+abbrev pub takes_to : ℕ → (Stamped → Bool) → Spot → Front → Pick → List Spot
+takes_to zero suits s f way = []
+takes_to (suc k) suits s f way = takes_to k suits s f way ++ take_at suits s f way (slice_get f.takes.items k)
+
+-- the states behind a refused operation
+abbrev pub refused_of : Refusal → Op → (pushes : List Stamped) → Spot → Front → Pick → List Spot
+refused_of refusal (Enq body) pushes s f way = stay (leaves refusal || (is_closed refusal && s.shut)) s f way
+refused_of refusal Shut pushes s f way = stay (leaves refusal || (is_closed refusal && s.shut)) s f way
+refused_of refusal Deq pushes s f way = stay (leaves refusal) s f way ++ drained (is_closed refusal) pushes s f way
+
+-- the states behind an operation, by its call and its reply
+abbrev pub steps_of : Op → Option Reply → (pushes : List Stamped) → Spot → Front → Pick → List Spot
+steps_of (Enq body) None pushes s f way = []
+steps_of Deq None pushes s f way = takes_to (length f.takes.items) (fits None) s f way
+steps_of Shut None pushes s f way = shut_of pushes s f way
+steps_of (Enq body) (Some Done) pushes s f way = []
+steps_of Deq (Some Done) pushes s f way = []
+steps_of Shut (Some Done) pushes s f way = shut_of pushes s f way
+steps_of (Enq body) (Some (Value v)) pushes s f way = []
+steps_of Deq (Some (Value v)) pushes s f way = takes_to (length f.takes.items) (fits (Some v)) s f way
+steps_of Shut (Some (Value v)) pushes s f way = []
+steps_of (Enq body) (Some Empty) pushes s f way = []
+steps_of Deq (Some Empty) pushes s f way = stay (not s.shut && is_open_at (time_of s way) f.push_limit) s f way
+steps_of Shut (Some Empty) pushes s f way = []
+steps_of op (Some (Refused refusal)) pushes s f way = refused_of refusal op pushes s f way
+
+-- the states behind the operation at a place, if there is one
+abbrev pub steps_at : (pushes : List Stamped) → Spot → Front → Option Pick → List Spot
+steps_at pushes s f None = []
+steps_at pushes s f (Some way) = steps_of way.operation.op way.operation.reply pushes s f way
+
+-- the states behind the first of the operations that may be placed
+abbrev pub steps_to : ℕ → (pushes : List Stamped) → Spot → Front → (ways : List Pick) → List Spot
+steps_to zero pushes s f ways = []
+steps_to (suc k) pushes s f ways = steps_to k pushes s f ways ++ steps_at pushes s f (slice_get ways k)
+
+-- ---- what was tried
+
+-- one of these has the same left as a state
+abbrev pub Among : Board → List Spot → State → Type 0
+Among board [] t = ⊥
+Among board (u ∷ us) t = Same t (state_of board u) ⊎ Among board us t
+
+-- operations of calls, of which those that wait as pushes stand apart
+pub record AreCalls (board : Board) : Type 0 where
+  pub others : AllByRecursion (λ o. waits o ≡ false) board.others.operations.items
+  pub pushes : AllByRecursion (λ o. waits o ≡ true) board.pushes.operations.items
+  pub other_calls : AllByRecursion IsCall board.others.operations.items
+  pub push_calls : AllByRecursion IsCall board.pushes.operations.items
+
+-- each step from a state leads to one of these
+abbrev pub HasSteps : Board → Spot → List Spot → Type 0
+HasSteps board s new = AreCalls board → (t : State) → Step (state_of board s) t → Among board new t
+
+-- the same of a history with these operations
+abbrev pub HasStepsOver : (others pushes : List Stamped) → Spot → List Spot → Type 0
+HasStepsOver others pushes s new = (board : Board) → others ≡ board.others.operations.items → pushes ≡ board.pushes.operations.items → HasSteps board s new
+
+-- a state is one of several
+abbrev pub IsIn : Spot → List Spot → Type 0
+IsIn s [] = ⊥
+IsIn s (u ∷ us) = (s ≡ u) ⊎ IsIn s us
+
+-- a list from its end to its beginning
+abbrev pub turned : List Spot → List Spot
+turned [] = []
+turned (u ∷ us) = turned us ++ u ∷ []
+
+-- a state is no end, and each step leads to one of these
+pub record WasTried (board : Board) (all : List Spot) (s : Spot) : Type 0 where
+  pub no_end : AreCalls board → IsEnd (state_of board s) → ⊥
+  pub steps : HasSteps board s all
+
+-- the start is among the states, and each that isn't one of those to be tried yet was tried
+pub record Searched (board : Board) (done ahead : List Spot) : Type 0 where
+  pub start : Among board (done ++ ahead) (state_of board start)
+  pub tried : AllByRecursion (WasTried board (done ++ ahead)) done

@@ -1,0 +1,12 @@
+//! Orders of a recorded history in which a push waits until its value is taken, and what it says that none is left to try.
+#![tactic(auto)]
+
+mod boards;
+pub mod laws;
+mod lines;
+mod nodes;
+mod operations;
+mod searching;
+mod staying;
+
+pub use searching::{Outcome, searched};
