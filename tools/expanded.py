@@ -5,8 +5,8 @@ alone; and recipes by chance.
     tools/expanded.py --trials N [--seed S] [--program PATH]
 
 Recipe I of seed S is the same in each run; each fourth one is changed, so that most of these are faulty. The program has to write
-the schedule that is due, or to tell the fault that is, and the trace of that schedule has to have the recipe's steps, and its run the
-history of these. The last line is 'N passed, M failed'."""
+the schedule that is due, or to tell the fault that is, and of the recipe and of that schedule the trace of its steps and their history;
+where an act is refused, the trace up to that. The last line is 'N passed, M failed'."""
 import argparse
 import os
 import pathlib
@@ -23,6 +23,8 @@ import traced
 
 TOP = pathlib.Path(__file__).resolve().parent.parent
 MOST = 10**6
+# As how many steps acts count, each at least and all at most, and how many one takes up to a line or an end.
+LEAST, ALL, ALONE = 100, 10**8, 64
 NUMBER = "(0|[1-9][0-9]*)"
 ACTOR, BODY = (1, 65535), (0, 2**48 - 1)
 NAMES = "|".join(sorted(traced.LINES))
@@ -108,8 +110,8 @@ def read(text):
         if words[0] == "repeat":
             times, body = int(words[1]), []
             continue
-        counted += times
-        if counted > MOST:
+        counted += times * (max(LEAST, int(words[2])) if words[0] == "steps" else LEAST)
+        if counted > ALL:
             raise Faulty(f"line {number} Range")
         (acts if body is None else body).append((number, words))
     raise Faulty(f"line {len(whole) + 1} End")
@@ -118,11 +120,11 @@ def read(text):
 def walk(machine, me, is_there):
     """Steps of an actor up to where it is to come, and how many; None where it doesn't come there."""
     machine.actor(me)
-    for count in range(MOST + 1):
+    for count in range(ALONE + 1):
         line = machine.actors[me]["line"]
         if is_there(line):
             return count
-        if line is None or count == MOST or is_stuck(machine, me):
+        if line is None or count == ALONE or is_stuck(machine, me):
             return None
         machine.step(me)
 
@@ -170,9 +172,18 @@ def calls_in(events):
     return calls
 
 
+def refused_event(words, cause):
+    """An event that is refused for the same cause as an act."""
+    if words[0] == "until":
+        return f"step {words[1]} {words[2]}"
+    if words[0] == "finish":
+        return f"begin {words[1]} deq" if cause == "7 ActorBusy" else f"steps {words[1]} 1"
+    return " ".join(words)
+
+
 def due(text):
-    """The text of the schedule that a recipe stands for, or the line of the fault by which it is refused; and the rows of the
-    trace of its steps, with their history."""
+    """The text of the schedule that a recipe stands for, the rows of the trace of its steps, and their history. If it is refused, the
+    line of the fault, nothing, and the schedule of the acts before it and an event that is refused as the act is, if one is."""
     try:
         (kind, bits, *sizes), acts = read(text)
     except Faulty as faulty:
@@ -183,12 +194,18 @@ def due(text):
         try:
             events += act(machine, words)
         except traced.Refused as refused:
-            return f"fault {refused} line {number}\n", None, None
+            stopped = [*events, refused_event(words, str(refused))]
+            return f"fault {refused} line {number}\n", None, schedule(kind, bits, sizes, stopped)
+    return schedule(kind, bits, sizes, events), machine.rows, history(calls_in(events), machine.rows)
+
+
+def schedule(kind, bits, sizes, events):
+    """The text of a schedule."""
     is_first = bits == "24" and not any(it.endswith(" shut") or re.fullmatch("step .* S.", it) for it in events)
     lines = [f"msq schedule {1 if is_first else 2}", f"queue {kind}", *([] if is_first else [f"bits {bits}"])]
     lines += [f"{name} {size}" for name, size in zip(("nodes", "limit", "actors"), sizes)]
     lines += [f"events {len(events)}", *events]
-    return "".join(f"{line}\n" for line in lines), machine.rows, history(calls_in(events), machine.rows)
+    return "".join(f"{line}\n" for line in lines)
 
 
 def act_by_chance(chance, kind, actors, is_open):
@@ -255,17 +272,23 @@ def changed(chance, text):
 
 
 def is_right(program, text):
-    """Whether the program writes what is due of a recipe, and the trace of its schedule has the recipe's steps, and its run their
-    history."""
-    wrote = lambda *words: subprocess.run([program, *words, "-"], input=wanted if words != ("run", "--expand") else text, capture_output=True, text=True, timeout=60)
+    """Whether the program writes what is due of a recipe, and of the schedule for which it stands."""
+
+    def does(given, words, *wanted):
+        ran = subprocess.run([program, *words, "-"], input=given, capture_output=True, text=True, timeout=60)
+        return (ran.returncode, ran.stdout, ran.stderr) == wanted
+
     wanted, rows, run = due(text)
-    done = wrote("run", "--expand")
     if rows is None:
-        return (done.returncode, done.stdout, done.stderr) == (1, "", wanted)
-    if (done.returncode, done.stdout, done.stderr) != (0, wanted, ""):
+        trace = traced.told(run)[0] if run else ""
+        told = [(["run", "--expand"], ""), (["run"], ""), (["trace"], trace)]
+        # With another version the text isn't read as a recipe.
+        read_as = told if text.startswith("msq schedule 3") else told[:1]
+        return all(does(text, words, 1, written, wanted) for words, written in read_as)
+    trace = traced.due(wanted)
+    if trace.split("\n")[7:-1] != rows or not does(text, ["run", "--expand"], 0, wanted, ""):
         return False
-    trace = traced.due(wanted).split("\n")[7:-1]
-    return trace == rows and wrote("trace").stdout.split("\n")[7:-1] == rows and wrote("run").stdout == run
+    return all(does(given, ["trace"], 0, trace, "") and does(given, ["run"], 0, run, "") for given in (text, wanted))
 
 
 def main():

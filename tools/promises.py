@@ -1,4 +1,4 @@
-"""Promises: the lists of docs/CLAIMS.md, printed from the marks in the sources.
+"""Promises: the marks in the sources, the lists of docs/CLAIMS.md, and what tools/promises prints.
 
 A mark is a comment directly above the clause that keeps a promise:
 
@@ -9,18 +9,20 @@ A mark is a comment directly above the clause that keeps a promise:
 
 `references` is the key of a section of the page, `raised` a name of the promise in it. Where several clauses of the function
 keep it, the mark stands above the first of them and names them all, or has `(*)` for every one that there is. The first mark of a
-promise has the text, in the order of the page; a further call that keeps it has `//= references/raised` above its clause.
+promise has the text, in the order of its section; a further call that keeps it has `//= references/raised` above its clause.
 What a trait or an impl says in `ghost NAME` is a clause of that; a mark may also stand above a function without clauses, and
 above an `impl` of a trait, whose clause is the trait.
 
-In the page `<!-- promises: references -->` stands above the list of its section. The promises are in the order of crates.txt, of
-the `mod` lines of each crate's files, and of the lines.
+In the page `<!-- promises: references: raised, made -->` stands above the list of a section, and names those which it shows, in
+their order; `<!-- promises: stamps -->` shows none. tools/promises prints all, in the order of crates.txt, of the `mod` lines of
+each crate's files, and of the lines.
 """
 import dataclasses
 import re
 
 PAGE = "docs/CLAIMS.md"
-LIST = re.compile(r"^<!-- promises: (\w+) -->\n\n?((?:- .*\n)*)", re.MULTILINE)
+SECTION = re.compile(r"^##+ (.*)\n((?:(?!##|<!--).*\n)*)<!-- promises: (\w+)", re.MULTILINE)
+LIST = re.compile(r"^(<!-- promises: (\w+)(?:: (\w+(?:, \w+)*))? -->)\n\n?(?:- .*\n)*", re.MULTILINE)
 MARK = re.compile(r" *//= (\w+)/(\w+)(?: \((\*|\w+(?:, \w+)+)\))?(?:: (.+))?")
 LINES = re.compile(r"^ *//=.*\n", re.MULTILINE)
 FURTHER = re.compile(r" *//=   (.+)")
@@ -218,38 +220,62 @@ def promises(marks, section):
     return found
 
 
-def item(marks):
-    """What the page has of a promise: its calls in the order of the sources, but those together that keep it by the same clauses."""
-    kept, groups = {}, {}
+def kept(marks):
+    """The calls that keep a promise, each with its file, by the clauses: in the order of the sources, but those together that keep it
+    by the same ones."""
+    found, groups = {}, {}
     for it in marks:
-        kept.setdefault((it.call, it.path), []).extend(it.clauses)
-    for (call, path), clauses in kept.items():
+        found.setdefault((it.call, it.path), []).extend(it.clauses)
+    for call, clauses in found.items():
         names = ", ".join({"-": "", "*": "all"}.get(it, f"`{it}`") for it in dict.fromkeys(clauses))
-        groups.setdefault(names, []).append(f"[`{call}`](../{path})")
-    calls = (", ".join(it) + (f": {names}" if names else "") for names, it in groups.items())
+        groups.setdefault(names, []).append(call)
+    return groups
+
+
+def item(marks):
+    """What the page has of a promise."""
+    groups = kept(marks).items()
+    calls = (", ".join(f"[`{call}`](../{path})" for call, path in it) + (f": {names}" if names else "") for names, it in groups)
     return f"- {marks[0].text} ({'; '.join(calls)})\n"
 
 
-def printed(tree, text):
+def shown(marks, list_of):
+    """A list of the page: the promises that it names, and what prints all of its section."""
+    section, names = list_of[2], list_of[3].split(", ") if list_of[3] else []
+    of = promises(marks, section)
+    items = "".join(item(of[it]) for it in names if it in of)
+    return f"{list_of[1]}\n\n{items}- All: `tools/promises {section}`\n"
+
+
+def printed(marks, text):
     """The page with its lists as the marks have them."""
-    marks = all_marks(tree)
-    items = lambda key: "".join(item(it) for it in promises(marks, key).values())
-    return LIST.sub(lambda it: f"<!-- promises: {it[1]} -->\n\n{items(it[1])}", text)
+    return LIST.sub(lambda it: shown(marks, it), text)
 
 
-def wrong(tree, text):
+def everything(marks, text):
+    """All promises below the headings of their sections, as links and names in them are looked at."""
+    lists = ((title, promises(marks, key).values()) for title, _, key in SECTION.findall(text))
+    return "".join(f"\n## {title}\n\n{''.join(map(item, of))}" for title, of in lists)
+
+
+def wrong(marks, text):
     """What is wrong with the marks, and with the lists of the page."""
-    marks, keys = all_marks(tree), [it[0] for it in LIST.findall(text)]
+    lists = [(it[1], it[2].split(", ") if it[2] else []) for it in LIST.findall(text)]
+    keys, headed = [key for key, _ in lists], {key for _, _, key in SECTION.findall(text)}
     for it in marks:
         yield from (f"{it.place()}: {fault}" for fault in it.faults)
         if it.section and it.section not in keys:
             yield f"{it.place()}: the page has no list {it.section}"
-    for key in dict.fromkeys(keys):
-        for name, kept in promises(marks, key).items():
-            if not kept[0].text:
-                yield f"{kept[0].place()}: the first one of {key}/{name} has no text"
-            yield from (f"{it.place()}: {key}/{name} has a text before" for it in kept[1:] if it.text)
+    for key, names in lists:
+        of = promises(marks, key)
+        for name, kept_by_all in of.items():
+            if not kept_by_all[0].text:
+                yield f"{kept_by_all[0].place()}: the first one of {key}/{name} has no text"
+            yield from (f"{it.place()}: {key}/{name} has a text before" for it in kept_by_all[1:] if it.text)
+        yield from (f"no mark has the promise {key}/{it}" for it in names if it not in of)
+        if key not in headed:
+            yield f"the list {key} has no heading of its own"
         if keys.count(key) > 1:
             yield f"it has the list {key} twice"
-    if text != printed(tree, text):
+    if text != printed(marks, text):
         yield "its lists are stale: tools/pages writes them"

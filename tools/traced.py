@@ -6,6 +6,16 @@ class Refused(Exception):
     """An event is refused, by this number and name, at this line of the schedule."""
 
 
+class Exchange:
+    """A compare-exchange: what it expects, and what it writes."""
+
+    def __init__(self, old, new):
+        self.old, self.new = old, new
+
+    def __call__(self, found):
+        return self.new if found == self.old else found
+
+
 class Machine:
     """A queue, its actors and what they touched. A reference is (node, count); 'end' is the node of a closed end."""
 
@@ -78,7 +88,7 @@ class Machine:
 
     def access(self, line, a, me, up):
         """The word of a line, and what is written there: a content, what an exchange makes of what is found, or None."""
-        swap = lambda old, new: lambda found: new if found == old else found
+        swap = Exchange
         of = lambda ref: f"next {ref[0]}"
         loads = {"N1": "Fresh", "N2": "Free", "F1": "Free", "E5": "Tail", "E7": "Tail", "D2": "Head", "D3": "Tail", "D5": "Head",
                  "A4": "Tail", "B2": "Head", "S1": "Tail", "S3": "Tail", "S7": "Tail"}
@@ -281,14 +291,19 @@ def alone(machine, me):
     return "-"
 
 
-def standings(machine, words):
-    """Where each actor that has a call stands as an event is refused, and how soon the call of the event's ends alone."""
+def stands(machine):
+    """Where each actor that has a call stands."""
     rows = []
     for me, a in enumerate(machine.actors):
         if a and a["line"]:
             name, _ = machine.access(a["line"], a, me, lambda ref, node: (node, ref[1] + 1))
             rows.append(f"{me} at {a['line']} {name} holds {shown(machine.word(name))}")
-    me = int(words[1])
+    return rows
+
+
+def standings(machine, words):
+    """The same as an event is refused, and how soon the call of the event's ends alone."""
+    me, rows = int(words[1]), stands(machine)
     if me < len(machine.actors) and machine.actors[me]["line"]:
         rows.append(f"{me} alone {alone(machine, me)}")
     return rows
@@ -305,8 +320,9 @@ def made(setup, events):
     return machine, len(events), ""
 
 
-def told(text):
-    """What is written of the text of a schedule, and the line of the fault by which one of its events is refused, or nothing."""
+def run(text):
+    """The lines of the trace of the text of a schedule; where the actors stand behind it, as an event is refused or at the end; and the
+    line of the fault by which one of its events is refused, or nothing."""
     lines = text.split("\n")[:-1]
     version = lines[0].split()[2]
     bits = "24" if version == "1" else lines[2].split()[1]
@@ -315,9 +331,21 @@ def told(text):
     first = 8 if version == "2" else 7
     events = [line.split() for line in lines[first - 1 :]]
     machine, at, refused = made((kind, *map(int, sizes)), events)
-    behind = standings(machine, events[at]) if refused else []
     head = ["msq trace 1", f"queue {kind}", f"bits {bits}", f"nodes {sizes[0]}", f"limit {sizes[1]}", f"actors {sizes[2]}", f"steps {machine.steps}"]
-    return "".join(f"{line}\n" for line in head + machine.rows + behind), f"fault {refused} line {first + at}\n" if refused else ""
+    behind = standings(machine, events[at]) if refused else stands(machine)
+    return head + machine.rows, behind, f"fault {refused} line {first + at}\n" if refused else ""
+
+
+def told(text):
+    """What is written of the text of a schedule, and the line of the fault by which one of its events is refused, or nothing."""
+    lines, behind, fault = run(text)
+    return "".join(f"{line}\n" for line in lines + (behind if fault else [])), fault
+
+
+def paged(text):
+    """What the page of a schedule tells of its run."""
+    lines, behind, fault = run(text)
+    return "".join(f"{line}\n" for line in lines + behind) + fault
 
 
 def due(text):

@@ -14,8 +14,9 @@ LibraryOfRt name each part that is used; another kit has to keep these, or this 
     a crate's out, build_rlib(flags, anew)        where it prints, and the build of its library
     a crate's has_tests()                         whether it has tests
     a crate's stamp()                             a digest of what its library is made of (tools/stamps)
-    a crate's is_static, prove(words), call(..)   what tools/prove builds an archive by; rt.Crate.ci, rt.Kept.made, rt.Kept.is_whole, rt.say and
-                                                  rt.Kept's beginning are what it changes for that, to say how far it is, and to leave a crate out
+    a crate's is_static, prove(words), call(..)   what tools/prove builds an archive by; rt.Crate.ci, rt.say and, where the kit keeps proofs,
+                                                  rt.Kept.made, rt.Kept.is_whole and rt.Kept's beginning, else rt.rtlib.lock and
+                                                  rt.rtlib.stop_on_unread, are what it changes for that, to say how far it is, and to leave a crate out
     rt.rtlib.fmt(folder, "--check", out)          whether its files are laid out (tools/prove)
     out/rlib/stamp, out/incremental               the stamp of a library that rt built, and what rt check keeps
 
@@ -88,6 +89,11 @@ class Kit:
         self.rt = loaded()
         # (its first call sets a signal's handler, which only the main thread may)
         self.rt.rtlib.guarded()
+
+    @property
+    def keeps_proofs(self) -> bool:
+        """Whether this kit's rt ci keeps what it has proved."""
+        return hasattr(self.rt, "Kept")
 
     def crates(self, top: str) -> list[LibraryOfRt]:
         """Returns the crates at or below a folder, each after those that it stands on."""

@@ -138,6 +138,7 @@ forth (did_push seat value ∷ ds) = ap (λ (y : List (Deed ℕ)). did_push seat
 forth (did_pop seat front ∷ ds) = ap (λ (y : List (Deed ℕ)). did_pop seat front ∷ y) (forth ds)
 forth (did_shut seat ∷ ds) = ap (λ (y : List (Deed ℕ)). did_shut seat ∷ y) (forth ds)
 
+-- what a seat knows by deeds of numbers, by entries
 abbrev pub known_of_deeds : KnownOf ℕ → Known
 known_of_deeds k = record { number = k.number; seen = map entry_of k.seen; mine = map entry_of k.mine; notes = k.notes }
 

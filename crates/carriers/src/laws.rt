@@ -89,7 +89,8 @@ pub fn closed_numbers_are_values()
 pub fn deeds_are_entries()
     //= carriers/by_entries (pushed, shut, answers, push_refused, pop_refused, meets, each): What a call of a queue of numbers tells by
     //=   deeds it tells by entries, and what any seat of bodies knows is what some seat of numbers does.
-    ensures pushed { (k k' : Known) (body : ℕ) → PushedOf (known_by_deeds k) body (known_by_deeds k') → Pushed k body k' }
+    ensures pushed { (k k' : Known) (body : ℕ)
+        → PushedOf (known_by_deeds k) body (known_by_deeds k') → Pushed k body k' }
     ensures shut { (k k' : Known) → DidShutOf (known_by_deeds k) (known_by_deeds k') → DidShut k k' }
     ensures answers { (k k' : Known) (taken : Option Taken)
         → PopAnswersOf (known_by_deeds k) (option_map item_taken taken) (known_by_deeds k') → PopAnswers k taken k' }

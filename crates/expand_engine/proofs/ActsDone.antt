@@ -1,16 +1,15 @@
 -- Acts that are done one after another.
-use Rattle.std.proofs.Common.{◌≡◌, ◌≢◌, ℕ, ◌+◌, ◌*◌, ◌<◌, ◌≤◌, List, [], ◌∷◌, ◌++◌, All, Option, Some, None, length, take, drop, get_or}
+use Rattle.std.proofs.Common.{◌≡◌, ◌≢◌, ℕ, ◌+◌, ◌*◌, ◌<◌, ◌≤◌, List, [], ◌∷◌, ◌++◌, All, length, take, drop, get_or}
 use Rattle.std.proofs.Common.{take-append-drop, subst, arith, refl, sym, ap, ◌∙◌, append_assoc}
-use Rattle.std.specs.Prelude.{IfSome}
 use Rattle.std.proofs.lemmas.List.{append-nil, drop_more, take_all, take_more}
 use Rattle.std.proofs.lemmas.List.Elements.{All-nil, All-cons, All-append}
-use Rattle.engine_faults.specs.Faults.{IsEventFault, IsEventRefusal}
-use Rattle.history.specs.declared.refusals.Refusal.TheVariants.{Memory}
+use Rattle.engine_faults.specs.Faults.{IsEventRefusal, IsMoveRefusal}
+use Rattle.history.specs.declared.refusals.Refusal.TheVariants.{Memory, IdleActor, ActorBusy, NotHere, NoSuchActor}
 use Rattle.history.specs.declared.refusals.Refusal.{Refusal}
 use Rattle.schedule_text.specs.declared.schedules.Event.{Event}
 use Rattle.step_machine.specs.Machine.{World}
 use Rattle.expand_engine.specs.declared.recipes.Act.{Act}
-use Rattle.expand_engine.specs.Expansions.{ActLeads, ActRefused, ActsLead, ActsRefused, DoesAct}
+use Rattle.expand_engine.specs.Expansions.{ActLeads, ActRefused, ActsLead, DoesAct, StopsAt}
 
 -- acts, and then one more
 pub ActsLead-push : (acts : List Act) (act : Act) (w v u : World) (events more : List Event) → ActsLead w acts events v → ActLeads v act.said more u → ActsLead w (acts ++ act ∷ []) (events ++ more) u
@@ -19,20 +18,14 @@ ActsLead-push [] act w v u events more led leads =
 ActsLead-push (first ∷ acts) act w v u events more led leads =
     (led.0, led.1, led.2 ++ more, ap (λ (e : List Event). e ++ more) led.3 ∙ append_assoc led.1 led.2 more, led.4, ActsLead-push acts act led.0 v u led.2 more led.5 leads)
 
--- an act is refused behind others
-pub ActsRefused-behind : (before later : List Act) (act : Act) (acts : List Act) (line : ℕ) (w v : World) (events : List Event) (refusal : Refusal) → acts ≡ before ++ act ∷ later → line ≡ act.line
-    → ActsLead w before events v → ActRefused v act.said refusal → ActsRefused w acts line refusal
-ActsRefused-behind before later act acts line w v events refusal split counted led refused = record {
-  before = before;
-  act = act;
-  later = later;
-  split = split;
-  counted = counted;
-  events = events;
-  world = v;
-  led = led;
-  refused = refused;
-}
+-- what moves are refused but for memory, an event is
+event_refusal : (refusal : Refusal) → IsMoveRefusal refusal → refusal ≢ Memory → IsEventRefusal refusal
+event_refusal Memory kind other = absurd (other refl)
+event_refusal IdleActor kind other = kind
+event_refusal ActorBusy kind other = kind
+event_refusal NotHere kind other = kind
+event_refusal NoSuchActor kind other = kind
+event_refusal _ kind other = absurd kind
 
 -- so many acts were done, each in at most 1,000,000 steps
 pub record HasDone (w : World) (acts : List Act) (events : List Event) (v : World) (count : ℕ) : Type 0 where
@@ -50,17 +43,20 @@ HasDone-more acts w v u events more i act done within is does few = record {
 }
 
 -- the act at hand is refused
-pub HasDone-refused : (acts : List Act) (w v : World) (events : List Event) (i : ℕ) (act : Act) (refusal : Refusal) → HasDone w (take i acts) events v i → i < length acts → act ≡ get_or acts i act
-    → ActRefused v act.said refusal → ActsRefused w acts act.line refusal
-HasDone-refused acts w v events i act refusal done within is refused =
-    ActsRefused-behind (take i acts) (drop (i + 1) acts) act acts act.line w v events refusal
-    (sym (take-append-drop i acts) ∙ ap (λ (l : List Act). take i acts ++ l) (drop_more acts i act within ∙ ap (λ (a : Act). a ∷ drop (i + 1) acts) (sym is))) refl done.led refused
+pub HasDone-stops : (acts : List Act) (w v : World) (events told : List Event) (i : ℕ) (act : Act) (refusal : Refusal) → HasDone w (take i acts) events v i → i < length acts → act ≡ get_or acts i act
+    → told ≡ events → IsMoveRefusal refusal → refusal ≢ Memory → (refusal ≢ Memory → ActRefused v act.said refusal) → StopsAt w acts told v (record { act = act; refusal = refusal })
+HasDone-stops acts w v events told i act refusal done within is same kind other refused = record {
+  before = take i acts;
+  later = drop (i + 1) acts;
+  split = sym (take-append-drop i acts) ∙ ap (λ (l : List Act). take i acts ++ l) (drop_more acts i act within ∙ ap (λ (a : Act). a ∷ drop (i + 1) acts) (sym is));
+  led = subst (λ (e : List Event). ActsLead w (take i acts) e v) (sym same) done.led;
+  kind = event_refusal refusal kind other;
+  refused = refused other;
+}
 
--- a refusal with a line isn't that of memory
-pub refused_at : (line : Option ℕ) (refusal told : Refusal) (number : ℕ) (P : ℕ → Refusal → Type 0) → IfSome line (λ at. at ≡ number) → told ≡ refusal → IsEventFault told line
-    → (refusal ≢ Memory → P number refusal) → IfSome line (λ at. P at told)
-refused_at None refusal told number P at same kind by = tt
-refused_at (Some line) refusal told number P at same kind by = rw (at, same) (by (λ memory. subst IsEventRefusal (same ∙ memory) kind.0))
+-- all were done
+pub HasDone-all : (acts : List Act) (w v : World) (events : List Event) (i : ℕ) → HasDone w (take i acts) events v i → length acts ≤ i → ActsLead w acts events v
+HasDone-all acts w v events i done over = subst (λ (l : List Act). ActsLead w l events v) (take_all i acts over) done.led
 
 -- what holds of the first elements holds of one more
 pub All-more : {A : Type 0} (P : A → Type 0) (xs : List A) (i : ℕ) (x : A) → All P (take i xs) → i < length xs → x ≡ get_or xs i x → P x → All P (take (i + 1) xs)

@@ -1,8 +1,12 @@
 -- How many acts a recipe has, and what their numbers are.
-use Rattle.std.proofs.Common.{◌≡◌, ℕ, zero, suc, ◌+◌, ◌*◌, ◌≤◌, List, [], ◌∷◌, ◌++◌, length, map, All, true, false, Option, Some, None, refl, sym, ap, subst, ◌∙◌, arith}
+use Rattle.std.proofs.Common.{◌≡◌, ℕ, zero, suc, ◌+◌, ◌*◌, ◌<◌, ◌≤◌, Bool, nat_le, if◌then◌else◌, List, [], ◌∷◌, ◌++◌, length, map, All, true, false, Option, Some, None, refl, sym, ap, subst, ◌∙◌, arith}
+use Rattle.std.proofs.lemmas.Bool.{leb-false}
+use Rattle.std.proofs.lemmas.Nat.{mul-le}
 use Rattle.std.proofs.Math.Nat.{mul-suc, suc-mul, zero-mul}
 use Rattle.std.proofs.lemmas.List.{append-nil, length-append}
 use Rattle.std.proofs.lemmas.List.Elements.{All-nil, All-cons, All-append}
+use Rattle.schedule_text.specs.declared.schedules.Event.{Event}
+use Rattle.schedule_text.specs.declared.schedules.Event.TheVariants.{Steps}
 use Rattle.schedule_text.specs.declared.fields.Field.TheVariants.{Bits, Nodes, Limit, Actors}
 use Rattle.text_io.specs.Grammars.{AreDue, state_after}
 use Rattle.expand_engine.specs.declared.recipes.Act.{Act}
@@ -10,7 +14,7 @@ use Rattle.expand_engine.specs.declared.recipes.Due.{Due}
 use Rattle.expand_engine.specs.declared.recipes.Due.TheVariants.{Version as VersionDue, Queue as QueueDue, Number as NumberDue, Act as ActDue, Repeated, Nothing as NothingDue}
 use Rattle.expand_engine.specs.declared.recipes.Said.{Said}
 use Rattle.expand_engine.specs.declared.recipes.Said.TheVariants.{Nothing, Version, Queue, Number, Happens, Until, Finish, Repeat, End}
-use Rattle.expand_engine.specs.Recipes.{IsActInRange, IsSaidInRange, MaySay, RecipeLine, due_after, is_act, is_due, recipe_lines}
+use Rattle.expand_engine.specs.Recipes.{IsActInRange, IsSaidInRange, MaySay, RecipeLine, due_after, is_act, is_due, recipe_lines, weight}
 use Rattle.expand_engine.specs.UnrolledActs.{Open, acts_done, open_after, repeated, unrolled}
 use Rattle.expand_engine.specs.Expansions.{IsActOf}
 
@@ -38,15 +42,15 @@ Fits (NumberDue bits Bits) number None = 3 ≤ number
 Fits (NumberDue bits Nodes) number None = 4 ≤ number
 Fits (NumberDue bits Limit) number None = 5 ≤ number
 Fits (NumberDue bits Actors) number None = 6 ≤ number
-Fits (ActDue acts) number None = (7 ≤ number) × (acts ≤ 1000000)
-Fits (Repeated acts times) number (Some held) = (7 ≤ number) × (acts ≤ 1000000) × (held.times ≡ times) × All IsActOf held.body
+Fits (ActDue acts) number None = (7 ≤ number) × (acts ≤ 100000000)
+Fits (Repeated acts times) number (Some held) = (7 ≤ number) × (acts ≤ 100000000) × (held.times ≡ times) × All IsActOf held.body
 Fits NothingDue number None = Unit {0}
 Fits _ number held = ⊥
 
--- so many acts may have been told where this line is due
+-- so many acts may have been told where this line is due, each of which counts as 100 steps at least
 abbrev Allows : Due → Option Open → (told : ℕ) → Type 0
-Allows (ActDue acts) None told = told ≤ acts
-Allows (Repeated acts times) (Some held) told = told + times * length held.body ≤ acts
+Allows (ActDue acts) None told = told * 100 ≤ acts
+Allows (Repeated acts times) (Some held) told = (told + times * length held.body) * 100 ≤ acts
 Allows NothingDue None told = told ≤ 1000000
 Allows _ held told = told ≡ 0
 
@@ -55,6 +59,15 @@ record Goes (due : Due) (said : Said) (number : ℕ) (held : Option Open) : Type
   fits : Fits (due_after due said) (number + 1) (open_after number held said)
   acts : All IsActOf (acts_done number held said)
   told : (told : ℕ) → Allows due held told → Allows (due_after due said) (open_after number held said) (told + length (acts_done number held said))
+
+-- an act counts as 100 steps at least
+steps_least : (event : Event) → 100 ≤ weight (Happens event)
+steps_least (Steps me count) = by (nat_le count 100) refl
+  where
+    by : (b : Bool) → nat_le count 100 ≡ b → 100 ≤ (if b then 100 else count)
+    by true is = omega arith
+    by false is = let more : 100 < count = leb-false count 100 is in omega (arith, more)
+steps_least _ = omega arith
 
 -- the act of a line
 one_act : (said : Said) (number : ℕ) → is_act said ≡ true → IsActInRange said → 7 ≤ number → All IsActOf (record { line = number; said = said } ∷ [])
@@ -98,57 +111,63 @@ goes_actors bits (Number field value) number may far =
 goes_actors bits _ number may far = absurd may
 
 -- an act, a repeat or the end
-goes_outside : (acts : ℕ) (said : Said) (number : ℕ) → MaySay (ActDue acts) said → IsSaidInRange (ActDue acts) said → 7 ≤ number → acts ≤ 1000000 → Goes (ActDue acts) said number None
+goes_outside : (acts : ℕ) (said : Said) (number : ℕ) → MaySay (ActDue acts) said → IsSaidInRange (ActDue acts) said → 7 ≤ number → acts ≤ 100000000 → Goes (ActDue acts) said number None
 goes_outside acts Nothing number may range far few = record { fits = (omega (arith, far), few); acts = All-nil IsActOf; told = λ told is. omega (arith, is) }
 goes_outside acts Version number may range far few = absurd may
 goes_outside acts (Queue kind) number may range far few = absurd may
 goes_outside acts (Number field value) number may range far few = absurd may
 goes_outside acts (Happens event) number may range far few =
-    record { fits = (omega (arith, far), range.1); acts = one_act (Happens event) number refl range.0 far; told = λ told is. omega (arith, is) }
+    let room = range.1 in
+    let least = steps_least event in
+    record { fits = (omega (arith, far), omega (arith, room)); acts = one_act (Happens event) number refl range.0 far; told = λ told is. omega (arith, is, least) }
 goes_outside acts (Until actor line) number may range far few =
-    record { fits = (omega (arith, far), range.1); acts = one_act (Until actor line) number refl range.0 far; told = λ told is. omega (arith, is) }
+    let room = range.1 in
+    record { fits = (omega (arith, far), omega (arith, room)); acts = one_act (Until actor line) number refl range.0 far; told = λ told is. omega (arith, is) }
 goes_outside acts (Finish actor) number may range far few =
-    record { fits = (omega (arith, far), range.1); acts = one_act (Finish actor) number refl range.0 far; told = λ told is. omega (arith, is) }
+    let room = range.1 in
+    record { fits = (omega (arith, far), omega (arith, room)); acts = one_act (Finish actor) number refl range.0 far; told = λ told is. omega (arith, is) }
 goes_outside acts (Repeat times) number may range far few = record {
   fits = (omega (arith, far), few, refl, All-nil IsActOf);
   acts = All-nil IsActOf;
   told = λ told is. opened told acts times is;
 }
   where
-    opened : (told acts times : ℕ) → told ≤ acts → told + 0 + times * 0 ≤ acts
+    opened : (told acts times : ℕ) → told * 100 ≤ acts → (told + 0 + times * 0) * 100 ≤ acts
     opened told acts times is = omega (arith, is)
 goes_outside acts End number may range far few = record { fits = tt; acts = All-nil IsActOf; told = λ told is. omega (arith, is, few) }
 
 -- each act in a repeat counts so often
-has_room : (told acts times before after : ℕ) → after ≡ before + times → told + before ≤ acts → told + 0 + after ≤ acts + times
-has_room told acts times before after more allows = omega (arith, more, allows)
+has_room : (told acts times before after steps : ℕ) → after ≡ before + times → (told + before) * 100 ≤ acts → times * 100 ≤ steps → (told + 0 + after) * 100 ≤ acts + steps
+has_room told acts times before after steps more allows counts = omega (arith, more, allows, counts)
 
 -- an act in a repeat
-goes_in_repeat : (acts times : ℕ) (body : List Act) (act : Act) (told : ℕ) → told + times * length body ≤ acts → told + 0 + times * length (body ++ act ∷ []) ≤ acts + times
-goes_in_repeat acts times body act told allows =
+goes_in_repeat : (acts times : ℕ) (body : List Act) (act : Act) (told counts : ℕ) → 100 ≤ counts → (told + times * length body) * 100 ≤ acts
+    → (told + 0 + times * length (body ++ act ∷ [])) * 100 ≤ acts + times * counts
+goes_in_repeat acts times body act told counts least allows =
     let long = length-append body (act ∷ []) in
     let longer : length (body ++ act ∷ []) ≡ suc (length body) = omega (arith, long) in
-    has_room told acts times (times * length body) (times * length (body ++ act ∷ [])) (ap (λ (n : ℕ). times * n) longer ∙ mul-suc times (length body)) allows
+    has_room told acts times (times * length body) (times * length (body ++ act ∷ [])) (times * counts) (ap (λ (n : ℕ). times * n) longer ∙ mul-suc times (length body)) allows
+    (mul-le times 100 times counts (omega arith) least)
 
 -- all of it that an act in a repeat does
 in_repeat : (body : List Act) (said : Said) (number : ℕ) → is_act said ≡ true → IsActInRange said → 7 ≤ number → All IsActOf body → All IsActOf (body ++ record { line = number; said = said } ∷ [])
 in_repeat body said number is range far all = All-append IsActOf body (record { line = number; said = said } ∷ []) all (one_act said number is range far)
 
 -- a line in a repeat that says nothing
-plus_nothing : (told before acts : ℕ) → told + before ≤ acts → told + 0 + before ≤ acts
+plus_nothing : (told before acts : ℕ) → (told + before) * 100 ≤ acts → (told + 0 + before) * 100 ≤ acts
 plus_nothing told before acts allows = omega (arith, allows)
 
-goes_on : (told times acts : ℕ) (body : List Act) → told + times * length body ≤ acts → told + 0 + times * length (body ++ []) ≤ acts
+goes_on : (told times acts : ℕ) (body : List Act) → (told + times * length body) * 100 ≤ acts → (told + 0 + times * length (body ++ [])) * 100 ≤ acts
 goes_on told times acts body allows =
-    subst (λ (longer : List Act). told + 0 + times * length longer ≤ acts) (sym (append-nil body)) (plus_nothing told (times * length body) acts allows)
+    subst (λ (longer : List Act). (told + 0 + times * length longer) * 100 ≤ acts) (sym (append-nil body)) (plus_nothing told (times * length body) acts allows)
 
 -- a repeat's end
-goes_out : (told times acts : ℕ) (held : Open) → held.times ≡ times → told + times * length held.body ≤ acts → told + length (repeated held.times held.body) ≤ acts
+goes_out : (told times acts : ℕ) (held : Open) → held.times ≡ times → (told + times * length held.body) * 100 ≤ acts → (told + length (repeated held.times held.body)) * 100 ≤ acts
 goes_out told times acts held same allows =
     let long : length (repeated held.times held.body) ≡ times * length held.body = length-repeated held.times held.body ∙ ap (λ n. n * length held.body) same in
     rw long allows
 
-goes_inside : (acts times : ℕ) (said : Said) (number : ℕ) (held : Open) → MaySay (Repeated acts times) said → IsSaidInRange (Repeated acts times) said → 7 ≤ number → acts ≤ 1000000
+goes_inside : (acts times : ℕ) (said : Said) (number : ℕ) (held : Open) → MaySay (Repeated acts times) said → IsSaidInRange (Repeated acts times) said → 7 ≤ number → acts ≤ 100000000
     → held.times ≡ times → All IsActOf held.body → Goes (Repeated acts times) said number (Some held)
 goes_inside acts times Nothing number held may range far few same body = record {
   fits = (omega (arith, far), few, same, All-append IsActOf held.body [] body (All-nil IsActOf));
@@ -161,17 +180,17 @@ goes_inside acts times (Number field value) number held may range far few same b
 goes_inside acts times (Happens event) number held may range far few same body = record {
   fits = (omega (arith, far), range.1, same, in_repeat held.body (Happens event) number refl range.0 far body);
   acts = All-nil IsActOf;
-  told = λ told is. goes_in_repeat acts times held.body (record { line = number; said = Happens event }) told is;
+  told = λ told is. goes_in_repeat acts times held.body (record { line = number; said = Happens event }) told (weight (Happens event)) (steps_least event) is;
 }
 goes_inside acts times (Until actor line) number held may range far few same body = record {
   fits = (omega (arith, far), range.1, same, in_repeat held.body (Until actor line) number refl range.0 far body);
   acts = All-nil IsActOf;
-  told = λ told is. goes_in_repeat acts times held.body (record { line = number; said = Until actor line }) told is;
+  told = λ told is. goes_in_repeat acts times held.body (record { line = number; said = Until actor line }) told (weight (Until actor line)) (omega arith) is;
 }
 goes_inside acts times (Finish actor) number held may range far few same body = record {
   fits = (omega (arith, far), range.1, same, in_repeat held.body (Finish actor) number refl range.0 far body);
   acts = All-nil IsActOf;
-  told = λ told is. goes_in_repeat acts times held.body (record { line = number; said = Finish actor }) told is;
+  told = λ told is. goes_in_repeat acts times held.body (record { line = number; said = Finish actor }) told (weight (Finish actor)) (omega arith) is;
 }
 goes_inside acts times (Repeat again) number held may range far few same body = absurd may
 goes_inside acts times End number held may range far few same body = record {

@@ -10,3 +10,6 @@ pub mod Marks
 pub mod SoFar
 pub mod Unrolled
 pub mod OneRecipe
+pub mod Expanded
+pub mod Standing
+pub mod AnsweredRecipes

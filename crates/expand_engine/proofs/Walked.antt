@@ -147,7 +147,7 @@ IsWalking-more w u v me count walking made counted busy = record {
   steps = let steps = walking.steps in omega (arith, steps, counted);
 }
 
-pub EndsCall-here : (w u v : World) (me count : ℕ) → IsWalking w me count u → count < 1000000 → next u (Step me) ≡ Some v → IsIdle v me → EndsCall w me (count + 1) v
+pub EndsCall-here : (w u v : World) (me count : ℕ) → IsWalking w me count u → count < 64 → next u (Step me) ≡ Some v → IsIdle v me → EndsCall w me (count + 1) v
 EndsCall-here w u v me count walking few made idle = record {
   busy = walking.start;
   few = omega (arith, few);
@@ -157,7 +157,7 @@ EndsCall-here w u v me count walking few made idle = record {
 }
 
 -- an actor has come to its line
-pub ComesTo-now : (w u : World) (me : ℕ) (line at : Line) (count : ℕ) → IsOnWay w me line count u at → at ≡ line → count ≤ 1000000 → ComesTo w me line count u
+pub ComesTo-now : (w u : World) (me : ℕ) (line at : Line) (count : ℕ) → IsOnWay w me line count u at → at ≡ line → count ≤ 64 → ComesTo w me line count u
 ComesTo-now w u me line at count way same few = record {
   few = few;
   walked = way.walked;
@@ -171,7 +171,7 @@ idle_nowhere None line idle is = idle
 idle_nowhere (Some a) line idle is = let same : None ≡ Some line = sym idle ∙ is in absurd cc
 
 -- an actor whose call ended on its way
-pub nowhere_idle : (w u v : World) (me : ℕ) (line at : Line) (count : ℕ) → IsBusy w me → IsOnWay w me line count u at → at ≢ line → count < 1000000 → next u (Step me) ≡ Some v → IsIdle v me
+pub nowhere_idle : (w u v : World) (me : ℕ) (line at : Line) (count : ℕ) → IsBusy w me → IsOnWay w me line count u at → at ≢ line → count < 64 → next u (Step me) ≡ Some v → IsIdle v me
     → ComesNowhere w me line
 nowhere_idle w u v me line at count busy way other few made idle =
     let walked = Walks-more w u v me count way.walked made in
@@ -203,11 +203,11 @@ pub idle_at : (w : World) (me : ℕ) (line : Option Line) → IsStanding w me li
 idle_at w me line standing is = idle_of (actor_of w me) standing.0 (sym is ∙ standing.1)
 
 -- an actor that has its call still
-pub stays : (w u : World) (me count : ℕ) → IsWalking w me count u → count ≡ 1000000 → StaysInCall w me
-stays w u me count walking all = record { count = count; all = all; world = u; walked = walking.walked; busy = walking.busy }
+pub stays : (w u : World) (me count : ℕ) → IsWalking w me count u → count ≡ 64 → StaysInCall w me
+stays w u me count walking all = record { count = count; all = all; world = u; walked = walking.walked; start = walking.start; busy = walking.busy }
 
 -- an actor that took all its steps
-pub nowhere_all : (w u : World) (me : ℕ) (line at : Line) (count : ℕ) → IsBusy w me → IsOnWay w me line count u at → at ≢ line → count ≡ 1000000 → ComesNowhere w me line
+pub nowhere_all : (w u : World) (me : ℕ) (line at : Line) (count : ℕ) → IsBusy w me → IsOnWay w me line count u at → at ≢ line → count ≡ 64 → ComesNowhere w me line
 nowhere_all w u me line at count busy way other all = record {
   busy = busy;
   count = count;

@@ -1,11 +1,12 @@
 -- The grammar of recipes: what a line says before its comment, and which lines are due.
-use Rattle.std.specs.Prelude.{◌≡◌, ℕ, ◌+◌, ◌-◌, ◌^◌, ◌<◌, ◌≤◌, ◌==◌, Bool, true, false, if◌then◌else◌, List, [], ◌∷◌, ◌++◌, map, Option, Some, None, option_map, codes, length, slice_get, take}
+use Rattle.std.specs.Prelude.{◌≡◌, ℕ, ◌+◌, ◌-◌, ◌*◌, ◌^◌, ◌<◌, ◌≤◌, ◌==◌, Bool, true, false, if◌then◌else◌, List, [], ◌∷◌, ◌++◌, map, Option, Some, None, option_map, codes, length, nat_le, slice_get, take}
 use Rattle.counted_ref.specs.Ref.{IsSplit}
 use Rattle.line_table.specs.Names.{name_of}
 use Rattle.line_table.specs.declared.lines.Kind.TheVariants.{TwoLock}
 use Rattle.schedule_text.specs.declared.fields.Field.{Field}
 use Rattle.schedule_text.specs.declared.fields.Field.TheVariants.{Bits, Nodes, Limit, Actors, Events}
 use Rattle.schedule_text.specs.declared.schedules.Event.{Event}
+use Rattle.schedule_text.specs.declared.schedules.Event.TheVariants.{Steps}
 use Rattle.schedule_text.specs.Texts.{event_words, field_name, greatest, kind_name, least, IsActor, IsEventInRange}
 use Rattle.history.specs.declared.refusals.Refusal.{Refusal}
 use Rattle.history.specs.declared.refusals.Refusal.TheVariants.{Memory, Text}
@@ -84,11 +85,11 @@ MaySay QueueDue (Queue kind) = Unit {0}
 MaySay QueueDue Nothing = Unit {0}
 MaySay (NumberDue bits due) (Number field value) = due ≡ field
 MaySay (NumberDue bits due) Nothing = Unit {0}
-MaySay (ActDue acts) Nothing = Unit {0}
-MaySay (ActDue acts) said = IsActSaid said
-MaySay (Repeated acts times) Nothing = Unit {0}
-MaySay (Repeated acts times) (Repeat again) = ⊥
-MaySay (Repeated acts times) said = IsActSaid said
+MaySay (ActDue steps) Nothing = Unit {0}
+MaySay (ActDue steps) said = IsActSaid said
+MaySay (Repeated steps times) Nothing = Unit {0}
+MaySay (Repeated steps times) (Repeat again) = ⊥
+MaySay (Repeated steps times) said = IsActSaid said
 MaySay _ _ = ⊥
 
 -- each number of an act or a repeat is in its range
@@ -99,20 +100,25 @@ IsActInRange (Finish actor) = IsActor actor
 IsActInRange (Repeat times) = IsWithin 1 1000000 times
 IsActInRange _ = Unit {0}
 
--- there is room for so many acts, where this is one
-abbrev pub HasRoomIf : Bool → (acts : ℕ) → Type 0
-HasRoomIf true acts = acts ≤ 1000000
-HasRoomIf false acts = Unit {0}
+-- how many steps an act counts as: those of an event that tells them, and 100 at least
+abbrev pub weight : Said → ℕ
+weight (Happens (Steps me count)) = if nat_le count 100 then 100 else count
+weight _ = 100
 
--- there is room for what is said, where there are so many acts so far and each counts so often
-abbrev pub HasRoom : (acts times : ℕ) → Said → Type 0
-HasRoom acts times said = HasRoomIf (is_act said) (acts + times)
+-- there is room for so many steps, where this is an act
+abbrev pub HasRoomIf : Bool → (steps : ℕ) → Type 0
+HasRoomIf true steps = steps ≤ 100000000
+HasRoomIf false steps = Unit {0}
+
+-- there is room for what is said, where the acts so far count as so many steps and each is done so often
+abbrev pub HasRoom : (steps times : ℕ) → Said → Type 0
+HasRoom steps times said = HasRoomIf (is_act said) (steps + times * weight said)
 
 -- each number of what a line says is in its range, and there is room for it
 abbrev pub IsSaidInRange : Due → Said → Type 0
 IsSaidInRange (NumberDue bits due) (Number field value) = IsWithin (least field) (greatest bits field) value
-IsSaidInRange (ActDue acts) said = IsActInRange said × HasRoom acts 1 said
-IsSaidInRange (Repeated acts times) said = IsActInRange said × HasRoom acts times said
+IsSaidInRange (ActDue steps) said = IsActInRange said × HasRoom steps 1 said
+IsSaidInRange (Repeated steps times) said = IsActInRange said × HasRoom steps times said
 IsSaidInRange _ _ = Unit {0}
 
 -- whether a line says nothing
@@ -134,23 +140,23 @@ due_after_number bits Actors said = ActDue 0
 due_after_number bits Events said = ActDue 0
 
 -- what is due after an act, a repeat or the end
-abbrev pub due_outside : (acts : ℕ) → Said → Due
-due_outside acts (Repeat times) = Repeated acts times
-due_outside acts End = NothingDue
-due_outside acts _ = ActDue (acts + 1)
+abbrev pub due_outside : (steps : ℕ) → Said → Due
+due_outside steps (Repeat times) = Repeated steps times
+due_outside steps End = NothingDue
+due_outside steps said = ActDue (steps + weight said)
 
 -- what is due after an act in a repeat, or its end
-abbrev pub due_inside : (acts times : ℕ) → Said → Due
-due_inside acts times End = ActDue acts
-due_inside acts times _ = Repeated (acts + times) times
+abbrev pub due_inside : (steps times : ℕ) → Said → Due
+due_inside steps times End = ActDue steps
+due_inside steps times said = Repeated (steps + times * weight said) times
 
 -- what is due after a line that says something
 abbrev pub due_said : Due → Said → Due
 due_said VersionDue said = QueueDue
 due_said QueueDue said = NumberDue 24 Bits
 due_said (NumberDue bits field) said = due_after_number bits field said
-due_said (ActDue acts) said = due_outside acts said
-due_said (Repeated acts times) said = due_inside acts times said
+due_said (ActDue steps) said = due_outside steps said
+due_said (Repeated steps times) said = due_inside steps times said
 due_said NothingDue said = NothingDue
 
 -- what is due after a line: the same, where it says nothing
@@ -160,8 +166,8 @@ due_after due said = if says_nothing said then due else due_said due said
 -- the numbers that go with what is due are in their ranges
 abbrev pub IsDueInRange : Due → Type 0
 IsDueInRange (NumberDue bits field) = IsSplit bits
-IsDueInRange (ActDue acts) = acts ≤ 1000000
-IsDueInRange (Repeated acts times) = (acts ≤ 1000000) × (times ≤ 1000000)
+IsDueInRange (ActDue steps) = steps ≤ 100000000
+IsDueInRange (Repeated steps times) = (steps ≤ 100000000) × (times ≤ 1000000)
 IsDueInRange _ = Unit {0}
 
 -- this act, repeat or end begins with this word, and has these behind it

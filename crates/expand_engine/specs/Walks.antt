@@ -31,30 +31,30 @@ StandsBefore w me line = line_of (actor_of w me) ≡ Some line
 abbrev pub StandsElsewhere : World → (me count : ℕ) → Line → Type 0
 StandsElsewhere w me count line = (fewer : ℕ) (u : World) → fewer < count → Walks w me fewer u → ¬ StandsBefore u me line
 
--- an actor takes the least number of steps after which it stands before a line, at most 1,000,000
+-- an actor takes the least number of steps after which it stands before a line, at most 64
 pub record ComesTo (w : World) (me : ℕ) (line : Line) (count : ℕ) (v : World) : Type 0 where
-  pub few : count ≤ 1000000
+  pub few : count ≤ 64
   pub walked : Walks w me count v
   pub stands : StandsBefore v me line
   pub least : StandsElsewhere w me count line
 
--- an actor takes the least number of steps after which it has no call, at most 1,000,000
+-- an actor takes the least number of steps after which it has no call, at most 64
 pub record EndsCall (w : World) (me count : ℕ) (v : World) : Type 0 where
   pub busy : IsBusy w me
-  pub few : count ≤ 1000000
+  pub few : count ≤ 64
   pub walked : Walks w me count v
   pub ended : IsIdle v me
   pub least : (fewer : ℕ) (u : World) → fewer < count → Walks w me fewer u → IsBusy u me
 
--- an actor with a call doesn't come to a line: its call ends first, or 1,000,000 steps don't lead there
+-- an actor with a call doesn't come to a line: its call ends first, or 64 steps don't lead there
 pub record ComesNowhere (w : World) (me : ℕ) (line : Line) : Type 0 where
   pub busy : IsBusy w me
   pub count : ℕ
-  pub few : count ≤ 1000000
+  pub few : count ≤ 64
   pub world : World
   pub walked : Walks w me count world
   pub elsewhere : StandsElsewhere w me (count + 1) line
-  pub over : IsIdle world me ⊎ (count ≡ 1000000)
+  pub over : IsIdle world me ⊎ (count ≡ 64)
 
 -- steps up to a line are refused for this cause: the actor isn't there, has no call, or doesn't come to the line
 abbrev pub UntilRefused : World → (me : ℕ) → Line → Refusal → Type 0
@@ -63,15 +63,16 @@ UntilRefused w me line IdleActor = IsIdle w me
 UntilRefused w me line NotHere = ComesNowhere w me line
 UntilRefused w me line _ = ⊥
 
--- an actor has its call still after 1,000,000 steps
+-- an actor has its call still after 64 steps
 pub record StaysInCall (w : World) (me : ℕ) : Type 0 where
   pub count : ℕ
-  pub all : count ≡ 1000000
+  pub all : count ≡ 64
   pub world : World
   pub walked : Walks w me count world
+  pub start : IsBusy w me
   pub busy : IsBusy world me
 
--- steps up to a call's end are refused for this cause: the actor isn't there, has no call, or has it after 1,000,000 steps
+-- steps up to a call's end are refused for this cause: the actor isn't there, has no call, or has it after 64 steps
 abbrev pub FinishRefused : World → (me : ℕ) → Refusal → Type 0
 FinishRefused w me NoSuchActor = actor_of w me ≡ None
 FinishRefused w me IdleActor = IsIdle w me

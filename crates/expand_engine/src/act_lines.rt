@@ -9,7 +9,7 @@ ghost use Rattle.text_io.specs.LineReadings.{Reads, ReadsBack, ReadsLine, ReadsW
 ghost use Rattle.text_io.specs.WordsLeft.{number_words};
 ghost use Rattle.expand_engine.specs.Recipes.{IsActInRange, IsActSaid, SpellsAct, SpellsEvent, said_words};
 
-use crate::recipes::{MOST_ACTS, Said};
+use crate::recipes::{MOST_TIMES, Said};
 use history::{MOST_ACTOR, Op};
 use line_table::Line;
 use schedule_text::{Event, Version, event_in};
@@ -125,7 +125,7 @@ fn repeat_in(words: Words) -> Result<Option<Said>, TextCause>
     ensures { Reads (SpellsAct (codes "repeat") words.entry) IsActInRange result }
 {
     let mut words = words;
-    let times = words.number(1, MOST_ACTS)?;
+    let times = words.number(1, MOST_TIMES)?;
     words.expect_end()?;
     Ok(repeat_of(times))
 }

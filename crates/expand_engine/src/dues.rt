@@ -1,6 +1,6 @@
 //! What is due after a line, and the sizes so far.
-ghost use Rattle.std.specs.Prelude.{◌≡◌, ◌≤◌};
-ghost use Rattle.expand_engine.specs.Recipes.{HasWords, IsDueInRange, bits_in, due_after, due_after_number, due_inside, due_outside, sizes_after};
+ghost use Rattle.std.specs.Prelude.{◌≡◌, ◌+◌, ◌*◌, ◌≤◌};
+ghost use Rattle.expand_engine.specs.Recipes.{HasWords, IsDueInRange, bits_in, due_after, due_after_number, due_inside, due_outside, sizes_after, weight};
 
 use crate::recipes::{Due, Said, Sizes};
 use schedule_text::Field;
@@ -18,8 +18,8 @@ pub fn due_after(due: Due, said: &Said) -> Due
         Due::Version => Due::Queue,
         Due::Queue => Due::Number(24, Field::Bits),
         Due::Number(bits, field) => after_number(bits, field, said),
-        Due::Act(acts) => after_act(acts, said),
-        Due::Repeated(acts, times) => after_repeated(acts, times, said),
+        Due::Act(steps) => after_act(steps, said),
+        Due::Repeated(steps, times) => after_repeated(steps, times, said),
         Due::Nothing => Due::Nothing,
     }
 }
@@ -46,25 +46,34 @@ fn bits_after(bits: u32, said: &Said) -> u32
     }
 }
 
-fn after_act(acts: u64, said: &Said) -> Due
-    requires { acts ≤ 1000000 }
-    ensures { result ≡ due_outside acts said.now }
+/// As how many steps the acts count behind this one, which is done so often.
+pub(crate) fn spent(steps: u64, times: u64, said: &Said) -> u64
+    requires few { steps ≤ 100000000 }
+    requires times { times ≤ 1000000 }
+    ensures { result ≡ steps + times * weight said.now }
+{
+    steps + times * said.weight()
+}
+
+fn after_act(steps: u64, said: &Said) -> Due
+    requires { steps ≤ 100000000 }
+    ensures { result ≡ due_outside steps said.now }
 {
     match said {
-        Said::Repeat(times) => Due::Repeated(acts, *times),
+        Said::Repeat(times) => Due::Repeated(steps, *times),
         Said::End => Due::Nothing,
-        _ => Due::Act(acts + 1),
+        _ => Due::Act(spent(steps, 1, said)),
     }
 }
 
-fn after_repeated(acts: u64, times: u64, said: &Said) -> Due
-    requires few { acts ≤ 1000000 }
+fn after_repeated(steps: u64, times: u64, said: &Said) -> Due
+    requires few { steps ≤ 100000000 }
     requires times { times ≤ 1000000 }
-    ensures { result ≡ due_inside acts times said.now }
+    ensures { result ≡ due_inside steps times said.now }
 {
     match said {
-        Said::End => Due::Act(acts),
-        _ => Due::Repeated(acts + times, times),
+        Said::End => Due::Act(steps),
+        _ => Due::Repeated(spent(steps, times, said), times),
     }
 }
 

@@ -2,10 +2,10 @@
 ghost use Rattle.std.specs.Prelude.{◌≡◌, ◌≢◌, IfErr, IfOk, IfSome, OnOk};
 ghost use Rattle.run_engine.specs.Runs.{EndsReading, IsRunFault};
 ghost use Rattle.text_io.specs.Blocks.{GivesUp};
-ghost use Rattle.text_io.specs.Readings.{ReachesEnd};
-ghost use Rattle.expand_engine.specs.Expansions.{BeginsExpansion, ExpansionRefused, IsExpansionOf, StopsExpansion, TellsFaultyLine, WritesExpansion};
+ghost use Rattle.text_io.specs.Readings.{EndsReadingFor, ReachesEnd};
+ghost use Rattle.expand_engine.specs.Expansions.{BeginsExpansion, ExpansionRefused, IsExpansionOf, IsReadAs, IsReadingRefusal, StopsExpansion, TellsFaultyLine, WritesExpansion};
 
-use crate::expansions::schedule_of;
+use crate::expansions::{Expansion, expansion_of};
 use crate::readers::Recipes;
 use engine_faults::Fault;
 use history::Refusal;
@@ -13,19 +13,47 @@ use schedule_text::{Schedule, print};
 use std::alloc::Global;
 use text_io::{Sink, Source, parse_source};
 
+/// What the recipe stands for whose text a source gives.
+///
+/// It is refused with `Memory`, as soon as a growth is refused; `Read`, where a call of the source fails; `Text`, where the
+/// bytes are no recipe. That an act is refused is no refusal of this. It takes memory; whether it waits is up to the source.
+pub fn read_recipe<R: Source>(alloc: Global, reader: &mut R) -> Result<Expansion, Refusal>
+    //= recipes/read (ok, text, kind, reader): A recipe that is read stands for the events of its acts in turn from the opening
+    //=   world, those of a repeat as often as it says, up to the first act that is refused; in place of that stands an
+    //=   event that is refused there for the same cause. A text that is no recipe is refused with its first faulty line
+    //=   and what is wrong with it, unless memory or reading is refused.
+    ensures ok { IfOk result (IsReadAs (R.state reader.old).left) }
+    ensures text { IfErr result (TellsFaultyLine (R.state reader.old).left) }
+    ensures kind { IfErr result IsReadingRefusal }
+    ensures reader { EndsReadingFor result (R.state reader.old) (R.state reader.new) }
+{
+    let recipe = parse_source::<Recipes, R>(alloc, reader)?;
+    expansion_of(alloc, &recipe)
+}
+
 // The schedule that the recipe stands for whose text a source gives.
-fn expansion_of_text<R: Source>(alloc: Global, reader: &mut R) -> Result<Schedule, Fault>
+fn schedule_of_text<R: Source>(alloc: Global, reader: &mut R) -> Result<Schedule, Fault>
     ensures ok { IfOk result (IsExpansionOf (R.state reader.old).left) }
     ensures end { OnOk result (ReachesEnd (R.state reader.old) (R.state reader.new)) }
     ensures err { IfErr result (λ fault. StopsExpansion (R.state reader.old) (R.state reader.new)
         fault.refusal fault.line) }
 {
-    let recipe = parse_source::<Recipes, R>(alloc, reader)?;
-    schedule_of(alloc, &recipe)
+    let expansion = read_recipe(alloc, reader)?;
+    match expansion.refuse() {
+        Ok(()) => {
+            let Expansion {
+                schedule,
+                extent: _,
+                stop: _,
+            } = expansion;
+            Ok(schedule)
+        }
+        Err(fault) => Err(fault),
+    }
 }
 
 // The same, by what is told of it.
-fn expansion_of<R: Source>(alloc: Global, reader: &mut R) -> Result<Schedule, Fault>
+fn schedule_of<R: Source>(alloc: Global, reader: &mut R) -> Result<Schedule, Fault>
     ensures ok { IfOk result (IsExpansionOf (R.state reader.old).left) }
     ensures text { IfErr result (λ fault. TellsFaultyLine (R.state reader.old).left fault.refusal) }
     ensures fault { IfErr result (λ fault. IsRunFault fault.refusal fault.line) }
@@ -34,7 +62,7 @@ fn expansion_of<R: Source>(alloc: Global, reader: &mut R) -> Result<Schedule, Fa
     ensures unwritten { IfErr result (λ fault. fault.refusal ≢ Refusal.Write) }
     ensures reader { EndsReading result (R.state reader.old) (R.state reader.new) }
 {
-    let schedule = expansion_of_text(alloc, reader)?;
+    let schedule = schedule_of_text(alloc, reader)?;
     Ok(schedule)
 }
 
@@ -52,7 +80,7 @@ pub fn expand_text<R: Source, W: Sink>(
     //= program/expand (ok, quiet): At Ok `expand_text` has written the text of the schedule that the recipe read stands for,
     //=   in range, of version 1 where that suffices: its sizes, and the events of its acts in turn from the opening
     //=   world, those of a repeat as often as it says. An event stands for itself, `until` and `finish` for the least
-    //=   number of steps after which the actor stands before the line, or has no call, at most 1,000,000.
+    //=   number of steps after which the actor stands before the line, or has no call, at most 64.
     //= program/expand_refusals (ok, prefix, write, unwritten, fault, text, refused, reader): If `expand_text` is
     //=   refused `Write`, a prefix of that text was written, and a write failed or took nothing; at any other refusal
     //=   nothing was. A text that is no recipe is refused with its first faulty line and what is wrong with it,
@@ -72,7 +100,7 @@ pub fn expand_text<R: Source, W: Sink>(
         ExpansionRefused (R.state reader.old).left line fault.refusal)) }
     ensures reader { EndsReading result (R.state reader.old) (R.state reader.new) }
 {
-    let schedule = expansion_of(alloc, reader)?;
+    let schedule = schedule_of(alloc, reader)?;
     print(&schedule, writer)?;
     Ok(())
 }

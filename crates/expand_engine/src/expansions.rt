@@ -1,25 +1,27 @@
-//! The schedule that a recipe stands for.
-ghost use Rattle.std.specs.Prelude.{◌≡◌, ◌≤◌, true, false, All, IfOk, IfErr, length};
-ghost use Rattle.counted_ref.specs.Ref.{IsSplit};
-ghost use Rattle.engine_faults.specs.Faults.{IsEventFault};
-ghost use Rattle.expand_engine.specs.Recipes.{IsRecipe};
-ghost use Rattle.schedule_text.specs.Texts.{IsInRange, IsTold};
+//! What a recipe stands for.
+ghost use Rattle.std.specs.Prelude.{◌≡◌, ◌≤◌, true, false, All, IfOk, IfErr, IfSome, length, option_map};
+ghost use Rattle.expand_engine.specs.Recipes.{IsRecipe, is_act};
+ghost use Rattle.expand_engine.specs.declared.acts.Stop.{Stop};
+ghost use Rattle.schedule_text.specs.Texts.{IsTold};
 ghost use Rattle.schedule_text.specs.declared.schedules.Version.TheVariants.{One};
-ghost use Rattle.expand_engine.specs.Expansions.{AreSizesInRange, EventsOf, IsActOf, IsExpanded, IsVersionOf, RefusesAt, RefusesRecipeAt, opening_with};
+ghost use Rattle.expand_engine.specs.Expansions.{AreSizesInRange, EndsAs, IsActOf, IsDone, IsVersionOf, StandsFor, opening_with, with_refused};
 
-use crate::acts::act_all;
+use crate::acts::{Done, Stop, act_all, push_event, refuse_stop, refused_event};
 use crate::recipes::{Act, Recipe, Sizes};
 use crate::unrolled_acts::acts_of;
 use engine_faults::Fault;
 use history::{Op, Refusal};
 use line_table::Section;
-use run_engine::by_bits;
+use run_engine::{RunExtent, by_bits};
 use schedule_text::{Event, Schedule, Version};
 use std::alloc::Global;
 use step_machine::WorldOf;
 
 /// The world of these sizes in which nothing happened yet.
-fn opening_world<const B: u32>(alloc: Global, sizes: &Sizes) -> Result<WorldOf<B>, Refusal>
+pub(crate) fn opening_world<const B: u32>(
+    alloc: Global,
+    sizes: &Sizes,
+) -> Result<WorldOf<B>, Refusal>
     requires range { AreSizesInRange sizes.now }
     requires bits { sizes.now.bits ≡ B }
     ensures ok { IfOk result (λ w. w ≡ opening_with sizes.now) }
@@ -29,35 +31,29 @@ fn opening_world<const B: u32>(alloc: Global, sizes: &Sizes) -> Result<WorldOf<B
     WorldOf::new(alloc, sizes.kind, sizes.nodes, sizes.limit, actors)
 }
 
-/// The events that acts stand for, done on a world of `B` bits.
-fn expand_with_bits<const B: u32>(
-    alloc: Global,
-    sizes: &Sizes,
-    acts: &[Act],
-) -> Result<Vec<Event>, Fault>
+/// Acts, done on a world of `B` bits as far as they can be.
+fn do_with_bits<const B: u32>(alloc: Global, sizes: &Sizes, acts: &[Act]) -> Result<Done, Refusal>
     requires range { AreSizesInRange sizes.now }
     requires bits { sizes.now.bits ≡ B }
     requires acts { All IsActOf acts.now }
     requires few { length acts.now ≤ 1000000 }
-    ensures ok { IfOk result (λ events. EventsOf sizes.now acts.now events.items) }
-    ensures fault { IfErr result (λ fault. IsEventFault fault.refusal fault.line) }
-    ensures refused { IfErr result (λ fault. RefusesAt sizes.now acts.now fault.line fault.refusal) }
+    ensures ok { IfOk result (IsDone (opening_with sizes.now) acts.now) }
+    ensures err { IfErr result (λ refusal. refusal ≡ Refusal.Memory) }
 {
     let mut world = opening_world::<B>(alloc, sizes)?;
     act_all(alloc, &mut world, acts)
 }
 
 /// The same on a world of as many bits as the sizes say.
-fn expand_acts(alloc: Global, sizes: &Sizes, acts: &[Act]) -> Result<Vec<Event>, Fault>
+fn do_acts(alloc: Global, sizes: &Sizes, acts: &[Act]) -> Result<Done, Refusal>
     requires range { AreSizesInRange sizes.now }
     requires acts { All IsActOf acts.now }
     requires few { length acts.now ≤ 1000000 }
-    ensures ok { IfOk result (λ events. EventsOf sizes.now acts.now events.items) }
-    ensures fault { IfErr result (λ fault. IsEventFault fault.refusal fault.line) }
-    ensures refused { IfErr result (λ fault. RefusesAt sizes.now acts.now fault.line fault.refusal) }
+    ensures ok { IfOk result (IsDone (opening_with sizes.now) acts.now) }
+    ensures err { IfErr result (λ refusal. refusal ≡ Refusal.Memory) }
 {
     let bits = sizes.bits;
-    by_bits!(bits, expand_with_bits(alloc, sizes, acts))
+    by_bits!(bits, do_with_bits(alloc, sizes, acts))
 }
 
 /// Whether an event can be told in version 1.
@@ -90,19 +86,71 @@ fn version_of(bits: u32, events: &[Event]) -> Version
     Version::One
 }
 
-/// The schedule that a recipe stands for.
-pub(crate) fn schedule_of(alloc: Global, recipe: &Recipe) -> Result<Schedule, Fault>
+/// Events, and behind them one that is refused as the act is at which acts stop, if they do.
+fn with_refused(events: Vec<Event>, stop: Option<Stop>) -> Result<Vec<Event>, Refusal>
+    requires { IfSome stop (λ stop. is_act stop.act.said ≡ true) }
+    ensures ok { IfOk result (λ all. all.items ≡ with_refused events.items stop) }
+    ensures err { IfErr result (λ refusal. refusal ≡ Refusal.Memory) }
+{
+    let mut events = events;
+    if let Some(stop) = stop {
+        push_event(&mut events, refused_event(stop.act.said, stop.refusal))?;
+    }
+    Ok(events)
+}
+
+/// What acts are refused, if they stop at one.
+fn refusal_of(stop: &Option<Stop>) -> Option<Refusal>
+    ensures { result ≡ option_map (λ (stop : Stop). stop.refusal) stop.now }
+{
+    match stop {
+        Some(stop) => Some(stop.refusal),
+        None => None,
+    }
+}
+
+/// What a recipe stands for: the schedule of its acts, as far as these can be done, and how far its events can be made.
+///
+/// Where an act is refused, the schedule's last event is one that is refused there for the same cause.
+#[derive(Drop)]
+pub struct Expansion {
+    pub schedule: Schedule,
+    pub extent: RunExtent,
+    /// The act that is refused.
+    pub stop: Option<Stop>,
+}
+
+impl Expansion {
+    /// Refuses a recipe as the first of its acts is that is refused, with the line of that; where none is, it is Ok. Takes no
+    /// memory and doesn't wait.
+    pub fn refuse(&self) -> Result<(), Fault>
+        ensures { EndsAs self.now.stop result }
+    {
+        refuse_stop(self.stop)
+    }
+}
+
+/// What a recipe stands for.
+pub fn expansion_of(alloc: Global, recipe: &Recipe) -> Result<Expansion, Refusal>
     requires { IsRecipe recipe.now.text.items recipe.now.sizes recipe.now.lines.items }
-    ensures ok { IfOk result (IsExpanded recipe.now.sizes recipe.now.lines.items) }
-    ensures range { IfOk result IsInRange }
-    ensures fault { IfErr result (λ fault. IsEventFault fault.refusal fault.line) }
-    ensures refused { IfErr result (λ fault. RefusesRecipeAt recipe.now.sizes recipe.now.lines.items
-        fault.line fault.refusal) }
+    ensures ok { IfOk result (StandsFor recipe.now.sizes recipe.now.lines.items) }
+    ensures err { IfErr result (λ refusal. refusal ≡ Refusal.Memory) }
 {
     let sizes = recipe.sizes;
     let acts = acts_of(alloc, &recipe.lines)?;
-    let events = expand_acts(alloc, &sizes, &acts)?;
-    Ok(Schedule {
+    let done = do_acts(alloc, &sizes, &acts)?;
+    let Done {
+        events,
+        steps,
+        stop,
+    } = done;
+    let extent = RunExtent {
+        made: events.len(),
+        steps,
+        refusal: refusal_of(&stop),
+    };
+    let events = with_refused(events, stop)?;
+    let schedule = Schedule {
         version: version_of(sizes.bits, &events),
         kind: sizes.kind,
         bits: sizes.bits,
@@ -110,5 +158,10 @@ pub(crate) fn schedule_of(alloc: Global, recipe: &Recipe) -> Result<Schedule, Fa
         limit: sizes.limit,
         actors: sizes.actors,
         events,
+    };
+    Ok(Expansion {
+        schedule,
+        extent,
+        stop,
     })
 }

@@ -6,7 +6,8 @@ ghost use Rattle.text_io.specs.LineReadings.{ReadsLine};
 ghost use Rattle.expand_engine.specs.Recipes.{HasRoom, IsActInRange, IsActSaid, IsDueInRange, IsSaidInRange, SaysWhere, said_words};
 
 use crate::act_lines::{act_in, opens_repeat};
-use crate::recipes::{Due, MOST_ACTS, Said};
+use crate::dues::spent;
+use crate::recipes::{Due, MOST_STEPS, Said};
 use history::Op;
 use schedule_text::{Event, Field, kind_in, number_of};
 use text_io::TextCause;
@@ -23,8 +24,8 @@ pub fn said_in(due: Due, line: &[u8]) -> Result<Said, TextCause>
         Due::Version => version_in(line),
         Due::Queue => queue_in(line),
         Due::Number(bits, field) => field_in(bits, field, line),
-        Due::Act(acts) => act_outside(acts, line),
-        Due::Repeated(acts, times) => act_inside(acts, times, line),
+        Due::Act(steps) => act_outside(steps, line),
+        Due::Repeated(steps, times) => act_inside(steps, times, line),
         Due::Nothing => Err(TextCause::Form),
     }
 }
@@ -72,45 +73,45 @@ fn field_in(bits: u32, field: Field, line: &[u8]) -> Result<Said, TextCause>
 }
 
 // What is said where no repeat is open.
-fn act_outside(acts: u64, line: &[u8]) -> Result<Said, TextCause>
-    requires few { acts ≤ 1000000 }
+fn act_outside(steps: u64, line: &[u8]) -> Result<Said, TextCause>
+    requires few { steps ≤ 100000000 }
     requires some { line.now ≢ [] }
-    ensures { ReadsLine (SaysWhere (Due.Act acts) line.now) (IsSaidInRange (Due.Act acts)) result }
+    ensures { ReadsLine (SaysWhere (Due.Act steps) line.now) (IsSaidInRange (Due.Act steps)) result }
 {
     match act_in(line) {
-        Ok(said) => with_room(acts, 1, said),
+        Ok(said) => with_room(steps, 1, said),
         Err(cause) => Err(cause),
     }
 }
 
 // What is said in a repeat.
-fn act_inside(acts: u64, times: u64, line: &[u8]) -> Result<Said, TextCause>
-    requires few { acts ≤ 1000000 }
+fn act_inside(steps: u64, times: u64, line: &[u8]) -> Result<Said, TextCause>
+    requires few { steps ≤ 100000000 }
     requires times { times ≤ 1000000 }
     requires some { line.now ≢ [] }
-    ensures { ReadsLine (SaysWhere (Due.Repeated acts times) line.now)
-        (IsSaidInRange (Due.Repeated acts times)) result }
+    ensures { ReadsLine (SaysWhere (Due.Repeated steps times) line.now)
+        (IsSaidInRange (Due.Repeated steps times)) result }
 {
     if opens_repeat(line) {
         return Err(TextCause::Form);
     }
     match act_in(line) {
-        Ok(said) => with_room(acts, times, said),
+        Ok(said) => with_room(steps, times, said),
         Err(cause) => Err(cause),
     }
 }
 
 // What is said, where there is room for it.
-fn with_room(acts: u64, times: u64, said: Said) -> Result<Said, TextCause>
-    requires few { acts ≤ 1000000 }
+fn with_room(steps: u64, times: u64, said: Said) -> Result<Said, TextCause>
+    requires few { steps ≤ 100000000 }
     requires times { times ≤ 1000000 }
-    ensures { MatchResult result (λ kept. (kept ≡ said) × HasRoom acts times said)
-        (λ cause. (cause ≡ TextCause.Range) × ¬ HasRoom acts times said) }
+    ensures { MatchResult result (λ kept. (kept ≡ said) × HasRoom steps times said)
+        (λ cause. (cause ≡ TextCause.Range) × ¬ HasRoom steps times said) }
 {
     // The check of the match stops unless the types of its parts are named here.
     let _: Option<Op> = None;
     let _: Option<Event> = None;
-    if said.is_act() && acts + times > MOST_ACTS {
+    if said.is_act() && spent(steps, times, &said) > MOST_STEPS {
         return Err(TextCause::Range);
     }
     Ok(said)

@@ -3,8 +3,14 @@ use history::Op;
 use line_table::{Kind, Line};
 use schedule_text::{Event, Field};
 
-/// How many acts a recipe has at most, each counted as often as it is done.
-pub const MOST_ACTS: u64 = 1_000_000;
+/// How often a repeat is done at most.
+pub const MOST_TIMES: u64 = 1_000_000;
+
+/// As how many steps the acts of a recipe count at most, each as often as it is done.
+pub const MOST_STEPS: u64 = 100_000_000;
+
+/// As how many steps an act counts at least.
+const LEAST_STEPS: u32 = 100;
 
 /// What a line of a recipe says, less its comment.
 #[derive(Clone, Copy)]
@@ -30,8 +36,8 @@ pub enum Said {
 }
 
 impl Said {
-    ghost use Rattle.std.specs.Prelude.{◌≡◌};
-    ghost use Rattle.expand_engine.specs.Recipes.{is_act, says_nothing};
+    ghost use Rattle.std.specs.Prelude.{◌≡◌, ◌<◌, ◌^◌};
+    ghost use Rattle.expand_engine.specs.Recipes.{is_act, says_nothing, weight};
     ghost use Rattle.expand_engine.specs.UnrolledActs.{is_end};
 
     /// Whether this is an act: something that actors do. Takes no memory and doesn't wait.
@@ -42,6 +48,22 @@ impl Said {
             Said::Happens(_) | Said::Until(_, _) | Said::Finish(_) => true,
             _ => false,
         }
+    }
+
+    /// As how many steps this counts, where it is an act: as those of an event that tells them, and as 100 at least. Takes no memory
+    /// and doesn't wait.
+    pub fn weight(&self) -> u64
+        ensures weight { result ≡ weight self.now }
+        ensures few { result < 2 ^ 32 }
+    {
+        let count = match self {
+            Said::Happens(Event::Steps(_, count)) => *count,
+            _ => LEAST_STEPS,
+        };
+        if count <= LEAST_STEPS {
+            return u64::from(LEAST_STEPS);
+        }
+        u64::from(count)
     }
 
     /// Whether this is nothing. Takes no memory and doesn't wait.
@@ -74,9 +96,9 @@ pub enum Due {
     Queue,
     /// This number of the header, where so many bits hold a node.
     Number(u32, Field),
-    /// An act, a repeat or the recipe's end, where there are so many acts so far.
+    /// An act, a repeat or the recipe's end, where the acts so far count as so many steps.
     Act(u64),
-    /// An act or the repeat's end, where there are so many acts so far, and each act counts so often.
+    /// An act or the repeat's end, where the acts so far count as so many steps, and each act is done so often.
     Repeated(u64, u64),
     /// None.
     Nothing,

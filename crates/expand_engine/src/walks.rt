@@ -11,7 +11,7 @@ use line_table::Line;
 use step_machine::WorldOf;
 
 /// How many steps an actor takes at most.
-const MOST_STEPS: u32 = 1_000_000;
+const MOST_STEPS: u32 = 64;
 
 /// The line before which an actor stands; none where it has no call.
 fn standing<const B: u32>(world: &WorldOf<B>, actor: u16) -> Result<Option<Line>, Refusal>
@@ -53,9 +53,9 @@ pub(crate) fn walk_until<const B: u32>(
     actor: u16,
     line: Line,
 ) -> Result<u32, Refusal>
-    requires left { world.old.steps + 1000001 < 2 ^ 64 }
+    requires left { world.old.steps + 65 < 2 ^ 64 }
     ensures ok { IfOk result (λ count. ComesTo world.old actor line count world.new) }
-    ensures steps { OnOk result (world.new.steps ≤ world.old.steps + 1000000) }
+    ensures steps { OnOk result (world.new.steps ≤ world.old.steps + 64) }
     ensures kind { IfErr result IsMoveRefusal }
     ensures refused { IfErr result (UntilRefused world.old actor line) }
 {
@@ -80,9 +80,9 @@ pub(crate) fn walk_until<const B: u32>(
 
 /// Takes the least number of steps of an actor after which its call has ended, and answers how many.
 pub(crate) fn walk_to_end<const B: u32>(world: &mut WorldOf<B>, actor: u16) -> Result<u32, Refusal>
-    requires left { world.old.steps + 1000001 < 2 ^ 64 }
+    requires left { world.old.steps + 65 < 2 ^ 64 }
     ensures ok { IfOk result (λ count. EndsCall world.old actor count world.new) }
-    ensures steps { OnOk result (world.new.steps ≤ world.old.steps + 1000000) }
+    ensures steps { OnOk result (world.new.steps ≤ world.old.steps + 64) }
     ensures kind { IfErr result IsMoveRefusal }
     ensures refused { IfErr result (FinishRefused world.old actor) }
 {

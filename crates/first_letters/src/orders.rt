@@ -1,8 +1,8 @@
 //! Orders that are sent and read.
-use channels::{Receiver, Sender};
 use history::Refusal;
 use picked::ValueQueue;
 use post_office::PostOffice;
+use shared_queue::{Receiver, Sender};
 use std::alloc::Global;
 use std::sync::Wait;
 use std::thread::{Threads, join};

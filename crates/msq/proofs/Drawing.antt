@@ -29,11 +29,12 @@ pub OnOk-carried : {A E : Type 0} (result earlier : Result A E) (P K Q : Type 0)
 OnOk-carried (Ok x) earlier P K Q same holds kept f = f (subst (λ r. OnOk r P) (sym same) holds) kept
 OnOk-carried (Err e) earlier P K Q same holds kept f = tt
 
--- what follows where a call is Ok, of which one fact or another is known by a flag
-pub OnOk-either : {A E : Type 0} (flag : Bool) (result : Result A E) (P Q R : Type 0) → (flag ≡ false → OnOk result P) → (flag ≡ true → OnOk result Q)
-    → ((flag ≡ false → P) → (flag ≡ true → Q) → R) → OnOk result R
-OnOk-either false result P Q R off on f = on_ok_weaker result (λ p. f (λ _. p) (λ e. absurd (false≢true e))) (off refl)
-OnOk-either true result P Q R off on f = on_ok_weaker result (λ q. f (λ e. absurd (false≢true (sym e))) (λ _. q)) (on refl)
+-- what follows where a call is Ok, of which one of three facts is known by two flags
+pub OnOk-by : {A E : Type 0} (first second : Bool) (result : Result A E) (P Q S R : Type 0) → (first ≡ false → second ≡ false → OnOk result P) → (first ≡ false → second ≡ true → OnOk result Q)
+    → (first ≡ true → OnOk result S) → ((first ≡ false → second ≡ false → P) → (first ≡ false → second ≡ true → Q) → (first ≡ true → S) → R) → OnOk result R
+OnOk-by false false result P Q S R p q s f = on_ok_weaker result (λ x. f (λ a b. x) (λ a e. absurd (false≢true e)) (λ e. absurd (false≢true e))) (p refl refl)
+OnOk-by false true result P Q S R p q s f = on_ok_weaker result (λ x. f (λ a e. absurd (false≢true (sym e))) (λ a b. x) (λ e. absurd (false≢true e))) (q refl refl)
+OnOk-by true second result P Q S R p q s f = on_ok_weaker result (λ x. f (λ e. absurd (false≢true (sym e))) (λ e. absurd (false≢true (sym e))) (λ e. x)) (s refl)
 
 -- bytes that grew, and were kept then, grew
 Appends-carried : (before a b after : Option (List ℕ)) (bytes : List ℕ) → before ≡ a → Keeps b after → Appends a b bytes → Appends before after bytes
@@ -43,9 +44,9 @@ Appends-carried before (Some x) (Some y) None bytes same kept grown = absurd kep
 Appends-carried before (Some x) (Some y) (Some z) bytes same kept grown = subst (λ o. Appends o (Some z) bytes) (sym same) (kept ∙ grown)
 
 -- what was drawn to one sink, as another one has it that kept as much
-pub Draws-carried : (options : ShowOptions) (frames : Frames) (meanings : List Meaning) (given : Option (List ℕ)) (before a b after : SinkState)
-    → before.contents ≡ a.contents → Keeps b.contents after.contents → Draws options frames meanings given a b → Draws options frames meanings given before after
-Draws-carried options frames meanings given before a b after same kept d =
+pub Draws-carried : (options : ShowOptions) (frames : Frames) (meanings : List Meaning) (is_recipe : Bool) (given : Option (List ℕ)) (before a b after : SinkState)
+    → before.contents ≡ a.contents → Keeps b.contents after.contents → Draws options frames meanings is_recipe given a b → Draws options frames meanings is_recipe given before after
+Draws-carried options frames meanings is_recipe given before a b after same kept d =
     let carried : (bytes : List ℕ) → Appends a.contents b.contents bytes → Appends before.contents after.contents bytes =
     λ bytes grown. Appends-carried before.contents a.contents b.contents after.contents bytes same kept grown in
     record {
@@ -55,12 +56,19 @@ Draws-carried options frames meanings given before a b after same kept d =
       history_page = λ on page.
           let p = d.history_page on page in
           record { text = p.text; operations = p.operations; bytes = p.bytes; history = p.history; found = p.found; written = carried _ p.written };
-      page = λ off on.
-          let p = d.page off on in
+      page = λ off on none.
+          let p = d.page off on none in
           record { schedule = p.schedule; in_range = p.in_range; read = p.read; holds = (p.holds.0, p.holds.1, carried _ p.holds.2) };
-      picture = λ off page no.
-          let p = d.picture off page no in
+      recipe_page = λ off on is.
+          let p = d.recipe_page off on is in
+          record { expansion = p.expansion; read = p.read; holds = (p.holds.0, p.holds.1, carried _ p.holds.2) };
+      picture = λ off page no none.
+          let p = d.picture off page no none in
           record { schedule = p.schedule; in_range = p.in_range; read = p.read; holds = (p.holds.0, p.holds.1, carried _ p.holds.2) };
+      recipe = λ off page no is.
+          let p = d.recipe off page no is in
+          let w = p.holds.written in
+          record { expansion = p.expansion; read = p.read; holds = record { whole = p.holds.whole; written = (w.0, w.1, carried _ w.2) } };
       found = λ on page.
           let f = d.found on page in
           record {

@@ -7,11 +7,13 @@ use Rattle.command_line.specs.declared.commands.ShowOptions.{ShowOptions}
 use Rattle.text_io.specs.Devices.{SinkState}
 use Rattle.page_engine.specs.Pages.{WritesPage}
 use Rattle.page_engine.specs.Histories.{WritesHistoryPage}
+use Rattle.page_engine.specs.Recipes.{WritesRecipePage}
 use Rattle.msq.specs.declared.options.Frames.{Frames}
 use Rattle.show_engine.specs.declared.frames.Meaning.{Meaning}
 use Rattle.show_engine.specs.declared.frames.View.{View}
 use Rattle.show_engine.specs.Found.{DrawsFound}
-use Rattle.show_engine.specs.PicturesWritten.{WritesPicture}
+use Rattle.expand_engine.specs.RecipesRun.{WritesOf}
+use Rattle.show_engine.specs.PicturesWritten.{WritesPicture, the_picture}
 use Rattle.show_engine.specs.TimelinesWritten.{WritesTimeline}
 use Rattle.placing.specs.declared.answers.Placed.{Placed}
 use Rattle.recording_text.specs.RecordingReading.{bytes_of}
@@ -36,16 +38,18 @@ colours_at Never is_usual = false
 abbrev pub has_colours : ShowOptions → (is_usual : Bool) → Bool
 has_colours options is_usual = if options.is_page then false else colours_at options.colours is_usual
 
--- known bytes were the text of a history, if the options say so, or else of a schedule; its page in its frame was written, or its
+-- known bytes were the text of a history, if the options say so, or else of a schedule, or of a recipe, which it is taken for; its page in its frame was written, or its
 -- timeline or its picture of the view that they ask for, or what is found of a recorded history, if they say so. A page, or a picture
 -- of what is found, tells of a search of at most a million steps
-pub record Draws (options : ShowOptions) (frames : Frames) (meanings : List Meaning) (given : Option (List ℕ)) (old new : SinkState) : Type 0 where
+pub record Draws (options : ShowOptions) (frames : Frames) (meanings : List Meaning) (is_recipe : Bool) (given : Option (List ℕ)) (old new : SinkState) : Type 0 where
   pub view : View
   pub asked : IsViewOf options meanings view
   pub timeline : options.is_history ≡ true → options.is_page ≡ false → options.draws_reason ≡ false → WritesTimeline view given old new
   pub history_page : options.is_history ≡ true → options.is_page ≡ true → WritesHistoryPage frames.history given 1000000 old new
-  pub page : options.is_history ≡ false → options.is_page ≡ true → WritesPage frames.run given old new
-  pub picture : options.is_history ≡ false → options.is_page ≡ false → options.draws_reason ≡ false → WritesPicture view given old new
+  pub page : options.is_history ≡ false → options.is_page ≡ true → is_recipe ≡ false → WritesPage frames.run given old new
+  pub recipe_page : options.is_history ≡ false → options.is_page ≡ true → is_recipe ≡ true → WritesRecipePage frames.run given old new
+  pub picture : options.is_history ≡ false → options.is_page ≡ false → options.draws_reason ≡ false → is_recipe ≡ false → WritesPicture view given old new
+  pub recipe : options.is_history ≡ false → options.is_page ≡ false → options.draws_reason ≡ false → is_recipe ≡ true → WritesOf (the_picture view) given old new
   pub found : options.draws_reason ≡ true → options.is_page ≡ false → DrawsFound view given 1000000 old new
 
 -- the texts that are held, where some are

@@ -1,9 +1,12 @@
 //! What is told behind the line of a fault: where it is, what is there, what is due, and what to do.
 ghost use Rattle.msq.specs.Causes.{IsNumberOf};
 
+use crate::finds::{tell_count, tell_number, tell_span, tell_word};
 use crate::forms::due_at;
 use crate::notes::Notes;
-use command_line::Command;
+use crate::stands::{header_line, spoken, tell_stand};
+use crate::starts::RECIPE_START;
+use command_line::{Command, Task};
 use engine_faults::{ENTRIES, Fault, entry_named};
 use history::{Refusal, TextCause};
 use std::io;
@@ -13,7 +16,7 @@ use std::rt::Runtime;
 const SHOWN: usize = 100;
 
 /// Tells on standard error what a fault is about, a line each.
-pub(crate) fn tell_cause<R: Runtime>(
+pub(crate) fn tell_cause<R: Runtime + AllocGlobal>(
     rt: &R,
     command: &Command,
     fault: &Fault,
@@ -22,8 +25,11 @@ pub(crate) fn tell_cause<R: Runtime>(
     match fault.refusal {
         Refusal::Text(line, cause) => {
             tell_line(rt, command, notes, line)?;
-            eprint!(rt; "  found: {}\n", found(cause))?;
-            if cause != TextCause::Extra {
+            let told = tell_found(rt, command, notes, line, cause)?;
+            if !told {
+                eprint!(rt; "  found: {}\n", found(cause))?;
+            }
+            if cause != TextCause::Extra && !(told && cause == TextCause::Form) {
                 let due = due_at(command, notes.text.as_slice(), line);
                 eprint!(rt; "  due: {due}\n")?;
             }
@@ -33,6 +39,7 @@ pub(crate) fn tell_cause<R: Runtime>(
         _ => {
             if let Some(line) = fault.line {
                 tell_line(rt, command, notes, line)?;
+                tell_stand(rt, fault.refusal, notes, line)?;
             }
         }
     }
@@ -43,6 +50,59 @@ pub(crate) fn tell_cause<R: Runtime>(
         eprint!(rt; "  {line}\n")?;
     }
     Ok(())
+}
+
+/// Tells what a line of a schedule, a recipe or a recording has that isn't due; whether it was told.
+fn tell_found<R: Runtime>(
+    rt: &R,
+    command: &Command,
+    notes: &Notes,
+    number: u64,
+    cause: TextCause,
+) -> io::Result<bool> {
+    let text = notes.text.as_slice();
+    let Some(line) = notes.text.line(number) else {
+        return Ok(false);
+    };
+    match command.task {
+        Task::Place(_) if cause == TextCause::Range => tell_span(rt, line),
+        Task::Run | Task::Trace | Task::Expand => tell_in_schedule(rt, text, line, number, cause),
+        Task::Show(view) if !view.is_history && !view.draws_reason => {
+            tell_in_schedule(rt, text, line, number, cause)
+        }
+        _ => Ok(false),
+    }
+}
+
+/// The same of a schedule or a recipe.
+fn tell_in_schedule<R: Runtime>(
+    rt: &R,
+    text: &[u8],
+    line: &[u8],
+    number: u64,
+    cause: TextCause,
+) -> io::Result<bool> {
+    let said = if text.starts_with(RECIPE_START) {
+        spoken(line)
+    } else {
+        line
+    };
+    let events = header_line(text, b"events");
+    let last = if text.starts_with(RECIPE_START) {
+        header_line(text, b"actors")
+    } else {
+        events
+    };
+    match cause {
+        TextCause::Form => match last {
+            Some((header, _)) if header < number => tell_word(rt, text, said),
+            _ => Ok(false),
+        },
+        TextCause::Range => tell_number(rt, said),
+        TextCause::Extra => tell_count(rt, events, number, true),
+        TextCause::End if line.is_empty() => tell_count(rt, events, number, false),
+        TextCause::End => Ok(false),
+    }
 }
 
 /// The name of the file of a command.

@@ -1,9 +1,10 @@
 //! What a text has at a line by its grammar, in words.
+use crate::starts::RECIPE_START;
 use command_line::{Command, Task};
 
 /// The lines that a schedule of version 1 begins with.
 const FIRST: [&str; 6] = [
-    "'msq schedule 1' or 'msq schedule 2'",
+    "'msq schedule 1', 'msq schedule 2' or 'msq schedule 3'",
     "'queue two-lock' or 'queue nonblocking'",
     "'nodes N', N from 2 to 16777214",
     "'limit C', C from 1 to 1099511627775",
@@ -13,7 +14,7 @@ const FIRST: [&str; 6] = [
 
 /// The lines that a schedule of version 2 begins with.
 const SECOND: [&str; 7] = [
-    "'msq schedule 1' or 'msq schedule 2'",
+    "'msq schedule 1', 'msq schedule 2' or 'msq schedule 3'",
     "'queue two-lock' or 'queue nonblocking'",
     "'bits D', D from 16 to 32",
     "'nodes N', N from 2 to 2^D - 2",
@@ -45,7 +46,7 @@ const RECIPE: [&str; 6] = [
 /// What a recipe has behind these.
 const ACT: &str =
     "an event of a schedule of version 2, 'until A L', 'finish A', 'repeat N', N from 1 to 1000000, or 'end', A from 1 to \
-    65535, L a line of docs/LINES.md; no repeat in a repeat, and at most 1000000 acts";
+    65535, L a line of docs/LINES.md; no repeat in a repeat, and at most 100000000 steps of all acts";
 
 /// What is due at a line, counted from 1, of the text that a command reads. The version of a schedule, and whether a text is a
 /// recording, is that of the text's first line.
@@ -60,6 +61,7 @@ pub(crate) fn due_at(command: &Command, text: &[u8], line: u64) -> &'static str 
         Task::Work(_) => jobs(line),
         Task::Post(_) => mail(line),
         Task::Expand => recipe(text, line),
+        _ if text.starts_with(RECIPE_START) => recipe(text, line),
         _ if text.starts_with(b"msq schedule 2\n") => schedule(&SECOND, SECOND_EVENT, line),
         _ => schedule(&FIRST, FIRST_EVENT, line),
     }

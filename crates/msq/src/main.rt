@@ -2,12 +2,15 @@
 #![tactic(auto)]
 
 mod causes;
+mod finds;
 mod forms;
 mod held;
 mod notes;
 mod options;
 mod program;
 mod progress;
+mod stands;
+mod starts;
 
 use program::Terminals;
 use std::io::IsTerminal;

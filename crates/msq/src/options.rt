@@ -8,6 +8,7 @@ ghost use Rattle.job_engine.specs.Queues.{queue_in};
 ghost use Rattle.job_engine.specs.Works.{IsBadSize};
 ghost use Rattle.page_engine.specs.Histories.{WritesHistoryPage};
 ghost use Rattle.page_engine.specs.Pages.{WritesPage};
+ghost use Rattle.page_engine.specs.Recipes.{WritesRecipePage};
 ghost use Rattle.recording_text.specs.RecordingReading.{bytes_of};
 ghost use Rattle.recording_text.specs.HeldTexts.{AreHeld};
 ghost use Rattle.place_engine.specs.Places.{TellsPlaces};
@@ -17,9 +18,11 @@ use command_line::{Colours, Crew, Placing, ShowOptions};
 use engine_faults::Fault;
 use history::Refusal;
 use job_engine::{JobQueue, work_text};
-use page_engine::{Frame, history_page, page_text};
+use page_engine::{Frame, history_page, page_recipe, page_text};
 use place_engine::{Told, place_holding, place_text};
-use show_engine::{Coloured, Drawing, Meaning, View, show_found, show_history, show_text};
+use show_engine::{
+    Coloured, Drawing, Meaning, View, show_found, show_history, show_recipe, show_text,
+};
 use std::alloc::Global;
 use std::sync::Wait;
 use std::thread::Threads;
@@ -45,22 +48,23 @@ fn legend_by<'a>(options: ShowOptions, meanings: &'a [Meaning<'a>]) -> &'a [Mean
     if options.has_legend { meanings } else { &[] }
 }
 
-/// Draws the schedule, or the history, or what is found of a recorded history, that a source gives, by the options of `show`, with
-/// these meanings of lines where they ask for a legend; or writes the page of a schedule or a history, in its frame.
+/// Draws the schedule, or the recipe, or the history, or what is found of a recorded history, that a source gives, by the options of `show`, with
+/// these meanings of lines where they ask for a legend; or writes the page of a schedule, a recipe or a history, in its frame.
 pub(crate) fn show_by<'a, S: Source, W: Sink>(
     alloc: Global,
     options: ShowOptions,
     frames: &Frames<'_>,
     meanings: &'a [Meaning<'a>],
+    is_recipe: bool,
     reader: &mut S,
     writer: &mut W,
 ) -> Result<(), Fault>
     //= program/show_options: At Ok `show_by`, which `msq show` calls, has drawn what its options ask for: the picture of a
-    //=   schedule, the timeline of a history, or what is found of a recorded history, of just that width, those steps and
-    //=   that actor, with a legend or without one; or the page around the schedule's trace, or around the history and what
-    //=   is found of it.
-    ensures drawn { OnOk result (Draws options frames.now meanings.now (S.state reader.old).left
-        (W.state writer.old) (W.state writer.new)) }
+    //=   schedule, or of a recipe that it takes the text for, the timeline of a history, or what is found of a recorded history, of just that width, those steps and
+    //=   that actor, with a legend or without one; or the page around the schedule's or the recipe's text and its trace, or around
+    //=   the history and what is found of it.
+    ensures drawn { OnOk result (Draws options frames.now meanings.now is_recipe
+        (S.state reader.old).left (W.state writer.old) (W.state writer.new)) }
 {
     let view = View {
         width: options.width,
@@ -70,7 +74,7 @@ pub(crate) fn show_by<'a, S: Source, W: Sink>(
         legend: legend_by(options, meanings),
     };
     if options.is_page {
-        return page_by(alloc, options, frames, reader, writer);
+        return page_by(alloc, options, frames, is_recipe, reader, writer);
     }
     if options.draws_reason {
         show_found(alloc, reader, writer, view, PAGE_STEPS)?;
@@ -80,27 +84,37 @@ pub(crate) fn show_by<'a, S: Source, W: Sink>(
         show_history(alloc, reader, writer, view)?;
         return Ok(());
     }
+    if is_recipe {
+        return show_recipe(alloc, reader, writer, view);
+    }
     show_text(alloc, reader, writer, view)
 }
 
-/// Writes the page of the schedule, or of the history, that a source gives, in its frame.
+/// Writes the page of the schedule, or of the recipe, or of the history, that a source gives, in its frame.
 fn page_by<S: Source, W: Sink>(
     alloc: Global,
     options: ShowOptions,
     frames: &Frames<'_>,
+    is_recipe: bool,
     reader: &mut S,
     writer: &mut W,
 ) -> Result<(), Fault>
-    ensures run { options.is_history ≡ false → OnOk result (WritesPage frames.now.run
+    ensures run { options.is_history ≡ false → is_recipe ≡ false → OnOk result (WritesPage frames.now.run
         (S.state reader.old).left (W.state writer.old) (W.state writer.new)) }
+    ensures recipe { options.is_history ≡ false → is_recipe ≡ true → OnOk result
+        (WritesRecipePage frames.now.run (S.state reader.old).left (W.state writer.old)
+        (W.state writer.new)) }
     ensures history { options.is_history ≡ true → OnOk result (WritesHistoryPage frames.now.history
         (S.state reader.old).left PAGE_STEPS (W.state writer.old) (W.state writer.new)) }
 {
-    if !options.is_history {
-        return page_text(alloc, reader, writer, &frames.run);
+    if options.is_history {
+        history_page(alloc, reader, writer, &frames.history, PAGE_STEPS)?;
+        return Ok(());
     }
-    history_page(alloc, reader, writer, &frames.history, PAGE_STEPS)?;
-    Ok(())
+    if is_recipe {
+        return page_recipe(alloc, reader, writer, &frames.run);
+    }
+    page_text(alloc, reader, writer, &frames.run)
 }
 
 /// Finds points for the history that a source gives, or a reason why there are none, by the options of `place`; where the queue
@@ -171,16 +185,25 @@ pub(crate) fn show_coloured<'a, S: Source, W: Sink>(
     options: ShowOptions,
     frames: &Frames<'_>,
     meanings: &'a [Meaning<'a>],
+    is_recipe: bool,
     reader: &mut S,
     writer: W,
 ) -> (Result<(), Fault>, W)
     //= program/plain: At Ok what `show_coloured` has written is, without the codes of colours, some drawing
     //=   that `show_by` may write.
-    ensures drawn { OnOk result.0 (Draws options frames.now meanings.now (S.state reader.old).left
-        (plain_state (W.state writer)) (plain_state (W.state result.1))) }
+    ensures drawn { OnOk result.0 (Draws options frames.now meanings.now is_recipe
+        (S.state reader.old).left (plain_state (W.state writer)) (plain_state (W.state result.1))) }
 {
     let mut coloured = Coloured::new(writer, drawing_by(options));
-    let drawn = show_by(alloc, options, frames, meanings, reader, &mut coloured);
+    let drawn = show_by(
+        alloc,
+        options,
+        frames,
+        meanings,
+        is_recipe,
+        reader,
+        &mut coloured,
+    );
     let outcome = finished(drawn, &mut coloured);
     (outcome, coloured.into_inner())
 }

@@ -4,16 +4,18 @@ use crate::held::{Done, faulty_list, placed, warn};
 use crate::notes::{Kept, NotedSink, NotedSource, Notes};
 use crate::options::{Frames, show_by, show_coloured, wants_colours, work_by};
 use crate::progress::Progress;
+use crate::starts::{RECIPE_START, read_start, takes_recipes};
 use command_line::{Command, Task, read_words};
 use engine_faults::{ENTRIES, Ending, Fault, end_of, explain};
-use expand_engine::expand_text;
+use expand_engine::{expand_text, run_recipe, trace_recipe};
 use history::Refusal;
 use mail_engine::post_text;
-use page_engine::{AFTER, AFTER_HISTORY, BEFORE, BEFORE_HISTORY, Frame};
+use page_engine::{HISTORY_FRAME, RUN_FRAME};
 use place_engine::check_text;
 use run_engine::{run_text, trace_text};
 use show_engine::ACCESSES;
 use std::fs::File;
+use std::io::Read;
 use std::rt::Runtime;
 use std::sync::Wait;
 use std::thread::Threads;
@@ -79,6 +81,8 @@ struct Manner {
     keeps: bool,
     /// Whether what is drawn has colours.
     has_colours: bool,
+    /// Whether the text is a recipe, which the command takes.
+    is_recipe: bool,
 }
 
 /// The status of a command that reads a file. A fault is explained where standard error is a terminal, or the words ask for it.
@@ -97,6 +101,7 @@ fn obeyed<R: Runtime + AllocGlobal + Threads + Wait + Sync>(
     let manner = Manner {
         keeps: explains,
         has_colours: shows_colours(rt, command, terminals.output),
+        is_recipe: false,
     };
     let (outcome, notes) = outcome_of(rt, command, manner, &progress);
     progress.wipe();
@@ -134,22 +139,46 @@ fn outcome_of<R: Runtime + AllocGlobal + Threads + Wait + Sync>(
 ) -> (Result<Done, Fault>, Notes) {
     let file = command.file.as_str();
     if file == "-" {
-        return noted(
-            rt,
-            command,
-            ReaderSource::new(rt.reader()),
-            manner,
-            progress,
-        );
+        return looked_at(rt, command, rt.reader(), manner, progress);
     }
     match File::open(rt, file) {
-        Ok(file) => noted(rt, command, ReaderSource::new(file), manner, progress),
-        Err(error) => {
-            let cause = format!(in rt.alloc(); "{error}").ok();
-            let fault = Fault::from(Refusal::Read);
-            (Err(fault), Notes::unopened(rt.alloc(), cause))
+        Ok(file) => looked_at(rt, command, file, manner, progress),
+        Err(error) => unread(rt, error),
+    }
+}
+
+/// What comes of a file that can't be opened or read.
+fn unread<R: Runtime + AllocGlobal>(rt: &R, error: io::Error) -> (Result<Done, Fault>, Notes) {
+    let cause = format!(in rt.alloc(); "{error}").ok();
+    let fault = Fault::from(Refusal::Read);
+    (Err(fault), Notes::unopened(rt.alloc(), cause))
+}
+
+/// Obeys a command on what a reader gives, and looks first whether that is a recipe.
+fn looked_at<R: Runtime + AllocGlobal + Threads + Wait + Sync, F: Read + Drop>(
+    rt: &R,
+    command: &Command,
+    mut reader: F,
+    manner: Manner,
+    progress: &Progress<'_, R>,
+) -> (Result<Done, Fault>, Notes) {
+    let mut start = Vec::new(rt.alloc());
+    if takes_recipes(command) {
+        match read_start(&mut reader, &mut start) {
+            Ok(true) => {}
+            Ok(false) => {
+                let fault = Fault::from(Refusal::Memory);
+                return (Err(fault), Notes::unopened(rt.alloc(), None));
+            }
+            Err(error) => return unread(rt, error),
         }
     }
+    let manner = Manner {
+        is_recipe: start.as_slice() == RECIPE_START.as_slice(),
+        ..manner
+    };
+    let source = ReaderSource::new(io::Cursor::new(start).chain(reader));
+    noted(rt, command, source, manner, progress)
 }
 
 /// Obeys a command on what a source gives, and notes what goes by.
@@ -173,7 +202,7 @@ fn noted<R: Runtime + AllocGlobal + Threads + Wait + Sync, S: Source + Drop>(
         unwritten: None,
         progress,
     };
-    let (outcome, writer) = outcome_in(rt, command, manner.has_colours, &mut reader, writer);
+    let (outcome, writer) = outcome_in(rt, command, manner, &mut reader, writer);
     let notes = Notes {
         text: reader.text,
         unread: reader.unread,
@@ -202,24 +231,25 @@ fn is_set<R: Runtime + AllocGlobal>(rt: &R, name: &str) -> bool {
 fn outcome_in<R: Runtime + AllocGlobal + Threads + Wait + Sync, S: Source, W: Sink>(
     rt: &R,
     command: &Command,
-    has_colours: bool,
+    manner: Manner,
     reader: &mut S,
     mut writer: W,
 ) -> (Result<Done, Fault>, W) {
     match command.task {
-        Task::Show(options) if has_colours => {
+        Task::Show(options) if manner.has_colours => {
             let (drawn, writer) = show_coloured(
                 rt.alloc(),
                 options,
                 &page_frames(),
                 &ACCESSES,
+                manner.is_recipe,
                 reader,
                 writer,
             );
             (drawn.map(|()| Done::quietly(Ending::Well)), writer)
         }
         _ => {
-            let outcome = outcome_on(rt, command, reader, &mut writer);
+            let outcome = outcome_on(rt, command, manner, reader, &mut writer);
             (outcome, writer)
         }
     }
@@ -228,14 +258,8 @@ fn outcome_in<R: Runtime + AllocGlobal + Threads + Wait + Sync, S: Source, W: Si
 /// What pages have around what they show.
 fn page_frames() -> Frames<'static> {
     Frames {
-        run: Frame {
-            before: BEFORE,
-            after: AFTER,
-        },
-        history: Frame {
-            before: BEFORE_HISTORY,
-            after: AFTER_HISTORY,
-        },
+        run: RUN_FRAME,
+        history: HISTORY_FRAME,
     }
 }
 
@@ -243,10 +267,13 @@ fn page_frames() -> Frames<'static> {
 fn outcome_on<R: Runtime + AllocGlobal + Threads + Wait + Sync, S: Source, W: Sink>(
     rt: &R,
     command: &Command,
+    manner: Manner,
     reader: &mut S,
     writer: &mut W,
 ) -> Result<Done, Fault> {
     match command.task {
+        Task::Run if manner.is_recipe => run_recipe(rt.alloc(), reader, writer)?,
+        Task::Trace if manner.is_recipe => trace_recipe(rt.alloc(), reader, writer)?,
         Task::Run => run_text(rt.alloc(), reader, writer)?,
         Task::Expand => expand_text(rt.alloc(), reader, writer)?,
         Task::Trace => trace_text(rt.alloc(), reader, writer)?,
@@ -256,6 +283,7 @@ fn outcome_on<R: Runtime + AllocGlobal + Threads + Wait + Sync, S: Source, W: Si
                 options,
                 &page_frames(),
                 &ACCESSES,
+                manner.is_recipe,
                 reader,
                 writer,
             )?;

@@ -1,17 +1,18 @@
-//! The engine of `show --html`: the trace of a run, or a recorded history and what is found of it, in a page that steps through it.
+//! The engine of `show --html`: a run, or a recorded history and what is found of it, in a page that steps through it.
 #![tactic(auto)]
 
+mod contents;
 mod engine;
+mod followed;
+mod given;
 mod histories;
-mod history_markup;
-mod history_script;
+mod history_frame;
 mod kept;
-mod markup;
-mod script;
+mod recipes;
+mod run_frame;
+mod shown;
 
-pub use engine::{Frame, page_text};
+pub use engine::{Frame, page_recipe, page_text};
 pub use histories::history_page;
-pub use history_markup::BEFORE_HISTORY;
-pub use history_script::AFTER_HISTORY;
-pub use markup::BEFORE;
-pub use script::AFTER;
+pub use history_frame::HISTORY_FRAME;
+pub use run_frame::RUN_FRAME;

@@ -12,9 +12,9 @@ use Rattle.carriers.specs.Delivered.{DeliversOf}
 use Rattle.carriers.specs.Together.{pushed_by, popped_by}
 use Rattle.carriers.proofs.Delivering.{all-deliver}
 use Rattle.carriers.proofs.Together.{handed_over_once}
-use Rattle.channels.specs.declared.sender.Sender.{Sender}
-use Rattle.channels.specs.declared.receiver.Receiver.{Receiver}
-use Rattle.channels.specs.Handles.{sender_queue, receiver_queue}
+use Rattle.shared_queue.specs.declared.sender.Sender.{Sender}
+use Rattle.shared_queue.specs.declared.receiver.Receiver.{Receiver}
+use Rattle.shared_queue.specs.Handles.{sender_queue, receiver_queue}
 use Rattle.post_office.specs.declared.offices.PostOffice.{PostOffice}
 use Rattle.post_office.specs.Offices.{office_queue, seats_of, known_by}
 use Rattle.post_office.proofs.Shares.{all_sit}

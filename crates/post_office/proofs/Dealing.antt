@@ -11,7 +11,7 @@ use Rattle.carriers.specs.Knowledge.{KnownOf}
 use Rattle.node_arena.specs.declared.roles.Role.TheVariants.{Giver, Taker}
 use Rattle.node_arena.specs.Plans.{permit_of, permits_by}
 use Rattle.value_queue.specs.Queues.{newcomer, AreNewOf}
-use Rattle.channels.specs.Seats.{IsGiver, IsTaker}
+use Rattle.shared_queue.specs.Seats.{IsGiver, IsTaker}
 use Rattle.post_office.specs.declared.offices.Desks.{Desks}
 use Rattle.post_office.specs.Desks.{AreDesks}
 use Rattle.post_office.specs.Roles.{office_roles, newcomers}

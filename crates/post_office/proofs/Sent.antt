@@ -4,10 +4,10 @@ use denote.Param.Send.{IsSend}
 use denote.Param.SendFields.{as_row_send}
 use denote.RattleType.{RattleType}
 use Rattle.carriers.specs.declared.queues.Carrier.{Ghosts}
-use Rattle.channels.specs.contracts.sender.Sender as sender
-use Rattle.channels.specs.contracts.receiver.Receiver as receiver
-use Rattle.channels.proofs.sender.Sender.TheSendSync.{the_send as sender_send, the_field_send as held_sender_send}
-use Rattle.channels.proofs.receiver.Receiver.TheSendSync.{the_send as receiver_send, the_field_send as held_receiver_send}
+use Rattle.shared_queue.specs.contracts.sender.Sender as sender
+use Rattle.shared_queue.specs.contracts.receiver.Receiver as receiver
+use Rattle.shared_queue.proofs.sender.Sender.TheSendSync.{the_send as sender_send, the_field_send as held_sender_send}
+use Rattle.shared_queue.proofs.receiver.Receiver.TheSendSync.{the_send as receiver_send, the_field_send as held_receiver_send}
 use Rattle.node_arena.specs.contracts.seats.Seat as seat
 use Rattle.node_arena.proofs.seats.Seat.TheSendSync.{the_send as seat_send}
 use Rattle.picked.proofs.Threads.{queue_row, queue_send, queue_sync}

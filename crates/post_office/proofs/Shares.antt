@@ -6,26 +6,26 @@ use mathlib.Core.HLevel.{×_prop}
 use Rattle.std.proofs.lemmas.List.Elements.{All-map, All-append, All-cons, All-nil}
 use Rattle.history.specs.Seats.{MayPush}
 use Rattle.carriers.specs.declared.queues.Carrier.{Ghosts}
-use Rattle.blocking_carrier.specs.declared.queue.BlockingCarrier.{BlockingCarrier}
-use Rattle.blocking_carrier.specs.Queues.{queue_of}
-use Rattle.channels.specs.declared.sender.Sender.{Sender}
-use Rattle.channels.specs.declared.receiver.Receiver.{Receiver}
-use Rattle.channels.specs.Handles.{sender_queue, sender_seat, receiver_queue, receiver_seat}
-use Rattle.channels.specs.Seats.{IsGiver}
-use Rattle.channels.proofs.Shares.{may_push-prop, sender_of, receiver_of}
+use Rattle.shared_queue.specs.declared.queue.SharedQueue.{SharedQueue}
+use Rattle.shared_queue.specs.Queues.{queue_of}
+use Rattle.shared_queue.specs.declared.sender.Sender.{Sender}
+use Rattle.shared_queue.specs.declared.receiver.Receiver.{Receiver}
+use Rattle.shared_queue.specs.Handles.{sender_queue, sender_seat, receiver_queue, receiver_seat}
+use Rattle.shared_queue.specs.Seats.{IsGiver}
+use Rattle.shared_queue.proofs.Shares.{may_push-prop, sender_of, receiver_of}
 use Rattle.post_office.specs.declared.offices.PostOffice.{PostOffice}
 use Rattle.post_office.specs.Offices.{office_queue, office_seat, seats_of}
 
 module _ {C A S : Type 0} {carrier : Ghosts C A S} (prop : (q : C) (s : S) → IsProp (carrier.is_seat q s)) where
   -- the seat of an office of this queue is the queue's, and may push
-  pub office_in : (b : BlockingCarrier C) (o : PostOffice C A S carrier) → b ≡ o.queue.value → IsGiver carrier.is_seat carrier.permits carrier.known (queue_of b) o.seat
+  pub office_in : (b : SharedQueue C) (o : PostOffice C A S carrier) → b ≡ o.queue.value → IsGiver carrier.is_seat carrier.permits carrier.known (queue_of b) o.seat
   office_in b o e =
       let q = queue_of o.queue.value in
       subst (λ x. IsGiver carrier.is_seat carrier.permits carrier.known (queue_of x) o.seat) (sym e)
       (∥∥₁_elim o.sits (×_prop (prop q o.seat) (may_push-prop (carrier.permits q) (carrier.known o.seat).number)) (λ x. x))
 
   -- and is so after a call that leaves it the queue's, with its number
-  pub office_stays : (b : BlockingCarrier C) (o : PostOffice C A S carrier) → b ≡ o.queue.value → (after : S) → carrier.is_seat (queue_of b) after
+  pub office_stays : (b : SharedQueue C) (o : PostOffice C A S carrier) → b ≡ o.queue.value → (after : S) → carrier.is_seat (queue_of b) after
       → (carrier.known after).number ≡ (carrier.known o.seat).number
       → ∥ IsGiver carrier.is_seat carrier.permits carrier.known (queue_of o.queue.value) after ∥₁
   office_stays b o e after here same =

@@ -3,7 +3,7 @@ use Rattle.std.specs.Prelude.{List}
 use Rattle.std.specs.List.{All}
 use Rattle.history.specs.Seats.{Permit}
 use Rattle.carriers.specs.Knowledge.{KnownOf}
-use Rattle.channels.specs.Seats.{IsGiver, IsTaker}
+use Rattle.shared_queue.specs.Seats.{IsGiver, IsTaker}
 use Rattle.post_office.specs.declared.offices.Desks.{Desks}
 
 -- these are seats of this queue, in no call: each receiver's may pop, and each other one may push

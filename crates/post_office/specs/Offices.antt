@@ -3,10 +3,10 @@ use Rattle.std.specs.Prelude.{◌≡◌, List, [], ◌∷◌, ◌++◌, map}
 use Rattle.std.specs.List.{All}
 use Rattle.carriers.specs.declared.queues.Carrier.{Ghosts}
 use Rattle.carriers.specs.Knowledge.{KnownOf}
-use Rattle.blocking_carrier.specs.Queues.{queue_of}
-use Rattle.channels.specs.declared.sender.Sender.{Sender}
-use Rattle.channels.specs.declared.receiver.Receiver.{Receiver}
-use Rattle.channels.specs.Handles.{sender_queue, sender_seat, receiver_queue, receiver_seat}
+use Rattle.shared_queue.specs.Queues.{queue_of}
+use Rattle.shared_queue.specs.declared.sender.Sender.{Sender}
+use Rattle.shared_queue.specs.declared.receiver.Receiver.{Receiver}
+use Rattle.shared_queue.specs.Handles.{sender_queue, sender_seat, receiver_queue, receiver_seat}
 use Rattle.post_office.specs.declared.offices.PostOffice.{PostOffice}
 
 module _ {C A S : Type 0} {carrier : Ghosts C A S} where

@@ -2,9 +2,9 @@
 use Rattle.std.specs.Prelude.{◌≡◌, List}
 use Rattle.std.specs.List.{All}
 use Rattle.carriers.specs.declared.queues.Carrier.{Ghosts}
-use Rattle.blocking_carrier.specs.Queues.{queue_of}
-use Rattle.channels.specs.declared.sender.Sender.{Sender}
-use Rattle.channels.specs.declared.receiver.Receiver.{Receiver}
+use Rattle.shared_queue.specs.Queues.{queue_of}
+use Rattle.shared_queue.specs.declared.sender.Sender.{Sender}
+use Rattle.shared_queue.specs.declared.receiver.Receiver.{Receiver}
 use Rattle.post_office.specs.declared.offices.PostOffice.{PostOffice}
 use Rattle.post_office.specs.declared.ends.Unended.{Unended}
 use Rattle.post_office.specs.declared.ends.Unended.TheVariants.{InUse, Memory, Raced, Unclosed}

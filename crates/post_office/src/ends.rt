@@ -6,13 +6,12 @@ ghost use Rattle.carriers.specs.Ends.{ClosesOf};
 ghost use Rattle.carriers.specs.Rests.{left_in, whole_in};
 ghost use Rattle.carriers.specs.Delivered.{DeliversOf};
 ghost use Rattle.carriers.specs.Together.{pushed_by, popped_by};
-ghost use Rattle.channels.specs.Handles.{sender_queue, sender_seat, receiver_queue, receiver_seat};
+ghost use Rattle.shared_queue.specs.Handles.{sender_queue, sender_seat, receiver_queue, receiver_seat};
 
 use crate::offices::PostOffice;
-use blocking_carrier::BlockingCarrier;
 use carriers::{Carrier, CloseCarrier, RestOf};
-use channels::{Receiver, Sender};
 use history::Unclosed;
+use shared_queue::{Receiver, Sender, SharedQueue};
 use std::alloc::Global;
 use std::sync::Arc;
 
@@ -24,7 +23,7 @@ pub enum Unended<C: Carrier + Drop> {
     /// Memory for a list of the seats was refused. All is as it was.
     Memory(PostOffice<C>, Vec<Sender<C>>, Vec<Receiver<C>>),
     /// Others got a share of the queue while those of the handles were given up: one share of it, and the seats.
-    Raced(Arc<BlockingCarrier<C>, Global>, Vec<C::Seat>),
+    Raced(Arc<SharedQueue<C>, Global>, Vec<C::Seat>),
     /// Memory for the letters left was refused: the queue, and the seats, which close it.
     Unclosed(C, Vec<C::Seat>),
 }

@@ -2,7 +2,7 @@
 ghost use Rattle.std.specs.Prelude.{◌≡◌, ◌⊎◌, ◌+◌, ◌++◌, ◌∷◌, [], ◌<◌, ◌≤◌, ℕ, length, map, max, min, IfErr, IfOk};
 ghost use Rattle.history.specs.Seats.{MayPop};
 ghost use Rattle.node_arena.specs.NewArenas.{NewRefused};
-ghost use Rattle.channels.specs.Handles.{sender_seat, receiver_seat};
+ghost use Rattle.shared_queue.specs.Handles.{sender_seat, receiver_seat};
 ghost use Rattle.value_queue.specs.ValuesSeen.{known_by};
 ghost use Rattle.picked.specs.Values.{permits_of};
 ghost use Rattle.picked.specs.Splits.{non_blocking_plan};
@@ -10,10 +10,10 @@ ghost use Rattle.post_office.specs.Offices.{office_queue, AreOf};
 ghost use Rattle.post_office.specs.Roles.{roles_of, office_roles, newcomers};
 
 use crate::offices::{Desks, PostOffice};
-use channels::{Receiver, Sender};
 use history::Refusal;
 use node_arena::Role;
 use picked::ValueQueue;
+use shared_queue::{Receiver, Sender};
 use std::alloc::Global;
 
 /// How many senders and receivers there may be together: the seats are 65,535 at most.

@@ -2,15 +2,14 @@
 ghost use Rattle.std.specs.Prelude.{◌≡◌, map, IfErr, IfOk, OnOk};
 ghost use Rattle.history.specs.Answers.{EndsShut};
 ghost use Rattle.carriers.specs.Answers.{DidShutOf, PushRefusedOf, EndsByTryOf};
-ghost use Rattle.blocking_carrier.specs.Queues.{queue_of};
-ghost use Rattle.channels.specs.Seats.{IsGiver};
-ghost use Rattle.channels.specs.Handles.{sender_seat, receiver_seat};
+ghost use Rattle.shared_queue.specs.Queues.{queue_of};
+ghost use Rattle.shared_queue.specs.Seats.{IsGiver};
+ghost use Rattle.shared_queue.specs.Handles.{sender_seat, receiver_seat};
 ghost use Rattle.post_office.specs.Desks.{AreDesks};
 
-use blocking_carrier::BlockingCarrier;
 use carriers::Carrier;
-use channels::{Receiver, Sender, receivers, senders};
 use history::Refusal;
+use shared_queue::{Receiver, Sender, SharedQueue, receivers, senders};
 use std::alloc::Global;
 use std::sync::{Arc, Wait};
 
@@ -29,7 +28,7 @@ pub struct Desks<S> {
 /// the queue's, in no call, and that it may push.
 #[derive(Drop)]
 pub struct PostOffice<C: Carrier + Drop> {
-    pub(crate) queue: Arc<BlockingCarrier<C>, Global>,
+    pub(crate) queue: Arc<SharedQueue<C>, Global>,
     pub(crate) seat: C::Seat,
     ghost sits: { ∥ IsGiver C.is_seat C.permits C.known (queue_of queue.value) seat ∥₁ },
 }
@@ -61,7 +60,7 @@ impl<C: Carrier + Drop> PostOffice<C> {
             last_sender,
             last_receiver,
         } = desks;
-        let Ok(queue) = Arc::new(alloc, BlockingCarrier::new(queue)) else {
+        let Ok(queue) = Arc::new(alloc, SharedQueue::new(queue)) else {
             return Err(Refusal::Memory);
         };
         let givers = senders(alloc, &queue, last_sender, givers)?;

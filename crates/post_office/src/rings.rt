@@ -5,7 +5,7 @@ ghost use Rattle.history.specs.Seats.{MayPop};
 ghost use Rattle.node_arena.specs.Plans.{permits_by};
 ghost use Rattle.ring_queue.specs.NewRings.{RingRefused};
 ghost use Rattle.value_queue.specs.Queues.{AreNewOf};
-ghost use Rattle.channels.specs.Handles.{sender_seat, receiver_seat};
+ghost use Rattle.shared_queue.specs.Handles.{sender_seat, receiver_seat};
 ghost use Rattle.ring_values.specs.ValuesSeen.{known_by};
 ghost use Rattle.ring_values.specs.Queues.{plan_of, permits_of, IsQueueSeat};
 ghost use Rattle.post_office.specs.Offices.{office_queue, AreOf};
@@ -13,10 +13,10 @@ ghost use Rattle.post_office.specs.Roles.{office_roles, ring_roles_for, newcomer
 
 use crate::new_offices::{desks_for, roles_for};
 use crate::offices::PostOffice;
-use channels::{Receiver, Sender};
 use history::Refusal;
 use ring_queue::{Role, Seat};
 use ring_values::RingValues;
+use shared_queue::{Receiver, Sender};
 use std::alloc::Global;
 
 /// How many senders and receivers there may be together: the seats of a ring are 32,767 at most.

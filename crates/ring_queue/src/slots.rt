@@ -35,7 +35,8 @@ impl<T> RingQueue<T> {
         requires slot { slot < self.now.plan.slots }
         ensures ready { IsReady self.now.plan self.now.table.shared.table_id seat.new }
         ensures keeps { KeepsKnown seat.old seat.new }
-        ensures got { result ≡ true → HasSlot self.now.plan seat.new slot None × GotAt seat.old seat.new slot }
+        ensures got { result ≡ true →
+            HasSlot self.now.plan seat.new slot None × GotAt seat.old seat.new slot }
         ensures missed { result ≡ false → IsMissed self.now.plan seat.old seat.new slot }
     {
         let flag = self.flag(slot);
@@ -58,7 +59,8 @@ impl<T> RingQueue<T> {
         ensures few { IfOk result (λ got. got.failed < turns) }
         ensures failed { IfOk result (λ got. AllTaken self.now.plan seat.old.token.me.0 first got.failed) }
         ensures busy { IfErr result (λ _. AllTaken self.now.plan seat.old.token.me.0 first turns) }
-        ensures hit { IfOk result (λ got. HasTried self.now.plan seat.old seat.new first got.failed (hitting got.slot)) }
+        ensures hit { IfOk result (λ got.
+            HasTried self.now.plan seat.old seat.new first got.failed (hitting got.slot)) }
         ensures missed { IfErr result (λ _. HasTried self.now.plan seat.old seat.new first turns []) }
     {
         let mut slot = first;
@@ -90,7 +92,8 @@ impl<T> RingQueue<T> {
         ensures few { IfOk result (λ got. got.failed < turns) }
         ensures failed { IfOk result (λ got. FailedTries self.now.plan seat.old got.failed) }
         ensures busy { IfErr result (λ _. FailedTries self.now.plan seat.old turns) }
-        ensures hit { IfOk result (λ got. TriedSome self.now.plan seat.old seat.new got.failed (hitting got.slot)) }
+        ensures hit { IfOk result (λ got.
+            TriedSome self.now.plan seat.old seat.new got.failed (hitting got.slot)) }
         ensures missed { IfErr result (λ _. TriedSome self.now.plan seat.old seat.new turns []) }
     {
         let first = self.slot_of(seat.near);

@@ -1,6 +1,7 @@
 //! Runs a schedule once, to find how far its events can be made, and where its operations take effect.
 ghost use Rattle.std.specs.Prelude.{◌≡◌, ◌≤◌, IfOk, IfErr, length, take};
 ghost use Rattle.history.specs.declared.refusals.Refusal.TheVariants.{Memory};
+ghost use Rattle.run_engine.specs.Extents.{IsExtentOf};
 ghost use Rattle.run_engine.specs.Runs.{opening_of, EventsLead};
 ghost use Rattle.schedule_text.specs.Texts.{IsInRange};
 ghost use Rattle.show_engine.specs.PicturesWritten.{AreEffects, IsCountOf};
@@ -51,6 +52,24 @@ fn made_again<const B: u32>(
     }
 }
 
+/// Finds where the operations take effect of a schedule of which it is known how far its events can be made.
+pub(crate) fn count_again<const B: u32>(
+    alloc: Global,
+    schedule: &Schedule,
+    run: RunExtent,
+) -> Result<Counted, Refusal>
+    requires range { IsInRange schedule.now }
+    requires bits { schedule.now.bits ≡ B }
+    requires run { IsExtentOf schedule.now run }
+    ensures ok { IfOk result (IsCountOf schedule.now) }
+    ensures same { IfOk result (λ counted. counted.run ≡ run) }
+    ensures memory { IfErr result (λ refusal. refusal ≡ Memory) }
+{
+    let world = made_again::<B>(alloc, schedule, run.made)?;
+    let effects = effects_in(alloc, &world)?;
+    Ok(Counted { run, effects })
+}
+
 /// Makes the events of a schedule, as far as they can be made, on a world of their own. Where one is refused, some of its steps may
 /// have been taken, so those before it are made once more.
 pub(crate) fn count<const B: u32>(alloc: Global, schedule: &Schedule) -> Result<Counted, Refusal>
@@ -68,9 +87,7 @@ pub(crate) fn count<const B: u32>(alloc: Global, schedule: &Schedule) -> Result<
         }
         Some(_) => {
             drop(world);
-            let world = made_again::<B>(alloc, schedule, run.made)?;
-            let effects = effects_in(alloc, &world)?;
-            Ok(Counted { run, effects })
+            count_again::<B>(alloc, schedule, run)
         }
     }
 }

@@ -1,4 +1,4 @@
-//! The engine of `msq show`: from the text of a schedule to a picture of its run, and from that of a history
+//! The engine of `msq show`: from the text of a schedule or a recipe to a picture of its run, and from that of a history
 //! to a timeline, or to a picture of what is found of it; and a sink that colours what is drawn.
 #![tactic(auto)]
 
@@ -16,6 +16,7 @@ mod legends;
 mod move_rows;
 mod pictures;
 mod reasons;
+mod recipes;
 mod rows;
 mod scales;
 mod stand_rows;
@@ -27,5 +28,6 @@ pub use coloured::Coloured;
 pub use engine::show_text;
 pub use frames::{Meaning, View};
 pub use reasons::show_found;
+pub use recipes::show_recipe;
 pub use styles::Drawing;
 pub use timeline::show_history;

@@ -1,10 +1,10 @@
 //! Letters through an office: its senders and its receivers, each in a thread of its own.
 use crate::loads::Load;
 use crate::tallies::Tally;
-use channels::{Receiver, Sender};
 use history::Refusal;
 use picked::ValueQueue;
 use post_office::PostOffice;
+use shared_queue::{Receiver, Sender};
 use std::alloc::Global;
 use std::sync::Wait;
 use std::thread;

@@ -4,7 +4,7 @@ use Rattle.std.proofs.lemmas.List.{map-append}
 use Rattle.carriers.specs.declared.items.ItemOf.{ItemOf}
 use Rattle.carriers.specs.Deeds.{Deed, did_push, did_pop}
 use Rattle.carriers.specs.Knowledge.{KnownOf}
-use Rattle.blocking_carrier.specs.Answers.{ReceivedOf}
+use Rattle.shared_queue.specs.Answers.{ReceivedOf}
 use Rattle.tasks.specs.declared.answers.Done.{Done}
 use Rattle.tasks.specs.declared.runs.Numbered.{Numbered}
 use Rattle.tasks.specs.Tasks.{IsDoneOf}

@@ -7,8 +7,8 @@ use Rattle.history.specs.declared.refusals.Refusal.TheVariants.{Closed, WornOut}
 use Rattle.carriers.specs.declared.items.ItemOf.{ItemOf}
 use Rattle.carriers.specs.Deeds.{did_pop}
 use Rattle.carriers.specs.Knowledge.{KnownOf}
-use Rattle.blocking_carrier.specs.Answers.{ReceivedOf, RecvRefusedOf, EndsAfterWaitOf}
-use Rattle.blocking_carrier.specs.Waits.{WaitedOf, EmptySinceOf}
+use Rattle.shared_queue.specs.Answers.{ReceivedOf, RecvRefusedOf, EndsAfterWaitOf}
+use Rattle.shared_queue.specs.Waits.{WaitedOf, EmptySinceOf}
 use Rattle.tasks.specs.declared.answers.Done.{Done}
 use Rattle.tasks.specs.declared.runs.Numbered.{Numbered}
 use Rattle.tasks.specs.declared.turns.End.{End}

@@ -7,7 +7,7 @@ use Rattle.carriers.specs.declared.items.ItemOf.{ItemOf}
 use Rattle.carriers.specs.Deeds.{did_push, did_pop}
 use Rattle.carriers.specs.Knowledge.{KnownOf}
 use Rattle.carriers.specs.Answers.{PushedOf, EndsByTryOf}
-use Rattle.blocking_carrier.specs.Causes.{SendCause}
+use Rattle.shared_queue.specs.Causes.{SendCause}
 use Rattle.tasks.specs.declared.answers.Done.{Done}
 use Rattle.tasks.specs.declared.runs.Numbered.{Numbered}
 use Rattle.tasks.specs.declared.turns.End.{End}

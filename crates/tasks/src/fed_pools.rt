@@ -5,7 +5,7 @@ ghost use denote.Param.Send.{IsSend, IsSync};
 ghost use Rattle.carriers.specs.Ends.{AsksSoMany};
 ghost use Rattle.carriers.specs.Rests.{left_in};
 ghost use Rattle.tasks.specs.declared.answers.Done.{Done};
-ghost use Rattle.blocking_carrier.specs.Queues.{queue_of};
+ghost use Rattle.shared_queue.specs.Queues.{queue_of};
 ghost use Rattle.tasks.specs.Answered.{value_in};
 ghost use Rattle.tasks.specs.Workers.{IsPost, IsServed};
 ghost use Rattle.tasks.specs.Leaders.{IsLeading, HasEnded};
@@ -22,9 +22,9 @@ use crate::runs::{Numbered, Task};
 use crate::stops::{AnyReason, Stop};
 use crate::turns::End;
 use crate::worker::{Served, serve};
-use blocking_carrier::BlockingCarrier;
 use carriers::{Carrier, CloseCarrier, RestOf};
 use history::Refusal;
+use shared_queue::SharedQueue;
 use std::alloc::Global;
 use std::sync::Wait;
 use std::thread::Threads;
@@ -220,8 +220,8 @@ fn run_team<
     D: Carrier<Item = Done<Result<T::Output, T::Error>>> + Sync,
 >(
     rt: &R,
-    tasks: &BlockingCarrier<C>,
-    results: &BlockingCarrier<D>,
+    tasks: &SharedQueue<C>,
+    results: &SharedQueue<D>,
     posts: Vec<Post<C::Seat, D::Seat>>,
     leader: Leader<C::Seat, D::Seat, F>,
     workers: Vec<Served<C::Seat, D::Seat, Result<T::Output, T::Error>>>,
@@ -296,8 +296,8 @@ fn run_in<
     ensures idle { result.refused ≡ None → F.idle result.feed }
     ensures joined { length result.ends.items + 1 ≡ length tasks.seats.items }
 {
-    let queue = BlockingCarrier::new(tasks.queue);
-    let answers = BlockingCarrier::new(results.queue);
+    let queue = SharedQueue::new(tasks.queue);
+    let answers = SharedQueue::new(results.queue);
     let mut takers = tasks.seats;
     let mut givers = results.seats;
     let Some(tasks) = takers.pop() else {

@@ -1,6 +1,6 @@
 //! What is done in the caller's thread: tasks are handed out, and results told.
 ghost use Rattle.std.specs.Prelude.{◌≡◌, ◌⊎◌, ◌<◌, IsTrue, IfOk, None};
-ghost use Rattle.blocking_carrier.specs.Queues.{queue_of};
+ghost use Rattle.shared_queue.specs.Queues.{queue_of};
 ghost use Rattle.tasks.specs.Leaders.{IsLeading, GoesOn, HasEnded};
 
 use crate::answers::Done;
@@ -8,9 +8,9 @@ use crate::feeds::Feed;
 use crate::runs::{Numbered, Task};
 use crate::stops::{AnyReason, Stop, shut_or_stop};
 use crate::turns::{End, take};
-use blocking_carrier::BlockingCarrier;
 use carriers::{Carrier, Unpushed};
 use history::Refusal;
+use shared_queue::SharedQueue;
 use std::sync::Wait;
 
 /// Who hands out the tasks: its seats of both queues, the feed, how many tasks were given, and of how many tasks that were
@@ -41,8 +41,8 @@ fn take_result<
     D: Carrier<Item = Done<Result<T::Output, T::Error>>>,
 >(
     rt: &R,
-    tasks: &BlockingCarrier<C>,
-    results: &BlockingCarrier<D>,
+    tasks: &SharedQueue<C>,
+    results: &SharedQueue<D>,
     leader: &mut Leader<C::Seat, D::Seat, F>,
 ) -> Result<bool, Refusal>
     requires { IsLeading C.is_seat C.permits C.known D.is_seat D.permits D.known T.answers F.stands
@@ -74,8 +74,8 @@ fn hand_out<
     D: Carrier<Item = Done<Result<T::Output, T::Error>>>,
 >(
     rt: &R,
-    tasks: &BlockingCarrier<C>,
-    results: &BlockingCarrier<D>,
+    tasks: &SharedQueue<C>,
+    results: &SharedQueue<D>,
     leader: &mut Leader<C::Seat, D::Seat, F>,
 ) -> Result<bool, Refusal>
     requires { IsLeading C.is_seat C.permits C.known D.is_seat D.permits D.known T.answers F.stands
@@ -109,8 +109,8 @@ fn help<
     D: Carrier<Item = Done<Result<T::Output, T::Error>>>,
 >(
     rt: &R,
-    tasks: &BlockingCarrier<C>,
-    results: &BlockingCarrier<D>,
+    tasks: &SharedQueue<C>,
+    results: &SharedQueue<D>,
     leader: &mut Leader<C::Seat, D::Seat, F>,
 ) -> Result<bool, Refusal>
     requires leading { IsLeading C.is_seat C.permits C.known D.is_seat D.permits D.known T.answers
@@ -148,8 +148,8 @@ fn wait_for<
     D: Carrier<Item = Done<Result<T::Output, T::Error>>>,
 >(
     rt: &R,
-    tasks: &BlockingCarrier<C>,
-    results: &BlockingCarrier<D>,
+    tasks: &SharedQueue<C>,
+    results: &SharedQueue<D>,
     leader: &mut Leader<C::Seat, D::Seat, F>,
     stop: &Stop<AnyReason>,
 ) -> Result<(), Refusal>
@@ -179,8 +179,8 @@ fn turn<
     D: Carrier<Item = Done<Result<T::Output, T::Error>>>,
 >(
     rt: &R,
-    tasks: &BlockingCarrier<C>,
-    results: &BlockingCarrier<D>,
+    tasks: &SharedQueue<C>,
+    results: &SharedQueue<D>,
     leader: &mut Leader<C::Seat, D::Seat, F>,
     stop: &Stop<AnyReason>,
 ) -> Result<bool, Refusal>
@@ -213,8 +213,8 @@ fn lead_on<
     D: Carrier<Item = Done<Result<T::Output, T::Error>>>,
 >(
     rt: &R,
-    tasks: &BlockingCarrier<C>,
-    results: &BlockingCarrier<D>,
+    tasks: &SharedQueue<C>,
+    results: &SharedQueue<D>,
     leader: &mut Leader<C::Seat, D::Seat, F>,
     stop: &Stop<AnyReason>,
 ) -> Option<Refusal>
@@ -246,8 +246,8 @@ pub(crate) fn lead<
     D: Carrier<Item = Done<Result<T::Output, T::Error>>>,
 >(
     rt: &R,
-    tasks: &BlockingCarrier<C>,
-    results: &BlockingCarrier<D>,
+    tasks: &SharedQueue<C>,
+    results: &SharedQueue<D>,
     mut leader: Leader<C::Seat, D::Seat, F>,
     stop: &Stop<AnyReason>,
 ) -> Led<C::Seat, D::Seat, F>

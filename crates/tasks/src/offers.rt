@@ -3,7 +3,7 @@ ghost use Rattle.std.specs.Prelude.{◌≡◌, ◌<◌, length, IfOk, IfErr, OnO
 ghost use Rattle.history.specs.Seats.{MayPush};
 ghost use Rattle.history.specs.Answers.{EndsPush};
 ghost use Rattle.carriers.specs.Answers.{PushedOf, EndsByTryOf};
-ghost use Rattle.blocking_carrier.specs.Queues.{queue_of};
+ghost use Rattle.shared_queue.specs.Queues.{queue_of};
 ghost use Rattle.tasks.specs.Gathers.{slots_in};
 ghost use Rattle.tasks.specs.Offers.{RanHere, OffersNext, HasOffered, HasLed};
 
@@ -11,9 +11,9 @@ use crate::answers::Outcome;
 use crate::gathers::Gather;
 use crate::runs::{Numbered, Task};
 use crate::stops::{Stop, Unshut, shut_or_stop};
-use blocking_carrier::BlockingCarrier;
 use carriers::{Carrier, Unpushed};
 use history::Refusal;
+use shared_queue::SharedQueue;
 use std::sync::Wait;
 
 /// What the submitter brings back: its seat, what became of the tasks that it ran itself, why it last ran one, and why the
@@ -127,7 +127,7 @@ pub fn offer_all<R: Wait, T: Task, C: Carrier<Item = Numbered<T>>>(
 /// Takes what memory the tasks take that are run here, and waits.
 pub fn lead<R: Wait, T: Task, C: Carrier<Item = Numbered<T>>>(
     rt: &R,
-    queue: &BlockingCarrier<C>,
+    queue: &SharedQueue<C>,
     mut seat: C::Seat,
     tasks: Vec<T>,
     mut gather: Gather<T, Result<T::Output, T::Error>>,

@@ -5,7 +5,7 @@ ghost use denote.Param.Send.{IsSend, IsSync};
 ghost use Rattle.history.specs.Seats.{MayPush};
 ghost use Rattle.carriers.specs.Ends.{AsksSoMany};
 ghost use Rattle.carriers.specs.Rests.{left_in};
-ghost use Rattle.blocking_carrier.specs.Queues.{queue_of};
+ghost use Rattle.shared_queue.specs.Queues.{queue_of};
 ghost use Rattle.tasks.specs.Tasks.{AreTold};
 ghost use Rattle.tasks.specs.Gathers.{slots_in, fills};
 ghost use Rattle.tasks.specs.Turns.{IsBack};
@@ -22,9 +22,9 @@ use crate::parts::{Parts, part, parts_for};
 use crate::runs::{Numbered, Task};
 use crate::stops::{Stop, Unshut};
 use crate::turns::{End, Worked, work};
-use blocking_carrier::BlockingCarrier;
 use carriers::{Carrier, CloseCarrier, RestOf};
 use history::Refusal;
+use shared_queue::SharedQueue;
 use std::alloc::Global;
 use std::sync::Wait;
 use std::thread::Threads;
@@ -111,7 +111,7 @@ fn told<T: Drop, A: Drop>(
 fn run_batch<R: Threads + Wait + Sync, T: Task, C: Carrier<Item = Numbered<T>> + Sync>(
     rt: &R,
     alloc: Global,
-    queue: &BlockingCarrier<C>,
+    queue: &SharedQueue<C>,
     takers: Vec<C::Seat>,
     batch: Batch<C::Seat, T, Result<T::Output, T::Error>>,
     workers: Vec<Worked<C::Seat, Vec<Done<Result<T::Output, T::Error>>>>>,
@@ -185,7 +185,7 @@ fn run_in<R: Threads + Wait + Sync, T: Task, C: CloseCarrier<Item = Numbered<T>>
         tasks,
         gather,
     };
-    let queue = BlockingCarrier::new(queue);
+    let queue = SharedQueue::new(queue);
     let (led, workers) = run_batch(rt, alloc, &queue, seats, batch, workers);
     let Led {
         seat,

@@ -2,13 +2,13 @@
 ghost use Rattle.std.specs.Prelude.{◌≡◌, true, IfSome};
 ghost use Rattle.history.specs.Seats.{MayPush};
 ghost use Rattle.carriers.specs.Answers.{EndsByTryOf};
-ghost use Rattle.blocking_carrier.specs.Queues.{queue_of};
+ghost use Rattle.shared_queue.specs.Queues.{queue_of};
 ghost use Rattle.tasks.specs.Offers.{EndsShutBy};
 
-use blocking_carrier::BlockingCarrier;
 use blocking_queue::Deadline;
 use carriers::Carrier;
 use history::Refusal;
+use shared_queue::SharedQueue;
 use std::marker::PhantomData;
 use std::snapshot::Snapshot;
 use std::sync::Wait;
@@ -87,7 +87,7 @@ impl<W> Deadline for Stop<W> {
 /// Shuts the queue, which wakes the workers that sleep; where it can't be shut, tells them to stop, and tells why.
 pub(crate) fn shut_or_stop<R: Wait, C: Carrier, W>(
     rt: &R,
-    queue: &BlockingCarrier<C>,
+    queue: &SharedQueue<C>,
     seat: &mut C::Seat,
     stop: &Stop<W>,
 ) -> Option<Refusal>

@@ -1,17 +1,17 @@
 //! A worker's turns: it takes tasks from a queue of values, and runs them.
 ghost use Rattle.std.specs.Prelude.{◌≡◌, IfOk, IfErr, OnOk, OnErr};
 ghost use Rattle.history.specs.Seats.{MayPop};
-ghost use Rattle.blocking_carrier.specs.Queues.{queue_of};
-ghost use Rattle.blocking_carrier.specs.Answers.{ReceivedOf};
+ghost use Rattle.shared_queue.specs.Queues.{queue_of};
+ghost use Rattle.shared_queue.specs.Answers.{ReceivedOf};
 ghost use Rattle.tasks.specs.Turns.{RunsOne, EndsTurn, IsBack};
 
 use crate::answers::Done;
 use crate::rooms::{NoRoom, make_room};
 use crate::runs::{Numbered, Task};
 use crate::stops::Stop;
-use blocking_carrier::{BlockingCarrier, InTime};
 use carriers::{Carrier, ItemOf};
 use history::Refusal;
+use shared_queue::{InTime, SharedQueue};
 use std::alloc::Global;
 use std::sync::Wait;
 
@@ -39,7 +39,7 @@ pub struct Worked<S, D> {
 /// Takes the next value, and sleeps while there is none; how the worker ends where none comes.
 pub(crate) fn take<R: Wait, C: Carrier, W>(
     rt: &R,
-    queue: &BlockingCarrier<C>,
+    queue: &SharedQueue<C>,
     seat: &mut C::Seat,
     stop: &Stop<W>,
 ) -> Result<ItemOf<C::Item>, End>
@@ -68,7 +68,7 @@ pub(crate) fn take<R: Wait, C: Carrier, W>(
 /// `Refused` where a word is worn out. Takes memory for an answer and what the task takes, and waits.
 pub fn run_next<R: Wait, T: Task, C: Carrier<Item = Numbered<T>>, W>(
     rt: &R,
-    queue: &BlockingCarrier<C>,
+    queue: &SharedQueue<C>,
     seat: &mut C::Seat,
     stop: &Stop<W>,
     done: &mut Vec<Done<Result<T::Output, T::Error>>>,
@@ -108,7 +108,7 @@ pub fn run_next<R: Wait, T: Task, C: Carrier<Item = Numbered<T>>, W>(
 pub fn work<R: Wait, T: Task, C: Carrier<Item = Numbered<T>>, W>(
     rt: &R,
     alloc: Global,
-    queue: &BlockingCarrier<C>,
+    queue: &SharedQueue<C>,
     mut seat: C::Seat,
     stop: &Stop<W>,
 ) -> Worked<C::Seat, Vec<Done<Result<T::Output, T::Error>>>>

@@ -1,7 +1,7 @@
 //! What a worker does: it takes tasks from one queue, and sends their results through another one.
 ghost use Rattle.std.specs.Prelude.{◌≡◌, IfErr};
 ghost use Rattle.history.specs.Seats.{MayPush};
-ghost use Rattle.blocking_carrier.specs.Queues.{queue_of};
+ghost use Rattle.shared_queue.specs.Queues.{queue_of};
 ghost use Rattle.tasks.specs.Tasks.{IsDoneOf};
 ghost use Rattle.tasks.specs.Workers.{Sends, EndsSending, ServesOne, EndsServing, IsPost, IsServed, EndsByLast};
 
@@ -10,9 +10,9 @@ use crate::posts::Post;
 use crate::runs::{Numbered, Task};
 use crate::stops::{AnyReason, Stop};
 use crate::turns::{End, Worked, take};
-use blocking_carrier::{BlockingCarrier, InTime};
 use carriers::{Carrier, Unpushed};
 use history::Refusal;
+use shared_queue::{InTime, SharedQueue};
 use std::sync::Wait;
 
 /// What a worker brings back: its seats, and a result that it couldn't send.
@@ -29,7 +29,7 @@ pub(crate) struct Unsendable<A> {
 // hands out the tasks waits for no result then.
 fn send<R: Wait, A, D: Carrier<Item = Done<A>>>(
     rt: &R,
-    queue: &BlockingCarrier<D>,
+    queue: &SharedQueue<D>,
     seat: &mut D::Seat,
     done: Done<A>,
     stop: &Stop<AnyReason>,
@@ -67,8 +67,8 @@ fn serve_one<
     D: Carrier<Item = Done<Result<T::Output, T::Error>>>,
 >(
     rt: &R,
-    tasks: &BlockingCarrier<C>,
-    results: &BlockingCarrier<D>,
+    tasks: &SharedQueue<C>,
+    results: &SharedQueue<D>,
     post: &mut Post<C::Seat, D::Seat>,
     stop: &Stop<AnyReason>,
 ) -> Result<(), (Option<Done<Result<T::Output, T::Error>>>, End)>
@@ -101,8 +101,8 @@ pub(crate) fn serve<
     D: Carrier<Item = Done<Result<T::Output, T::Error>>>,
 >(
     rt: &R,
-    tasks: &BlockingCarrier<C>,
-    results: &BlockingCarrier<D>,
+    tasks: &SharedQueue<C>,
+    results: &SharedQueue<D>,
     mut post: Post<C::Seat, D::Seat>,
     stop: &Stop<AnyReason>,
 ) -> Served<C::Seat, D::Seat, Result<T::Output, T::Error>>

@@ -1,3 +1,4 @@
+mod Firsts
 mod Futures
 mod Lists
 mod Covering

@@ -1,15 +1,15 @@
 -- What is left without an operation that may be taken out.
-use Rattle.std.proofs.Common.{◌≡◌, ℕ, zero, suc, ◌+◌, ◌-◌, ◌<◌, ◌≤◌, nat_lt, Bool, true, false, inl, inr, List, [], ◌∷◌, ◌++◌, Option, None, Some, length, take, drop, map, slice_get, refl, sym, ap, ◌∙◌, subst, arith}
+use Rattle.std.proofs.Common.{◌≡◌, ℕ, zero, suc, ◌+◌, ◌-◌, ◌<◌, ◌≤◌, nat_lt, nat_le, cond, Bool, true, false, inl, inr, List, [], ◌∷◌, ◌++◌, Option, None, Some, length, take, drop, map, slice_get, refl, sym, ap, ◌∙◌, subst, arith}
 use Rattle.std.specs.List.{AllByRecursion}
 use Rattle.std.specs.List.Sorted.{IsPermutation}
-use Rattle.std.proofs.lemmas.Bool.{ltb-true, ltb-false}
+use Rattle.std.proofs.lemmas.Bool.{leb-true, ltb-true, ltb-false}
 use Rattle.std.proofs.lemmas.List.{map-append, append_assoc}
 use Rattle.std.proofs.lemmas.List.Sorted.{IsPermutation-refl, IsPermutation-trans, IsPermutation-cons, IsPermutation-middle, IsPermutation-append_left, IsPermutation-append_right}
 use Rattle.std.proofs.lemmas.Option.{slice_get_within, none-some, same_Some}
 use Rattle.history.specs.declared.operations.Stamped.{Stamped}
 use Rattle.waiting_orders.specs.declared.lines.Pick.{Pick}
 use Rattle.waiting_orders.specs.Waiting.{is_open_at}
-use Rattle.waiting_orders.specs.Lines.{Left, Out, HasOut, ArePicks, left_of, picked, cat, without, gathered, spelled, without_kept, without_later, out_of, out_kept, kept_at, later_at, all_kept, later_to, view_left, view_picks}
+use Rattle.waiting_orders.specs.Lines.{Left, Out, HasOut, ArePicks, AreOut, left_of, picked, cat, without, gathered, spelled, without_kept, without_later, out_of, out_kept, kept_at, later_at, all_kept, later_to, view_left, view_picks}
 use Rattle.waiting_orders.proofs.Picking.{found_first}
 use Rattle.waiting_orders.proofs.Places.{gathered_next, without_split, get_dropped, drop_twice, cat_append, map_without, get_mapped, where_is, IsWhere, all_at, run_is, taken_out}
 
@@ -21,6 +21,10 @@ out_left ops (x ∷ xs) ys o rest (inr h) = inr (out_left ops xs ys o rest h)
 out_right : (ops : List Stamped) (xs ys : List Out) (o : Stamped) (rest : List Stamped) → HasOut ops ys o rest → HasOut ops (xs ++ ys) o rest
 out_right ops [] ys o rest h = h
 out_right ops (x ∷ xs) ys o rest h = inr (out_right ops xs ys o rest h)
+
+outs_joined : (P : Out → Type 0) (xs ys : List Out) → AllByRecursion P xs → AllByRecursion P ys → AllByRecursion P (xs ++ ys)
+outs_joined P [] ys a b = b
+outs_joined P (x ∷ xs) ys a b = (a.0, outs_joined P xs ys a.1 b)
 
 out_gathered : (ops : List Stamped) (f : ℕ → List Out) (from to k : ℕ) (o : Stamped) (rest : List Stamped) → from ≤ k → k < to → HasOut ops (f k) o rest → HasOut ops (gathered f from to) o rest
 out_gathered ops f from zero k o rest a b h = absurd (omega (arith, b))
@@ -136,3 +140,42 @@ later_out ops left place o h e =
     subst (λ l. IsPermutation (left_of ops left) (o ∷ l)) (sym is)
     (IsPermutation-trans _ _ _ (IsPermutation-append_right (picked ops left.kept) (drop left.from ops) (o ∷ without (place - left.from) (drop left.from ops)) out)
     (IsPermutation-middle (picked ops left.kept) o (without (place - left.from) (drop left.from ops))))
+
+-- ---- what is picked is left
+
+all_gathered : (P : Out → Type 0) (f : ℕ → List Out) (from to : ℕ) → ((k : ℕ) → from ≤ k → AllByRecursion P (f k)) → AllByRecursion P (gathered f from to)
+all_gathered P f from zero h = tt
+all_gathered P f from (suc to) h = go (nat_le from to) refl (all_gathered P f from to h)
+  where
+    go : (b : Bool) → nat_le from to ≡ b → AllByRecursion P (gathered f from to) → AllByRecursion P (cond b (gathered f from to ++ f to) [])
+    go true e more = outs_joined P (gathered f from to) (f to) more (h to (leb-true from to e))
+    go false e more = tt
+
+module _ (ops : List Stamped) (left : Left) where
+  abbrev IsOut : Out → Type 0
+  IsOut out = IsPermutation (left_of ops left) (out.operation ∷ left_of ops out.left)
+
+  kept_are : (at : ℕ) → AllByRecursion IsOut (kept_at ops left at)
+  kept_are at = go (slice_get left.kept at) refl
+    where
+      one : (place : ℕ) → slice_get left.kept at ≡ Some place → (x : Option Stamped) → slice_get ops place ≡ x → AllByRecursion IsOut (out_of x (without_kept at left))
+      one place e None f = tt
+      one place e (Some o) f = (kept_out ops left at place o e f, tt)
+
+      go : (x : Option ℕ) → slice_get left.kept at ≡ x → AllByRecursion IsOut (out_kept ops left at x)
+      go None e = tt
+      go (Some place) e = one place e (slice_get ops place) refl
+
+  later_are : (place : ℕ) → left.from ≤ place → AllByRecursion IsOut (later_at ops left place)
+  later_are place h = go (slice_get ops place) refl
+    where
+      go : (x : Option Stamped) → slice_get ops place ≡ x → AllByRecursion IsOut (out_of x (without_later place left))
+      go None e = tt
+      go (Some o) e = (later_out ops left place o h e, tt)
+
+-- all that was kept, and all behind those up to a place, that were pushed one after another
+pub picked_are : (ops : List Stamped) (left : Left) (until : ℕ) (all : List Out) → all ≡ all_kept ops left ++ later_to ops left until → AreOut ops left all
+picked_are ops left until all e =
+    subst (AllByRecursion (IsOut ops left)) (sym e)
+    (outs_joined (IsOut ops left) (all_kept ops left) (later_to ops left until) (all_gathered (IsOut ops left) (kept_at ops left) 0 (length left.kept) (λ k h. kept_are ops left k))
+    (all_gathered (IsOut ops left) (later_at ops left) left.from until (later_are ops left)))

@@ -23,14 +23,14 @@ use Rattle.waiting_orders.proofs.Picking.{found_first, filter_moved}
 use Rattle.waiting_orders.proofs.Places.{taken_out, in_part, all_at}
 use Rattle.waiting_orders.proofs.Stepping.{max_least, filter_all, filter_none, flipped, untold_unended}
 
-le_max_left : (a b : ℕ) → a ≤ max a b
+pub le_max_left : (a b : ℕ) → a ≤ max a b
 le_max_left a b = go (nat_le a b) refl
   where
     go : (t : Bool) → nat_le a b ≡ t → a ≤ max a b
     go true e = let l : a ≤ b = leb-true a b e in subst (λ m. a ≤ m) (sym (max-eq_right l)) l
     go false e = let l : b < a = leb-false a b e in subst (λ m. a ≤ m) (sym (max-eq_left (omega (arith, l)))) (omega arith)
 
-le_max_right : (a b : ℕ) → b ≤ max a b
+pub le_max_right : (a b : ℕ) → b ≤ max a b
 le_max_right a b = go (nat_le a b) refl
   where
     go : (t : Bool) → nat_le a b ≡ t → b ≤ max a b

@@ -18,9 +18,9 @@ use Rattle.history.specs.declared.operations.Reply.TheVariants.{Done, Value, Emp
 use Rattle.history.specs.declared.operations.Stamped.{Stamped}
 use Rattle.history.specs.History.{leaves, is_closed}
 use Rattle.waiting_orders.specs.declared.lines.Pick.{Pick}
-use Rattle.waiting_orders.specs.declared.nodes.Front.{Front}
+use Rattle.waiting_orders.specs.declared.steps.Front.{Front}
 use Rattle.waiting_orders.specs.declared.boards.Board.{Board}
-use Rattle.waiting_orders.specs.Waiting.{IsCall, State, HasEffect, GetsRefused, Takes, Pushes, FindsEmpty, IsToldDrained, Shuts, IsEnd, Same, Where, IsOpenAt, OtherIsOpen, PushIsOpen, IsUntold, OtherIsUntold, waits, is_push, every, is_open_at, other_is_open, may_stay, pushes_value, fits}
+use Rattle.waiting_orders.specs.Waiting.{IsCall, State, Step, HasEffect, GetsRefused, Takes, Pushes, FindsEmpty, IsToldDrained, Shuts, IsEnd, Same, Where, IsOpenAt, OtherIsOpen, PushIsOpen, IsUntold, OtherIsUntold, waits, is_push, every, is_open_at, other_is_open, may_stay, pushes_value, fits}
 use Rattle.waiting_orders.specs.Lines.{Left, IsLimit, ArePicks, left_of, view_left, view_picks, without, cat, picked, spelled}
 use Rattle.waiting_orders.specs.Nodes.{Spot, Among, AreCalls, HasSteps, state_of, each, where_so, time_of, stay, began, began_by, goes, may_go, shut_of, take_of, take_at, takes_to, refused_of, steps_of, steps_at, steps_to}
 use Rattle.waiting_orders.proofs.Futures.{all_moved, all_every, every_all}
@@ -344,7 +344,8 @@ module _ (board : Board) (s : Spot) (f : Front) (ways : List Pick) (calls : AreC
       let by : max (time_of s w.pick) take.operation.first ≤ t.time = max_least _ _ t.time (time_by w.pick w.is) (subst (λ p. p.first ≤ t.time) (sym k.3) h.began) in
       let one : Among board (take_of suits s f w.pick take) t =
       among_where board _ (view_left w.pick.rest) (view_left take.rest) s.shut (max (time_of s w.pick) take.operation.first) t
-      (both_true _ _ (subst (λ p. suits p ≡ true) (sym k.3) (fit p h.pushes)) (open_now _ by))
+      (both_true _ _ (both_true _ _ (subst (λ p. suits p ≡ true) (sym k.3) (fit p h.pushes))
+      (subst (λ p. is_open_at p.first f.push_limit ≡ true) (sym k.3) (push_limit.needed p.first all_open))) (open_now _ by))
       (record {
         left = IsPermutation-trans _ _ _ g.2 (IsPermutation-append w.left (left_of all_others (view_left w.pick.rest)) g.0 (left_of all_pushes (view_left take.rest)) w.same k.4);
         shut = sym h.same;
@@ -528,11 +529,19 @@ module _ (board : Board) (s : Spot) (f : Front) (ways : List Pick) (calls : AreC
 pub each_step : (board : Board) (s : Spot) (f : Front) (ways : List Pick) (new : List Spot)
     → IsLimit (left_of board.others.operations.items s.others) f.limit → IsLimit (left_of board.pushes.operations.items s.pushes) f.push_limit
     → ArePicks board.others.operations.items s.others f.limit (view_picks ways) → ArePicks board.pushes.operations.items s.pushes f.push_limit (view_picks f.takes.items)
-    → new ≡ steps_to (length ways) board.pushes.operations.items s f ways → HasSteps board s new
+    → new ≡ steps_to (length ways) board.pushes.operations.items s f ways → AreCalls board → (t : State) → Step (state_of board s) t → Among board new t
 each_step board s f ways new limit push_limit ways_are takes_are is calls t h =
     subst (λ us. Among board us t) (sym is)
     (one_placed board s f ways calls limit push_limit ways_are takes_are t h.operation h.since h.began h.ongoing
     (no_push h.operation.op h.operation.reply h.operation (state_of board s) t h.effect) h.effect)
+
+-- so where a state can be placed to the end, one of those can be
+pub all_steps : (board : Board) (s : Spot) (f : Front) (ways : List Pick) (new : List Spot)
+    → IsLimit (left_of board.others.operations.items s.others) f.limit → IsLimit (left_of board.pushes.operations.items s.pushes) f.push_limit
+    → ArePicks board.others.operations.items s.others f.limit (view_picks ways) → ArePicks board.pushes.operations.items s.pushes f.push_limit (view_picks f.takes.items)
+    → new ≡ steps_to (length ways) board.pushes.operations.items s f ways → HasSteps board s new
+all_steps board s f ways new limit push_limit ways_are takes_are is calls n (inl h) = inl h
+all_steps board s f ways new limit push_limit ways_are takes_are is calls n (inr h) = inr (h.0, each_step board s f ways new limit push_limit ways_are takes_are is calls h.0 h.1, h.2)
 
 -- an end is one where no other that is left ended
 pub unended : (board : Board) (s : Spot) → AreCalls board → IsEnd (state_of board s) → AllByRecursion (λ o. o.last ≡ None) (left_of board.others.operations.items s.others)

@@ -1,14 +1,14 @@
 -- One more state is tried, or was known, or none is left.
-use Rattle.std.proofs.Common.{◌≡◌, ◌⊎◌, inl, inr, ℕ, zero, suc, List, [], ◌∷◌, ◌++◌, ◌<◌, length, get_or, refl, sym, ap, ◌∙◌, subst, arith}
+use Rattle.std.proofs.Common.{◌≡◌, ◌⊎◌, inl, inr, ℕ, zero, suc, List, [], ◌∷◌, ◌++◌, ◌+◌, ◌<◌, ◌≤◌, length, get_or, refl, sym, ap, ◌∙◌, subst, arith}
 use Rattle.std.specs.List.{AllByRecursion}
-use Rattle.std.proofs.lemmas.List.{append-nil, append_assoc, map-append}
+use Rattle.std.proofs.lemmas.List.{append-nil, append_assoc, map-append, length-append, length-map}
 use Rattle.std.proofs.lemmas.List.Sorted.{IsPermutation-refl}
 use Rattle.std.proofs.lemmas.List.Elements.{recursion_from_All}
 use Rattle.history.specs.declared.operations.Stamped.{Stamped}
 use Rattle.waiting_orders.specs.declared.boards.Board.{Board}
 use Rattle.waiting_orders.specs.declared.nodes.Node.{Node}
 use Rattle.waiting_orders.specs.Waiting.{IsOfQueue, IsCall, State, Same, IsEnd, CanEnd}
-use Rattle.waiting_orders.specs.Nodes.{Spot, Among, AreCalls, HasSteps, IsBoard, IsIn, Searched, WasTried, start, state_of, turned, view, views}
+use Rattle.waiting_orders.specs.Nodes.{Spot, Among, AreCalls, OneEnds, HasSteps, IsBoard, IsIn, Searched, WasTried, start, state_of, turned, view, views}
 use Rattle.waiting_orders.proofs.Covering.{walks}
 use Rattle.waiting_orders.proofs.Futures.{all_moved, same_futures}
 use Rattle.waiting_orders.proofs.Limits.{all_first, all_second}
@@ -34,9 +34,14 @@ module _ (board : Board) where
   among_in s (u ∷ us) t (inl e) h = inl (subst (λ s. Same t (state_of board s)) e h)
   among_in s (u ∷ us) t (inr i) h = inr (among_in s us t i h)
 
+  one_of : (us vs : List Spot) → ((t : State) → Among board us t → Among board vs t) → (s : Spot) (n : ℕ)
+      → IsEnd (state_of board s) ⊎ OneEnds board n us → IsEnd (state_of board s) ⊎ OneEnds board n vs
+  one_of us vs f s n (inl e) = inl e
+  one_of us vs f s n (inr h) = inr (h.0, f h.0 h.1, h.2)
+
   wider : (all more : List Spot) → ((t : State) → Among board all t → Among board more t) → (us : List Spot) → AllByRecursion (WasTried board all) us → AllByRecursion (WasTried board more) us
   wider all more f [] h = tt
-  wider all more f (u ∷ us) h = (record { no_end = h.0.no_end; steps = λ c t step. f t (h.0.steps c t step) }, wider all more f us h.1)
+  wider all more f (u ∷ us) h = (record { no_end = h.0.no_end; steps = λ c n e. one_of all more f u n (h.0.steps c n e) }, wider all more f us h.1)
 
   both_tried : (P : Spot → Type 0) (us : List Spot) (s : Spot) → AllByRecursion P us → P s → AllByRecursion P (us ++ s ∷ [])
   both_tried P [] s h p = (p, tt)
@@ -66,7 +71,7 @@ module _ (board : Board) where
   tried done ahead new s off steps h =
       record {
         start = moves (state_of board start) h.start;
-        tried = both_tried (WasTried board all) done s (wider (done ++ (ahead ++ s ∷ [])) all moves done h.tried) (record { no_end = off; steps = λ c t step. made t (steps c t step) });
+        tried = both_tried (WasTried board all) done s (wider (done ++ (ahead ++ s ∷ [])) all moves done h.tried) (record { no_end = off; steps = λ c n e. one_of new all made s n (steps c n e) });
       }
     where
       all : List Spot
@@ -95,11 +100,13 @@ module _ (board : Board) where
 
     no_end : (n : ℕ) (t : State) → Among board all t → CanEnd n t → ⊥
     no_end zero t a c = let f = found all done t a in f.1.no_end calls (same_futures 0 t (state_of board f.0) f.2 c)
-    no_end (suc n) t a c = let f = found all done t a in go (λ t a c. no_end n t a c) f.0 f.1 (same_futures (suc n) t (state_of board f.0) f.2 c)
+    no_end (suc n) t a c =
+        let f = found all done t a in
+        go (λ t a c. no_end n t a c) f.0 f.1 (f.1.steps calls n (same_futures (suc n) t (state_of board f.0) f.2 c))
       where
-        go : ((t : State) → Among board all t → CanEnd n t → ⊥) → (u : Spot) → WasTried board all u → CanEnd (suc n) (state_of board u) → ⊥
+        go : ((t : State) → Among board all t → CanEnd n t → ⊥) → (u : Spot) → WasTried board all u → IsEnd (state_of board u) ⊎ OneEnds board n all → ⊥
         go more u w (inl e) = w.no_end calls e
-        go more u w (inr e) = more e.0 (w.steps calls e.0 e.1) e.2
+        go more u w (inr e) = more e.0 e.1 e.2
 
 pub begins : (board : Board) → Searched board [] (start ∷ [])
 begins board = record { start = inl (record { left = IsPermutation-refl _; shut = refl; time = omega arith }); tried = tt }
@@ -160,3 +167,18 @@ in_views (m ∷ ns) (suc k) n s h e f = inr (in_views ns k n s (omega (arith, h)
 -- a state is the same as one that was read
 pub in_read : (items read : List Node) (k : ℕ) (n : Node) (s : Spot) → read ≡ items → k < length read → n ≡ get_or read k n → s ≡ view n → IsIn s (views items)
 in_read items read k n s same h e f = subst (λ l. IsIn s (views l)) same (in_views read k n s h e f)
+
+turned_length : (us : List Spot) → length (turned us) ≡ length us
+turned_length [] = refl
+turned_length (u ∷ us) = length-append (turned us) (u ∷ []) ∙ (let e = turned_length us in omega (arith, e))
+
+-- what was put ahead is no more than the bytes that it takes
+pub grown : (ahead after new : List Node) (old bytes now : ℕ) → views after ≡ views ahead ++ turned (views new) → length new ≤ bytes → now ≡ old + bytes
+    → length after + old ≤ length ahead + now
+grown ahead after new old bytes now e h is =
+    let a : length (views after) ≡ length after = length-map after view in
+    let b : length (views ahead) ≡ length ahead = length-map ahead view in
+    let c : length (views new) ≡ length new = length-map new view in
+    let d : length (turned (views new)) ≡ length (views new) = turned_length (views new) in
+    let f : length (views after) ≡ length (views ahead) + length (turned (views new)) = ap length e ∙ length-append (views ahead) (turned (views new)) in
+    omega (arith, a, b, c, d, f, h, is)

@@ -127,6 +127,10 @@ abbrev pub HasOut : List Stamped → List Out → Stamped → List Stamped → T
 HasOut ops [] o rest = ⊥
 HasOut ops (out ∷ outs) o rest = ((out.operation ≡ o) × IsPermutation rest (left_of ops out.left)) ⊎ HasOut ops outs o rest
 
+-- each of several is an operation that is left, with what is left without it
+abbrev pub AreOut : List Stamped → Left → List Out → Type 0
+AreOut ops left outs = AllByRecursion (λ out. IsPermutation (left_of ops left) (out.operation ∷ left_of ops out.left)) outs
+
 -- each operation that is left and began by a limit is there, with what is left without it
 abbrev pub ArePicks : List Stamped → Left → Option ℕ → List Out → Type 0
 ArePicks ops left limit outs =

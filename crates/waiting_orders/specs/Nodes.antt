@@ -11,9 +11,9 @@ use Rattle.history.specs.declared.operations.Stamped.{Stamped}
 use Rattle.history.specs.History.{leaves, is_closed}
 use Rattle.waiting_orders.specs.declared.lines.Pick.{Pick}
 use Rattle.waiting_orders.specs.declared.nodes.Node.{Node}
-use Rattle.waiting_orders.specs.declared.nodes.Front.{Front}
+use Rattle.waiting_orders.specs.declared.steps.Front.{Front}
 use Rattle.waiting_orders.specs.declared.boards.Board.{Board}
-use Rattle.waiting_orders.specs.Waiting.{IsCall, State, Step, Same, IsEnd, waits, is_open_at, fits}
+use Rattle.waiting_orders.specs.Waiting.{IsCall, State, Same, IsEnd, CanEnd, waits, is_open_at, fits}
 use Rattle.waiting_orders.specs.Lines.{Left, view_left, left_of, spelled, IsRising}
 
 -- what is left, whether the queue is shut, and the number of the last operation placed
@@ -107,7 +107,7 @@ shut_of pushes s f way =
 -- the state behind a take of a push that waits
 abbrev pub take_of : (Stamped → Bool) → Spot → Front → Pick → Pick → List Spot
 take_of suits s f way take =
-    where_so (suits take.operation && is_open_at (max (time_of s way) take.operation.first) f.limit) (view_left way.rest) (view_left take.rest) s.shut
+    where_so (suits take.operation && is_open_at take.operation.first f.push_limit && is_open_at (max (time_of s way) take.operation.first) f.limit) (view_left way.rest) (view_left take.rest) s.shut
     (max (time_of s way) take.operation.first)
 
 -- the state behind a take of the push at a place, if there is one
@@ -152,6 +152,37 @@ abbrev pub steps_to : ℕ → (pushes : List Stamped) → Spot → Front → (wa
 steps_to zero pushes s f ways = []
 steps_to (suc k) pushes s f ways = steps_to k pushes s f ways ++ steps_at pushes s f (slice_get ways k)
 
+-- ---- what changes nothing goes first
+
+-- whether an operation that changes nothing may go first: it was refused for something else than a shut, or told that the
+-- queue is empty, and no operation that is left ended before its number
+abbrev pub is_first : Option Reply → Op → Spot → Front → Pick → Bool
+is_first None op s f way = false
+is_first (Some Done) op s f way = false
+is_first (Some (Value v)) op s f way = false
+is_first (Some Empty) (Enq body) s f way = false
+is_first (Some Empty) Deq s f way = not s.shut && is_open_at (time_of s way) f.limit && is_open_at (time_of s way) f.push_limit
+is_first (Some Empty) Shut s f way = false
+is_first (Some (Refused refusal)) op s f way = leaves refusal
+
+-- whether the operation at a place, if there is one, may go first
+abbrev pub is_first_at : Spot → Front → Option Pick → Bool
+is_first_at s f None = false
+is_first_at s f (Some way) = is_first way.operation.reply way.operation.op s f way
+
+-- the number of the state behind it: what was refused may have its effect at any, and leaves it as it is
+abbrev pub quiet_time : Option Reply → Spot → Pick → ℕ
+quiet_time None s way = s.time
+quiet_time (Some Done) s way = s.time
+quiet_time (Some (Value v)) s way = s.time
+quiet_time (Some Empty) s way = time_of s way
+quiet_time (Some (Refused refusal)) s way = s.time
+
+-- the state behind the operation at a place, if there is one
+abbrev pub quiet_at : Spot → Option Pick → List Spot
+quiet_at s None = []
+quiet_at s (Some way) = one (view_left way.rest) s.pushes s.shut (quiet_time way.operation.reply s way)
+
 -- ---- what was tried
 
 -- one of these has the same left as a state
@@ -166,9 +197,13 @@ pub record AreCalls (board : Board) : Type 0 where
   pub other_calls : AllByRecursion IsCall board.others.operations.items
   pub push_calls : AllByRecursion IsCall board.pushes.operations.items
 
--- each step from a state leads to one of these
+-- one of these can be placed to the end within so many steps
+abbrev pub OneEnds : Board → ℕ → List Spot → Type 0
+OneEnds board n us = (t : State) × Among board us t × CanEnd n t
+
+-- where a state can be placed to the end, nothing is left, or one of these can be in a step less
 abbrev pub HasSteps : Board → Spot → List Spot → Type 0
-HasSteps board s new = AreCalls board → (t : State) → Step (state_of board s) t → Among board new t
+HasSteps board s new = AreCalls board → (n : ℕ) → CanEnd (suc n) (state_of board s) → IsEnd (state_of board s) ⊎ OneEnds board n new
 
 -- the same of a history with these operations
 abbrev pub HasStepsOver : (others pushes : List Stamped) → Spot → List Spot → Type 0
@@ -184,7 +219,7 @@ abbrev pub turned : List Spot → List Spot
 turned [] = []
 turned (u ∷ us) = turned us ++ u ∷ []
 
--- a state is no end, and each step leads to one of these
+-- a state is no end, and where it can be placed to the end, one of these can be in a step less
 pub record WasTried (board : Board) (all : List Spot) (s : Spot) : Type 0 where
   pub no_end : AreCalls board → IsEnd (state_of board s) → ⊥
   pub steps : HasSteps board s all

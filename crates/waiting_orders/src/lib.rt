@@ -6,7 +6,10 @@ pub mod laws;
 mod lines;
 mod nodes;
 mod operations;
+mod orders;
 mod searching;
 mod staying;
+mod steps;
+mod unchanging;
 
-pub use searching::{Outcome, searched};
+pub use searching::{Found, searched};

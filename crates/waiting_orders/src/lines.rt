@@ -161,8 +161,10 @@ impl Rest {
         limit: Option<u64>,
     ) -> Result<Vec<Pick>, AllocError>
         requires { lines.IsRising operations.now }
-        ensures { IfOk result (λ picks. lines.ArePicks operations.now (lines.view_left self.now)
+        ensures all { IfOk result (λ picks. lines.ArePicks operations.now (lines.view_left self.now)
             limit (lines.view_picks picks.items)) }
+        ensures each { IfOk result (λ picks. lines.AreOut operations.now (lines.view_left self.now)
+            (lines.view_picks picks.items)) }
     {
         let mut picks = Vec::new(alloc);
         self.push_all_kept(&mut picks, alloc, operations)?;

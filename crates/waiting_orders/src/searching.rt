@@ -1,24 +1,26 @@
 //! The search: states are tried, the last ones made first, until an end is found, none is left, or they take too much.
-ghost use Rattle.std.specs.Prelude.{◌≡◌, ◌++◌, ◌∷◌, [], true, None, Some, IfOk, OnOk};
-ghost use Rattle.waiting_orders.specs.declared.searching.Outcome.TheVariants.{Nothing};
+ghost use Rattle.std.specs.Prelude.{◌≡◌, ◌≤◌, ◌+◌, ◌++◌, ◌∷◌, [], true, None, Some, length, IfOk, OnOk};
+ghost use Rattle.waiting_orders.specs.declared.searching.Found.TheVariants.{Nothing};
 ghost use Rattle.waiting_orders.specs.Waiting.{IsOfQueue};
 ghost use Rattle.waiting_orders.specs.Nodes.{view, views, start, turned, AreRising, IsIn, Searched};
 ghost use Rattle.waiting_orders.specs.Search.{IsSearched};
 
 use crate::boards::Board;
-use crate::nodes::Node;
+use crate::nodes::{Node, bytes_of};
+use crate::orders::order;
 use history::Stamped;
 use std::alloc::{AllocError, Global};
 use std::collections::HashMap;
 
 /// What comes of a search.
-#[derive(Clone, Copy, Debug, PartialEq, Eq)]
-pub enum Outcome {
-    /// The operations that were told a reply can be placed to the end.
-    End,
+#[derive(Drop)]
+pub enum Found {
+    /// The operations can be placed to the end: their places in the history, in the order in which they have their effects.
+    /// All that were told a reply are among them, each once, and pending ones where they are needed.
+    Order(Vec<usize>),
     /// No state is left to try.
     Nothing,
-    /// The states take more room than they may.
+    /// The states that were made take as many bytes as they may.
     Room,
 }
 
@@ -29,34 +31,36 @@ struct Search {
     ahead: Vec<Node>,
     /// Where states that were tried stand, by their marks: of those with one mark, the last.
     places: HashMap<u64, usize>,
-    /// How many bytes the states take that were tried.
+    /// How many bytes the states take that were made.
     bytes: u64,
 }
 
 /// Whether the operations of a recorded history can be placed one after another, pushes where their values are taken, by
-/// states that take at most so many bytes.
+/// states that take fewer bytes than `room`.
 ///
 /// The call takes memory and time for each state. It doesn't wait.
-#[tactic(auto, using(crate::proofs::Trying::begins_so))]
-pub fn searched(alloc: Global, history: &[Stamped], room: u64) -> Result<Outcome, AllocError>
+#[tactic(auto, using(crate::proofs::Trying::seen_ahead))]
+pub fn searched(alloc: Global, history: &[Stamped], room: u64) -> Result<Found, AllocError>
     //= judge/nothing: Where a search has no state left to try, the recorded history is not one of a queue.
-    ensures none { IfOk result (λ outcome. outcome ≡ Nothing → ¬ IsOfQueue history.now) }
+    ensures none { IfOk result (λ found. found ≡ Nothing → ¬ IsOfQueue history.now) }
 {
     let board = Board::of(alloc, history)?;
     let mut search = Search::new(alloc)?;
-    for _ in 0..u64::MAX {
-        match search.step(alloc, &board, room)? {
-            Some(outcome) => return Ok(outcome),
+    while let Some(node) = search.ahead.pop() {
+        match search.try_one(alloc, &board, room, node)? {
+            Some(found) => return Ok(found),
             None => {}
         }
     }
-    Ok(Outcome::Room)
+    Ok(Found::Nothing)
 }
 
 impl Search {
     fn new(alloc: Global) -> Result<Search, AllocError>
         ensures { IfOk result (λ search.
-            (views search.done.items ≡ []) × (views search.ahead.items ≡ start ∷ [])) }
+            (views search.done.items ≡ [])
+            × (views search.ahead.items ≡ start ∷ [])
+            × (search.bytes ≡ 0)) }
     {
         let mut ahead = Vec::new(alloc);
         ahead.push(Node::start(alloc))?;
@@ -68,28 +72,6 @@ impl Search {
         })
     }
 
-    // Tries one state, where one is left.
-    #[tactic(auto, using(crate::proofs::Trying::seen_ahead))]
-    fn step(
-        &mut self,
-        alloc: Global,
-        board: &Board,
-        room: u64,
-    ) -> Result<Option<Outcome>, AllocError>
-        requires { AreRising board.now }
-        ensures kept { IsSearched board.now self.old
-            → IfOk result (λ outcome. outcome ≡ None → IsSearched board.now self.new) }
-        ensures none { IfOk result (λ outcome. outcome ≡ Some Nothing → self.old.ahead.items ≡ []) }
-    {
-        match self.ahead.pop() {
-            None => Ok(Some(Outcome::Nothing)),
-            Some(node) => {
-                let outcome = self.try_one(alloc, board, room, node)?;
-                Ok(outcome)
-            }
-        }
-    }
-
     // Tries a state that was the last of those that wait for it.
     fn try_one(
         &mut self,
@@ -97,24 +79,31 @@ impl Search {
         board: &Board,
         room: u64,
         node: Node,
-    ) -> Result<Option<Outcome>, AllocError>
+    ) -> Result<Option<Found>, AllocError>
         requires { AreRising board.now }
         ensures kept { Searched board.now (views self.old.done.items)
             (views self.old.ahead.items ++ view node ∷ [])
-            → IfOk result (λ outcome. outcome ≡ None → IsSearched board.now self.new) }
-        ensures left { IfOk result (λ outcome. ¬ (outcome ≡ Some Nothing)) }
+            → IfOk result (λ found. found ≡ None → IsSearched board.now self.new) }
+        ensures left { IfOk result (λ found. ¬ (found ≡ Some Nothing)) }
+        ensures room { IfOk result (λ found. found ≡ None → self.old.bytes ≤ room
+            → self.new.bytes ≤ room) }
+        ensures fewer { IfOk result (λ found. found ≡ None
+            → length self.new.ahead.items + self.old.bytes
+            ≤ length self.old.ahead.items + self.new.bytes) }
     {
         if self.is_known(&node) {
             return Ok(None);
         }
         if node.is_end(&board.others.operations) {
-            return Ok(Some(Outcome::End));
-        }
-        self.bytes = self.bytes.saturating_add(node.bytes());
-        if room < self.bytes {
-            return Ok(Some(Outcome::Room));
+            let order = order(alloc, board, &self.done, &node)?;
+            return Ok(Some(Found::Order(order)));
         }
         let new = node.successors(alloc, board)?;
+        let bytes = bytes_of(&new);
+        if room.saturating_sub(self.bytes) <= bytes {
+            return Ok(Some(Found::Room));
+        }
+        self.bytes = self.bytes.saturating_add(bytes);
         self.put(node)?;
         self.put_ahead(new)?;
         Ok(None)
@@ -143,7 +132,8 @@ impl Search {
     fn put(&mut self, node: Node) -> Result<(), AllocError>
         ensures { OnOk result (
             (views self.new.done.items ≡ views self.old.done.items ++ view node ∷ [])
-            × (self.new.ahead.items ≡ self.old.ahead.items)) }
+            × (self.new.ahead.items ≡ self.old.ahead.items)
+            × (self.new.bytes ≡ self.old.bytes)) }
     {
         self.places.insert(node.mark(), self.done.len())?;
         self.done.push(node)?;
@@ -154,7 +144,8 @@ impl Search {
     fn put_ahead(&mut self, new: Vec<Node>) -> Result<(), AllocError>
         ensures { OnOk result (
             (views self.new.ahead.items ≡ views self.old.ahead.items ++ turned (views new.items))
-            × (self.new.done.items ≡ self.old.done.items)) }
+            × (self.new.done.items ≡ self.old.done.items)
+            × (self.new.bytes ≡ self.old.bytes)) }
     {
         let parent = self.done.len().saturating_sub(1);
         let mut new = new;

@@ -3,12 +3,12 @@ ghost use Rattle.std.specs.Prelude.{◌<◌};
 
 use crate::tests::comparisons::same;
 use engine_faults::{Ending, Fault, end_of};
-use expand_engine::expand_text;
+use expand_engine::{expand_text, run_recipe, trace_recipe};
 use history::{Refusal, TextCause};
 use place_engine::{check_text, place_holding, place_text};
 use placing::Placed;
 use run_engine::{run_text, trace_text};
-use show_engine::{View, show_found, show_history, show_text};
+use show_engine::{View, show_found, show_history, show_recipe, show_text};
 use std::alloc::Global;
 use std::fmt::Display;
 use std::process::Abort;
@@ -28,6 +28,10 @@ pub enum Engine {
     Trace,
     /// Expands a recipe.
     Expand,
+    /// Runs, traces or shows a recipe.
+    RunRecipe,
+    TraceRecipe,
+    ShowRecipe(View<'static>),
     /// Shows a schedule's run.
     Show(View<'static>),
     /// Shows a history.
@@ -48,6 +52,9 @@ impl Engine {
             Engine::Run => run_text(alloc, reader, writer)?,
             Engine::Trace => trace_text(alloc, reader, writer)?,
             Engine::Expand => expand_text(alloc, reader, writer)?,
+            Engine::RunRecipe => run_recipe(alloc, reader, writer)?,
+            Engine::TraceRecipe => trace_recipe(alloc, reader, writer)?,
+            Engine::ShowRecipe(view) => show_recipe(alloc, reader, writer, view)?,
             Engine::Show(view) => show_text(alloc, reader, writer, view)?,
             Engine::Timeline(view) => show_history(alloc, reader, writer, view)?,
             Engine::Reason(view) => show_found(alloc, reader, writer, view, 1_000)?,

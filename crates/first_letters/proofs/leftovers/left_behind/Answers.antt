@@ -1,7 +1,7 @@
 -- The one waiter comes back to the list that it was taken from; and what is left of it is what it sent.
 use Rattle.std.proofs.Common.{◌∙◌, ◌++◌, ◌∷◌, [], refl, ap, subst}
 use Rattle.carriers.specs.Ends.{ClosesOf}
-use Rattle.channels.specs.Handles.{sender_queue, sender_seat, receiver_seat}
+use Rattle.shared_queue.specs.Handles.{sender_queue, sender_seat, receiver_seat}
 use Rattle.value_queue.specs.Queues.{newcomer}
 use Rattle.value_queue.specs.ValuesSeen.{known_by}
 use Rattle.picked.specs.Values.{permits_of}

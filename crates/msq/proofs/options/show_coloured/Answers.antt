@@ -9,5 +9,5 @@ returns g c =
     record {
       drawn = rw c.into_inner.ensures
           (OnOk-carried done.result drawn.result _ _ _ done.ensures.same drawn.ensures.drawn done.ensures.kept
-          (λ d kept. Draws-carried _ _ _ _ _ _ _ _ (contents_unused state c.new-coloured.result c.args.writer c.new-coloured.ensures) kept d));
+          (λ d kept. Draws-carried _ _ _ _ _ _ _ _ _ (contents_unused state c.new-coloured.result c.args.writer c.new-coloured.ensures) kept d));
     }

@@ -1,5 +1,5 @@
 use Rattle.std.proofs.Common.{◌≡◌, ◌+◌, ◌≤◌, ◌++◌, map, length, vec_len, vec_capacity}
-use Rattle.channels.specs.Handles.{receiver_seat}
+use Rattle.shared_queue.specs.Handles.{receiver_seat}
 use Rattle.post_office.proofs.ends.put_receivers.Given as goal
 
 abbrev pub invariant-loop-receiver : goal.invariant-loop-receiver

@@ -1,5 +1,5 @@
 use Rattle.std.proofs.Common.{◌≡◌, ◌+◌, ◌≤◌, ◌++◌, map, length, vec_len, vec_capacity}
-use Rattle.channels.specs.Handles.{sender_seat}
+use Rattle.shared_queue.specs.Handles.{sender_seat}
 use Rattle.post_office.proofs.ends.put_senders.Given as goal
 
 abbrev pub invariant-loop-sender : goal.invariant-loop-sender

@@ -1,9 +1,9 @@
 //! What the tests of offices have in common.
-use channels::{Receiver, Sender};
 use history::Refusal;
 use picked::ValueQueue;
 use post_office::PostOffice;
 use ring_values::RingValues;
+use shared_queue::{Receiver, Sender};
 use std::alloc::Global;
 
 pub type Texts = ValueQueue<String>;

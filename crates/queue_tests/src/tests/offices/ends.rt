@@ -2,10 +2,10 @@
 use super::common::{Small, Texts, small, small_ring, text};
 use crate::tests::comparisons::same;
 use carriers::{Carrier, Unpushed};
-use channels::{Receiver, Sender};
 use history::Refusal;
 use post_office::PostOffice;
 use ring_values::RingValues;
+use shared_queue::{Receiver, Sender};
 use std::alloc::Global;
 use std::process::Abort;
 use std::sync::Wait;

@@ -1,12 +1,11 @@
 //! What sends values, and what receives them: handles of queues of numbers, and those of queues of values.
 use crate::tests::values::Numbered;
-use blocking_carrier::{BlockingCarrier, InTime, Late, Unsent};
 use blocking_queue::{BlockingQueue, InTime as NumberInTime};
 use carriers::{Carrier, ItemOf, Unpushed};
-use channels::{Receiver, Sender, receivers, senders};
 use history::{Body, Fifo, Refusal, Taken};
 use node_arena::Role;
 use queue_handles::{Handle, deal_side};
+use shared_queue::{InTime, Late, Receiver, Sender, SharedQueue, Unsent, receivers, senders};
 use std::alloc::Global;
 use std::sync::{Arc, Wait};
 use std::time::{Clock, Duration, Instant};
@@ -341,7 +340,7 @@ impl<Q: Fifo + Drop> Rests for RestOfNumbers<Q> {
 /// A queue of values, and a seat that takes what is left.
 #[derive(Drop)]
 pub struct RestOfValues<C: Carrier + Drop> {
-    queue: Arc<BlockingCarrier<C>, Global>,
+    queue: Arc<SharedQueue<C>, Global>,
     seat: C::Seat,
 }
 
@@ -405,7 +404,7 @@ pub fn values<C: Carrier + Drop>(
     alloc: Global,
     (queue, mut seats): (C, Vec<C::Seat>),
 ) -> Result<Opened<Sender<C>, Receiver<C>, RestOfValues<C>>, Refusal> {
-    let queue = Arc::new(alloc, BlockingCarrier::new(queue)).map_err(|_| Refusal::Memory)?;
+    let queue = Arc::new(alloc, SharedQueue::new(queue)).map_err(|_| Refusal::Memory)?;
     let (two, closer) = side_seats(alloc, &mut seats)?;
     let senders = both(senders(alloc, &queue, closer, two)?)?;
     let (two, closer) = side_seats(alloc, &mut seats)?;

@@ -6,6 +6,7 @@ use placing::{Placed, place};
 use std::alloc::{AllocError, Global};
 use std::collections::VecDeque;
 use std::test::Fail;
+use waiting_orders::{Found, searched};
 
 // What an actor is in.
 #[derive(Clone, Copy, Debug)]
@@ -96,6 +97,19 @@ fn places_long_runs(rt: HostRuntime) -> Result<(), Fail> {
         let history = long_run(rt.alloc(), &mut Chance::new(5), actors, operations)?;
         let is_placed = matches!(place(rt.alloc(), &history, 1_000)?, Placed::History(_));
         same(&rt, is_placed, true, operations);
+    }
+    Ok(())
+}
+
+#[test]
+fn waiting_pushes_place_long_runs(rt: HostRuntime) -> Result<(), Fail> {
+    for (actors, operations) in [(8, 2_000), (8, 20_000)] {
+        let history = long_run(rt.alloc(), &mut Chance::new(5), actors, operations)?;
+        let placed = match searched(rt.alloc(), &history, 1 << 30)? {
+            Found::Order(order) => order.len(),
+            Found::Nothing | Found::Room => 0,
+        };
+        same(&rt, placed, history.len(), operations);
     }
     Ok(())
 }

@@ -8,6 +8,27 @@ pub fn has_order(alloc: Global, history: &[Stamped]) -> Result<bool, AllocError>
     goes_on(alloc, history, &done, &[], history.len())
 }
 
+/// Whether the operations at these places, one after another, are such an order.
+pub fn is_order(alloc: Global, history: &[Stamped], order: &[usize]) -> Result<bool, AllocError> {
+    let mut done = vec![in alloc; false; history.len()]?;
+    let mut queue = Vec::new(alloc);
+    for index in order {
+        let Some(operation) = history.get(*index) else {
+            return Ok(false);
+        };
+        let is_next = !is_done(&done, *index) && may_be_next(history, &done, operation);
+        if !is_next || !may_answer(operation, queue.is_empty(), is_shut(history, &done)) {
+            return Ok(false);
+        }
+        match after(alloc, operation, &queue)? {
+            Some(values) => queue = values,
+            None => return Ok(false),
+        }
+        done = with(alloc, &done, *index)?;
+    }
+    Ok(is_complete(history, &done))
+}
+
 // Whether those that aren't done have one, from a queue of these values, with so many steps left.
 fn goes_on(
     alloc: Global,

@@ -2,11 +2,11 @@
 use crate::tests::chance::Chance;
 use crate::tests::placements::comparisons::same;
 use crate::tests::placements::drawn::{Kind, by_chance};
-use crate::tests::placements::orders::has_order;
+use crate::tests::placements::orders::{has_order, is_order};
 use std::alloc::Global;
 use std::process::Abort;
 use std::test::Fail;
-use waiting_orders::{Outcome, searched};
+use waiting_orders::{Found, searched};
 
 /// The most bytes that states may take.
 const ROOM: u64 = 1 << 30;
@@ -22,7 +22,8 @@ const SHUT: Kind = Kind {
     ..REPEATED
 };
 
-// How many histories are ones of a queue by both searches, and by neither, and of how many the two say otherwise.
+// How many histories are ones of a queue by both searches, with an order that is one, and by neither, and of how many that
+// isn't so.
 fn tallied(alloc: Global, histories: u64, kind: Kind) -> Result<(u64, u64, u64), Fail> {
     let mut chance = Chance::new(7);
     let mut yes: u64 = 0;
@@ -32,9 +33,11 @@ fn tallied(alloc: Global, histories: u64, kind: Kind) -> Result<(u64, u64, u64),
         let history = by_chance(alloc, &mut chance, kind)?;
         let has_order = has_order(alloc, &history)?;
         match searched(alloc, &history, ROOM)? {
-            Outcome::End if has_order => yes = yes.saturating_add(1),
-            Outcome::Nothing if !has_order => no = no.saturating_add(1),
-            Outcome::End | Outcome::Nothing | Outcome::Room => wrong = wrong.saturating_add(1),
+            Found::Order(order) if has_order && is_order(alloc, &history, &order)? => {
+                yes = yes.saturating_add(1);
+            }
+            Found::Nothing if !has_order => no = no.saturating_add(1),
+            Found::Order(_) | Found::Nothing | Found::Room => wrong = wrong.saturating_add(1),
         }
     }
     Ok((yes, no, wrong))

@@ -1,5 +1,5 @@
 use Rattle.std.proofs.Common.{◌≡◌}
-use Rattle.blocking_carrier.specs.Queues.{queue_of}
+use Rattle.shared_queue.specs.Queues.{queue_of}
 use Rattle.tasks.specs.Leaders.{GoesOn}
 use Rattle.tasks.proofs.leader.lead_on.Given as goal
 

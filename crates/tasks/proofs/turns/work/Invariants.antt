@@ -1,5 +1,5 @@
 use Rattle.std.specs.Prelude.{◌≡◌}
-use Rattle.blocking_carrier.specs.Queues.{queue_of}
+use Rattle.shared_queue.specs.Queues.{queue_of}
 use Rattle.tasks.specs.Turns.{HasRun}
 use Rattle.tasks.proofs.turns.work.Given as goal
 

@@ -1,5 +1,5 @@
 use Rattle.std.specs.Prelude.{◌≡◌, None}
-use Rattle.blocking_carrier.specs.Queues.{queue_of}
+use Rattle.shared_queue.specs.Queues.{queue_of}
 use Rattle.tasks.specs.Workers.{IsPost, ServesSo}
 use Rattle.tasks.proofs.worker.serve.Given as goal
 

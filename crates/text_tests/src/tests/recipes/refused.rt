@@ -56,7 +56,7 @@ const TEXTS: [(&str, &str, u64, TextCause); 21] = [
     ),
 ];
 
-const ACTS: [(&str, &str, u64, Refusal); 8] = [
+const ACTS: [(&str, &str, u64, Refusal); 10] = [
     ("begin 1 enq 5", "begin 3 enq 5", 7, Refusal::NoSuchActor),
     ("begin 2 enq 6", "begin 1 enq 6", 9, Refusal::ActorBusy),
     ("until 1 A4", "until 3 A4", 8, Refusal::NoSuchActor),
@@ -65,6 +65,9 @@ const ACTS: [(&str, &str, u64, Refusal); 8] = [
     ("steps 2 1", "# again\nfinish 3", 13, Refusal::NoSuchActor),
     ("finish 1", "finish 3", 14, Refusal::NoSuchActor),
     ("steps 2 1", "finish 1", 12, Refusal::IdleActor),
+    // Actor 2 waits for the lock that actor 1 holds.
+    ("steps 2 1", "finish 2", 12, Refusal::ActorBusy),
+    ("steps 2 1", "until 2 A4", 12, Refusal::NotHere),
 ];
 
 #[test]

@@ -2,7 +2,7 @@
 use crate::tests::trials::{Engine, does_by_any_piece};
 use std::test::Fail;
 
-const COMMENTED: &str = "msq schedule 3
+pub(crate) const COMMENTED: &str = "msq schedule 3
 # A push and a pop, each alone.
 queue two-lock # two words
 
@@ -22,7 +22,7 @@ finish 2
 end # here
 ";
 
-const COMMENTED_SCHEDULE: &str = "msq schedule 1
+pub(crate) const COMMENTED_SCHEDULE: &str = "msq schedule 1
 queue two-lock
 nodes 3
 limit 100
@@ -35,7 +35,7 @@ steps 2 4
 steps 2 5
 ";
 
-const REPEATED: &str = "msq schedule 3
+pub(crate) const REPEATED: &str = "msq schedule 3
 queue nonblocking
 bits 24
 nodes 3
@@ -57,7 +57,7 @@ end
 end
 ";
 
-const REPEATED_SCHEDULE: &str = "msq schedule 1
+pub(crate) const REPEATED_SCHEDULE: &str = "msq schedule 1
 queue nonblocking
 nodes 3
 limit 100
@@ -79,7 +79,7 @@ begin 1 enq 9
 give 1
 ";
 
-const SHUT: &str = "msq schedule 3
+pub(crate) const SHUT: &str = "msq schedule 3
 queue two-lock
 bits 24
 nodes 2
@@ -91,7 +91,7 @@ step 2 S9
 end
 ";
 
-const SHUT_SCHEDULE: &str = "msq schedule 2
+pub(crate) const SHUT_SCHEDULE: &str = "msq schedule 2
 queue two-lock
 bits 24
 nodes 2
@@ -103,7 +103,7 @@ steps 2 3
 step 2 S9
 ";
 
-const SPLIT: &str = "msq schedule 3#2
+pub(crate) const SPLIT: &str = "msq schedule 3#2
 queue two-lock
 bits 32
 nodes 2
@@ -112,7 +112,7 @@ actors 1
 end
 ";
 
-const SPLIT_SCHEDULE: &str = "msq schedule 2
+pub(crate) const SPLIT_SCHEDULE: &str = "msq schedule 2
 queue two-lock
 bits 32
 nodes 2

@@ -1,10 +1,17 @@
--- Nothing was ahead.
-use Rattle.std.proofs.Common.{Some, ap, ◌∙◌}
-use Rattle.waiting_orders.proofs.Trying.{none_ahead}
+-- At first nothing was tried and the start is ahead; at the end nothing is ahead.
+use Rattle.std.proofs.Common.{◌≡◌, [], arith, rules}
+use Rattle.waiting_orders.proofs.Trying.{begins_so, none_ahead}
 use Rattle.waiting_orders.proofs.searching.searched.Goals as goal
 
-pub returns-in-Some : goal.returns-in-Some
-returns-in-Some c = record {
-  none = λ e h. none_ahead c.args.history.now c.in_ok-board.board c.loop.search.done.items c.loop.search.ahead.items c.in_ok-board.ensures
-      (c.in_ok-outcome.ensures.none (c.in-Some.is ∙ ap Some e)) c.loop.invariant h;
-}
+pub loop-node-init : goal.loop-node-init
+loop-node-init c = (
+  begins_so c.in_ok-board.board c.in_ok-search.search.done.items c.in_ok-search.search.ahead.items c.in_ok-search.ensures.0 c.in_ok-search.ensures.1,
+  omega (arith, c.in_ok-search.ensures.2),
+)
+
+pub returns : goal.returns
+returns c =
+    let none : c.loop-node.search.ahead.items ≡ [] = search rules in
+    record {
+      none = λ e h. none_ahead c.args.history.now c.in_ok-board.board c.loop-node.search.done.items c.loop-node.search.ahead.items c.in_ok-board.ensures none c.loop-node.invariant.0 h;
+    }

@@ -2,11 +2,11 @@
 use super::counted_tasks::{Counting, Third, calls, others, tasks, wanted};
 use crate::tests::comparisons::same;
 use arena_queue::Algorithm;
-use blocking_carrier::BlockingCarrier;
 use history::Refusal;
 use mock_queues::FullCarrier;
 use node_arena::MOST_COUNT;
 use nonblocking::NonBlockingAlgorithm;
+use shared_queue::SharedQueue;
 use std::alloc::Global;
 use std::process::Abort;
 use std::sync::Wait;
@@ -143,7 +143,7 @@ fn a_stopped_worker_ends(rt: HostRuntime) -> Result<(), Fail> {
     let (queue, seat) = FullCarrier::<Numbered<Counting>>::new();
     let stop = Stop::<AnyReason>::new();
     stop.tell();
-    let worked = work(&rt, rt.alloc(), &BlockingCarrier::new(queue), seat, &stop);
+    let worked = work(&rt, rt.alloc(), &SharedQueue::new(queue), seat, &stop);
     let found = (worked.done.len(), worked.end);
     same(&rt, found, (0, End::Stopped), "nothing to do");
     Ok(())

@@ -6,7 +6,7 @@ use Rattle.history.specs.Seats.{MayPop}
 use Rattle.node_arena.specs.Plans.{permits_by}
 use Rattle.value_queue.specs.ValuesSeen.{known_by}
 use Rattle.picked.specs.Values.{permits_of, IsQueueSeat}
-use Rattle.channels.specs.Handles.{sender_seat, receiver_seat}
+use Rattle.shared_queue.specs.Handles.{sender_seat, receiver_seat}
 use Rattle.post_office.specs.Offices.{office_queue, AreOf}
 use Rattle.post_office.specs.Roles.{office_roles, newcomers}
 use Rattle.post_office.proofs.Dealing.{desks_are, known_senders, known_receivers, only_takers}

@@ -1,6 +1,6 @@
 -- The seats that are put together are the queue's, and what is known of its end is what the laws of givers and takers ask.
 use Rattle.std.proofs.Common.{◌∙◌, ap}
-use Rattle.blocking_carrier.specs.Queues.{queue_of}
+use Rattle.shared_queue.specs.Queues.{queue_of}
 use Rattle.post_office.proofs.Shares.{seats_put}
 use Rattle.post_office.proofs.Closed.{each_sits, asks_so, comes_back, delivers, each_once}
 use Rattle.post_office.proofs.offices.PostOffice.close.Goals as goal

@@ -6,7 +6,7 @@ use Rattle.std.specs.Prelude.{max}
 use Rattle.history.specs.Seats.{MayPop}
 use Rattle.ring_values.specs.ValuesSeen.{known_by}
 use Rattle.ring_values.specs.Queues.{plan_of, permits_of, IsQueueSeat}
-use Rattle.channels.specs.Handles.{sender_seat, receiver_seat}
+use Rattle.shared_queue.specs.Handles.{sender_seat, receiver_seat}
 use Rattle.post_office.specs.Offices.{office_queue, AreOf}
 use Rattle.post_office.specs.Roles.{newcomers}
 use Rattle.post_office.proofs.Dealing.{desks_are, known_senders, known_receivers, only_takers}

@@ -8,4 +8,5 @@ loop-node-preserved c = (
   next_ahead c.loop-node.self.ahead.items c.push.new.self.items c.loop-node.new.items c.pop.new.self.items c.in-Some.node _ c.in_ok-push.ensures.items c.in-Some.ensures.items refl
       ∙ c.loop-node.invariant.0,
   c.loop-node.invariant.1,
+  c.loop-node.invariant.2,
 )

@@ -1,8 +1,0 @@
-pub mod Answers
-pub mod Bells
-pub mod Causes
-pub mod Lates
-pub mod Queues
-pub mod Tellings
-pub mod Unshuts
-pub mod Waits

@@ -1,4 +1,0 @@
-mod Dealt
-mod MetSeats
-pub mod Shares
-pub mod Tries

@@ -1,7 +1,0 @@
--- The seat is its queue's by its type.
-use Rattle.std.proofs.Common.{refl}
-use Rattle.channels.proofs.Shares.{receiver_in}
-use Rattle.channels.proofs.receiver.Receiver.is_sound.Goals as goal
-
-pub returns : goal.returns
-returns g c = g.met.C.Carrier.sound _ _ (receiver_in g.met.C.Carrier.seat_prop c.args.self.now.queue.value c.args.self.now refl).0

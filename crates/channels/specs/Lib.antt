@@ -1,5 +1,0 @@
-pub mod Closers
-pub mod Ends
-pub mod Handles
-pub mod Seats
-pub mod Tries

@@ -1,0 +1,5 @@
+pub mod Dealt
+pub mod MetSeats
+pub mod Shares
+pub mod Tries
+pub mod Waiting

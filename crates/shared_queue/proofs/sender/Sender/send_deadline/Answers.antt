@@ -1,0 +1,13 @@
+-- The seat is its queue's by its type, and may push.
+use Rattle.shared_queue.proofs.Shares.{sender_in, sender_stays}
+use Rattle.shared_queue.proofs.sender.Sender.send_deadline.Goals as goal
+
+pub send_deadline-requires-clause-seat : goal.send_deadline-requires-clause-seat
+send_deadline-requires-clause-seat g c κs within = (sender_in g.met.C.Carrier.seat_prop c.deref.result.now c.args.self.now c.deref.ensures).0
+
+pub send_deadline-requires-clause-role : goal.send_deadline-requires-clause-role
+send_deadline-requires-clause-role g c κs within = (sender_in g.met.C.Carrier.seat_prop c.deref.result.now c.args.self.now c.deref.ensures).1
+
+pub invariant_of-self : goal.invariant_of-self
+invariant_of-self g c =
+    record { sits = sender_stays g.met.C.Carrier.seat_prop c.deref.result.now c.args.self.now c.deref.ensures c.send_deadline.new.seat c.send_deadline.ensures.seat c.send_deadline.ensures.number }

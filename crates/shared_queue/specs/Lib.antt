@@ -1,0 +1,13 @@
+pub mod Answers
+pub mod Causes
+pub mod Closers
+pub mod Ends
+pub mod Handles
+pub mod Hearings
+pub mod Lates
+pub mod Queues
+pub mod Seats
+pub mod Tellings
+pub mod Tries
+pub mod Unshuts
+pub mod Waits

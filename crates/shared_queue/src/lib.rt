@@ -1,0 +1,29 @@
+//! A queue of values of any type that threads share, whose calls sleep where it is empty, or full; and its senders and
+//! receivers, of which the last one of a side shuts the queue as it is dropped.
+#![tactic(auto)]
+
+mod bells;
+mod closers;
+mod deadlines;
+mod meets;
+mod new_sides;
+mod queue;
+mod receiver;
+mod receives;
+mod recv_calls;
+mod send_calls;
+mod sender;
+mod sends;
+mod shuts;
+mod sides;
+mod steps;
+
+pub use deadlines::{InTime, Late, Unsent};
+pub use new_sides::{receivers, senders};
+pub use queue::SharedQueue;
+pub use receiver::Receiver;
+pub use sender::Sender;
+pub use sides::Side;
+
+/// How many turns a try takes of a call that waits, and a call that doesn't wait.
+const TURNS: u32 = 8;

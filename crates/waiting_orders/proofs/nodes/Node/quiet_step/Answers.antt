@@ -1,0 +1,12 @@
+-- There is nothing at this place.
+use Rattle.std.proofs.Common.{◌≡◌, nat_lt, false, None, is_some, length, slice_get, sym, subst, ap, ◌∙◌}
+use Rattle.std.proofs.lemmas.Bool.{ltb-false}
+use Rattle.std.proofs.lemmas.Option.{slice_get_past}
+use Rattle.waiting_orders.specs.Nodes.{quiet_at, view, views}
+use Rattle.waiting_orders.proofs.nodes.Node.quiet_step.Goals as goal
+
+pub returns-in-None : goal.returns-in-None
+returns-in-None c =
+    let past : nat_lt c.args.at (length c.args.ways.now) ≡ false = sym c.get.ensures.lookup.0 ∙ ap is_some c.in-None.is in
+    let e : slice_get c.args.ways.now c.args.at ≡ None = slice_get_past c.args.ways.now c.args.at (ltb-false _ _ past) in
+    subst (λ x. views c.new-new.result.items ≡ quiet_at (view c.args.self.now) x) (sym e) (ap views c.new-new.ensures.items)
