@@ -74,16 +74,16 @@ enum msq_code {
 /* Each code once, with what it says. */
 #define MSQ_EACH_CODE(CODE)                                                                                            \
     CODE(MSQ_OK, "done")                                                                                               \
-    CODE(MSQ_NO_NODE, "no node is free")                                                                               \
+    CODE(MSQ_NO_NODE, "the queue has no room: no node is free")                                                        \
     CODE(MSQ_WORN_FREE, "the count of the free list is at its limit")                                                  \
     CODE(MSQ_BUSY, "others were in the way")                                                                           \
     CODE(MSQ_MEMORY, "no memory")                                                                                      \
     CODE(MSQ_BAD_SIZE, "a number is out of its range")                                                                 \
     CODE(MSQ_CLOSED, "the queue is shut")                                                                              \
     CODE(MSQ_EMPTY, "the queue is empty")                                                                              \
-    CODE(MSQ_NO_SEAT, "there is no seat")                                                                              \
+    CODE(MSQ_NO_SEAT, "the handle is empty: it has no seat")                                                           \
     CODE(MSQ_NO_ROLE, "the seat may not do this")                                                                      \
-    CODE(MSQ_IN_USE, "a seat is full, or the queue has a further one")                                                 \
+    CODE(MSQ_IN_USE, "a seat to be filled is full, or one of the queue to be closed is missing")                       \
     CODE(MSQ_RACED, "the queue got a further seat meanwhile")                                                          \
     CODE(MSQ_WORN_NEXT, "the count of a node is at its limit")                                                         \
     CODE(MSQ_WORN_TAIL, "the count of the tail is at its limit")                                                       \

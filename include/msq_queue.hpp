@@ -191,6 +191,8 @@ template <class T, class Call> auto passed(home &home, Call call) {
 // popped, and a close that a pop was told of: it waits until these have rung. A ring of pointers takes only those below 2^48: a push
 // of any other answers MSQ_BAD_SIZE.
 template <class T> class queue {
+    static_assert(std::is_object<T>::value, "a queue has values, so T is no reference, function or void");
+
     struct ender {
         void operator()(detail::home *home) const noexcept {
 #if !defined(__cpp_aligned_new)
@@ -218,6 +220,7 @@ public:
     // MSQ_BAD_SIZE or MSQ_MEMORY.
     static std::pair<msq_code, queue> create(uint32_t capacity, kind kind = kind::non_blocking,
                                              uint16_t threads = usual_threads) noexcept {
+        static_assert(std::is_move_constructible<T>::value, "a value is moved into a queue, and T has no move and no copy");
         queue made;
         auto code = MSQ_MEMORY;
         made.home_.reset(new (std::nothrow) detail::home{});

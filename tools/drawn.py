@@ -6,7 +6,6 @@ import re
 import traced
 
 NAMES = {"1": "NoNode", "2": "WornOut", "3": "Busy", "16": "Closed"}
-EXCHANGES = set("N4 N5 F3 E9 E13 E17 D10 D13 A3 A5 B1 S4 S5 S6 S8".split())
 ROW = re.compile(r"(\d+) (\d+) (\w+) (?:(gives)|(.+) found (.+) now (.+?))(?: reply (.+))?")
 STAND = re.compile(r"(\d+) at (\w+) (.+) holds (.+)")
 TIMES = re.compile(r".* (?:first|from) (\d+) (?:last|to) (-|\d+)(?: at (-|\d+))? reply .*")
@@ -29,6 +28,13 @@ def named(reply):
     """A reply, behind which the name of a refusal stands."""
     words = reply.split()
     return f"{reply} ({NAMES[words[1]]})" if words[0] == "refused" else reply
+
+
+def expected(machine, me):
+    """What the next step of an actor expects to find, as a trace tells it; nothing where that is no compare-exchange."""
+    a = machine.actors[me]
+    _, swap = machine.access(a["line"], a, me, lambda ref, node: (node, ref[1] + 1))
+    return traced.shown(swap.old) if isinstance(swap, traced.Exchange) else ""
 
 
 def state(words):
@@ -109,7 +115,7 @@ def told(schedule, width=80, first=1, last=0, actor=0, legend=0):
     seen = lambda number, me: first <= number <= end and begin <= me < begin + many
 
     def step(me, move):
-        before = state(machine.words)
+        before, wanted = state(machine.words), expected(machine, me)
         move()
         number, _, line, gives, word, found, now, reply = ROW.fullmatch(machine.rows[-1]).groups()
         after = state(machine.words)
@@ -119,7 +125,7 @@ def told(schedule, width=80, first=1, last=0, actor=0, legend=0):
             did = " gives"
         else:
             found, now = content(word, found), content(word, now)
-            did = f" {name(word)}" + (f" := {now}" if found != now else f" lost to {now}" if line in EXCHANGES else f" {now}")
+            did = f" {name(word)}" + (f" := {now}" if found != now else f" {now} lost, not {content(word, wanted)}" if wanted else f" {now}")
         used.add(line)
         cell = ("*" if machine.steps in marked else " ") + line + did + (f" -> {named(reply)}" if reply else "")
         text = (number.rjust(6) + " ").ljust(column(me)) + cell

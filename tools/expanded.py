@@ -63,9 +63,14 @@ def is_within(number, low, high):
 
 
 def spoken(line):
-    """What a line says before its comment."""
-    said, mark, _ = line.partition("#")
-    return said[:-1] if mark and said.endswith(" ") else said
+    """What a line says before its comment: its words, one space between two."""
+    said = line.removesuffix("\r").partition("#")[0]
+    return " ".join(word for word in re.split("[ \t]+", said) if word)
+
+
+def is_recipe(text):
+    """Whether the first line of a text is a recipe's."""
+    return spoken(text.split("\n")[0]) == "msq schedule 3"
 
 
 def read(text):
@@ -82,6 +87,8 @@ def read(text):
             continue
         if not said:
             continue
+        if len(sizes) == 1 and said.startswith("nodes "):
+            sizes.append(str(bits))
         if len(sizes) < 5:
             form, within = header(bits)[len(sizes)]
             found = re.fullmatch(form, said)
@@ -229,10 +236,16 @@ LINES = {
 }
 
 
+def blanked(chance, line):
+    """The same line with spaces and tabs that say nothing."""
+    between = "".join(chance.choice((" ", " ", "  ", "\t", " \t ")) if it == " " else it for it in line)
+    return chance.choice(("", "", " ", "\t", "    ")) + between + chance.choice(("", "", " ", "\t", " \t"))
+
+
 def recipe(chance):
     """A recipe by chance, of which mostly no act is refused; most of its lines have no comment."""
     kind, actors = chance.choice(("two-lock", "nonblocking")), chance.randint(1, 4)
-    lines = ["msq schedule 3", f"queue {kind}", f"bits {chance.randint(16, 32)}", f"nodes {chance.randint(2, 5)}"]
+    lines = ["msq schedule 3", f"queue {kind}"] + [f"bits {chance.randint(16, 32)}"] * chance.choice((0, 1, 1)) + [f"nodes {chance.randint(2, 5)}"]
     lines += [f"limit {chance.choice((1, 2, 3, 100))}", f"actors {actors}"]
     is_open = False
     for _ in range(chance.randint(0, 40)):
@@ -244,7 +257,8 @@ def recipe(chance):
             is_open = now_open
     lines += ["end"] * (2 if is_open else 1)
     comments = ["", "", "", " #", " # a comment # of two marks", "# step 1 E9"]
-    lines = [line + chance.choice(comments) for line in lines]
+    spaced = chance.random() < 0.5
+    lines = [(blanked(chance, line) if spaced else line) + chance.choice(comments) + ("\r" if spaced and chance.random() < 0.2 else "") for line in lines]
     for _ in range(chance.randint(0, 3)):
         lines.insert(chance.randint(1, len(lines) - 1), chance.choice(("", "#", "# begin 1 deq")))
     return "".join(f"{line}\n" for line in lines)
@@ -264,7 +278,7 @@ def changed(chance, text):
         lines.insert(chance.randrange(len(lines)), chance.choice([*lines, "repeat 2", "end", "until 1", "finish 1 1", "events 0"]))
     if deed == 3:
         at = chance.randrange(len(text))
-        return text[:at] + chance.choice("# 0159\nAEq\0") + text[at + chance.randint(0, 1) :]
+        return text[:at] + chance.choice("# 0159\n\t\rAEq\0") + text[at + chance.randint(0, 1) :]
     if deed == 4:
         found = chance.choice(list(re.finditer("[0-9]+", text)))
         return text[: found.start()] + str(chance.choice(EDGES)) + text[found.end() :]
@@ -283,7 +297,7 @@ def is_right(program, text):
         trace = traced.told(run)[0] if run else ""
         told = [(["run", "--expand"], ""), (["run"], ""), (["trace"], trace)]
         # With another version the text isn't read as a recipe.
-        read_as = told if text.startswith("msq schedule 3") else told[:1]
+        read_as = told if spoken(text.split("\n")[0]).split(" ")[:3] == ["msq", "schedule", "3"] else told[:1]
         return all(does(text, words, 1, written, wanted) for words, written in read_as)
     trace = traced.due(wanted)
     if trace.split("\n")[7:-1] != rows or not does(text, ["run", "--expand"], 0, wanted, ""):

@@ -4,7 +4,7 @@ import re
 
 # Of how many operations all orders are tried.
 MOST = 8
-NO = re.compile(r"no \d+ (Unshut|(Late|Twice) \d+|(Sooner|(Order|Full|Undrained) \d+)( \d+)*)\n")
+NO = re.compile(r"no \d+ (Unshut|(Late|Twice) \d+|(Sooner|Stuck|(Order|Full|Undrained) \d+)( \d+)*)\n")
 
 
 Operation = collections.namedtuple("Operation", "actor call first last at reply")
@@ -97,13 +97,9 @@ def is_due(given, status, wrote, new):
         if cause := fault_of(it):
             return (status, wrote) == (3, f"no {number} {cause}\n")
     order = has_order(given) if len(given) <= MOST else None
-    pushes = [(it.actor, it.call) for it in given if it.call != "deq" and not it.reply.startswith("refused")]
     match status, wrote:
         case 0, _:
             return order is not False and new is not None and is_spread(given, new)
         case 3, _:
             return order is not True and NO.fullmatch(wrote) is not None
-        case 4, "open Steps\n" | "open Searched\n":
-            is_searched = len(set(pushes)) < len(pushes) or any(it.call == "shut" or it.reply == "refused 16" for it in given)
-            return is_searched and (order is not True or "Steps" in wrote)
     return False

@@ -119,10 +119,10 @@ show_app whens =
     (number_rule (codes "ACTOR") (codes "actor") 0 65535 (codes "0"))) (flag_rule (codes "HISTORY") (codes "history")))
     (flag_rule (codes "HTML") (codes "html"))) (flag_rule (codes "WHY") (codes "why"))) (flag_rule (codes "LINES") (codes "lines"))) (color_rule whens)
 
--- the command `place`, with a FILE, so many steps, whether the lines of a reason are told, and what the queue holds at the start
+-- the command `place`, with a FILE, the room of a search, whether the lines of a reason are told, and what the queue holds at the start
 abbrev pub place_app : App
 place_app =
-    with_rule (with_rule (with_rule (file_app (codes "place")) (number_rule (codes "STEPS") (codes "steps") 0 1000000000 (codes "1000000")))
+    with_rule (with_rule (with_rule (file_app (codes "place")) (number_rule (codes "ROOM") (codes "room") 0 4294967295 (codes "1073741824")))
     (flag_rule (codes "WHY") (codes "why"))) held_rule
 
 -- the command `work`, with a FILE, so many workers, a queue, and so many nodes
@@ -212,7 +212,7 @@ SaysFlag (Some text) flag = (text ≡ codes "true" → flag ≡ true) × (text �
 
 -- what a command's options say of how points are looked for
 pub record IsPlacingOf (options : List Row) (placing : Placing) : Type 0 where
-  pub many : SaysNumber (one_of (codes "STEPS") options) 1000000 placing.steps
+  pub many : SaysNumber (one_of (codes "ROOM") options) 1073741824 placing.room
   pub why : SaysFlag (one_of (codes "WHY") options) placing.tells_why
 
 -- what a command's options say of a picture

@@ -170,7 +170,7 @@ fn explain_command<'a>(alloc: Global) -> Result<clap::Command<'a>, AllocError>
 {
     let refusal = Arg::new(alloc, "FILE")
         .value_name("REFUSAL")
-        .help("The refusal's number, 1 to 16, or its name, as NoNode")
+        .help("The refusal's number, 1 to 16, or its name, spelled as NoNode")
         .required(true);
     clap::Command::new(alloc, "explain")
         .about("Tells of a refusal, by its number or its name, why it is and what to do")
@@ -211,15 +211,15 @@ fn run_command<'a>(alloc: Global) -> Result<clap::Command<'a>, AllocError>
     let command = command_on(
         alloc,
         "run",
-        "Runs a schedule and writes its history",
-        "The schedule; - is standard input",
+        "Runs a schedule or a recipe and writes its history",
+        "The schedule or the recipe; - is standard input",
         helps::RUN,
     );
     let expand = flag_option(alloc, "EXPAND", "expand");
     with_arg(
         command,
         expand,
-        "Writes the schedule that a recipe, of version 3, stands for",
+        "Writes the schedule that a recipe stands for, and no history",
     )
 }
 
@@ -263,8 +263,8 @@ fn trace_command<'a>(alloc: Global) -> Result<clap::Command<'a>, AllocError>
     command_on(
         alloc,
         "trace",
-        "Runs a schedule and writes each of its steps",
-        "The schedule; - is standard input",
+        "Runs a schedule or a recipe and writes each of its steps",
+        "The schedule or the recipe; - is standard input",
         helps::TRACE,
     )
 }
@@ -277,7 +277,7 @@ fn check_command<'a>(alloc: Global) -> Result<clap::Command<'a>, AllocError>
         alloc,
         "check",
         "Judges a history: writes its table, or what is wrong with it",
-        "The history; - is standard input",
+        "The history, with its linearization points; - is standard input",
         helps::CHECK,
     )
 }

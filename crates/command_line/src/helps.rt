@@ -1,7 +1,15 @@
 //! What help says at its end: an example, and where the texts are described.
 
 /// The program's own.
-pub(crate) const PROGRAM: &str = "With no words at all it runs the schedule on standard input.
+pub(crate) const PROGRAM: &str = "What reads a text, by its first line:
+  msq schedule 1, or 2  run, trace, show: a schedule
+  msq schedule 3        run, trace, show: a recipe
+  history K             check, place, show --history, show --why
+  msq record 1          place, show --why, show --html --history: a recording
+  jobs K                work
+  mail S K              post
+
+With no words at all it runs the schedule on standard input.
 
 Exit statuses:
   0  done, or help or the version was asked for
@@ -10,8 +18,8 @@ Exit statuses:
   3  check or place said no
   4  place left it open
 
-Where standard error is a terminal, lines behind that of a refusal explain it, and a call that takes over a second shows how
-far it is.";
+Where standard error is a terminal, lines behind that of a refusal explain it, as they do elsewhere with --explain, and a call
+that takes over a second shows how far it is.";
 
 /// That of `run`.
 pub(crate) const RUN: &str = "Examples:
@@ -39,6 +47,9 @@ The texts: docs/FORMATS.md, Schedule, History and Recording; what is drawn: docs
 /// That of `check`.
 pub(crate) const CHECK: &str = "Example:
   msq check examples/first_run.history
+
+A recorded history has no points, so what is written is no 1 Shape: msq place finds points for it, or a reason why there are
+none.
 
 The texts: docs/FORMATS.md, History and Verdict";
 

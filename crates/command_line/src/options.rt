@@ -16,8 +16,8 @@ const USUAL_NODES: u32 = 1024;
 /// How many columns a picture has at most where the words don't say it.
 const USUAL_WIDTH: u32 = 80;
 
-/// How many steps a search for an order takes at most where the words don't say it.
-const USUAL_STEPS: u32 = 1_000_000;
+/// How many bytes the states of a search for an order take at most where the words don't say it.
+const USUAL_ROOM: u32 = 1_073_741_824;
 
 /// The first step that a picture shows where the words don't say it.
 const USUAL_FROM: u64 = 1;
@@ -25,8 +25,8 @@ const USUAL_FROM: u64 = 1;
 /// How `place` looks for points.
 #[derive(Clone, Copy)]
 pub struct Placing {
-    /// How many steps a search takes at most.
-    pub steps: u32,
+    /// How many bytes the states of a search take at most.
+    pub room: u32,
     /// Whether the lines of a reason's operations are told.
     pub tells_why: bool,
 }
@@ -81,7 +81,7 @@ pub(crate) fn placing_in(options: &ArgMatches<'_>) -> Placing
     ensures { IsPlacingOf (rows_of (found_of options.now)) result }
 {
     Placing {
-        steps: number_in(options, "STEPS", USUAL_STEPS),
+        room: number_in(options, "ROOM", USUAL_ROOM),
         tells_why: flag_in(options, "WHY"),
     }
 }

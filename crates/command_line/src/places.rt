@@ -16,14 +16,14 @@ pub(crate) fn place_command<'a>(alloc: Global) -> Result<clap::Command<'a>, Allo
         alloc,
         "place",
         "Finds linearization points for a recorded history, or a reason why there are none",
-        "The history, whose points are not read; - is standard input",
+        "The recording, or the history, whose points are not read; - is standard input",
         helps::PLACE,
     );
-    let steps = number_option(alloc, "STEPS", "steps", (0, 1_000_000_000), "1000000");
+    let room = number_option(alloc, "ROOM", "room", (0, 4_294_967_295), "1073741824");
     let command = with_arg(
         command,
-        steps,
-        "How many steps a search may take, where values are repeated, 0 to 10^9",
+        room,
+        "How many bytes the states of a search may take, up to 4294967295",
     );
     let why = flag_option(alloc, "WHY", "why");
     let command = with_arg(
@@ -34,7 +34,7 @@ pub(crate) fn place_command<'a>(alloc: Global) -> Result<clap::Command<'a>, Allo
     with_arg(
         command,
         held_option(alloc),
-        "What the queue of a recording holds at the start, the front first, as tea,milk",
+        "What the queue of a recording, not of a history, holds at the start, the front first, as tea,milk",
     )
 }
 

@@ -18,8 +18,8 @@ pub(crate) fn show_command<'a>(
     let command = command_on(
         alloc,
         "show",
-        "Runs a schedule and draws it: an actor a column, a step a row; or draws a history",
-        "The schedule, or the history; - is standard input",
+        "Runs a schedule or a recipe and draws it: an actor a column, a step a row; or draws a history",
+        "The schedule or the recipe; with --history a history, with --why a history or a recording; - is standard input",
         helps::SHOW,
     );
     let width = number_option(alloc, "WIDTH", "width", (40, 190), "80");
@@ -28,7 +28,7 @@ pub(crate) fn show_command<'a>(
     let from = number_option(alloc, "FROM", "from", (1, u64::MAX), "1");
     let command = with_arg(command, from, "The first step that is shown, 1 to 2^64 - 1");
     let to = number_option(alloc, "TO", "to", (0, u64::MAX), "0");
-    let help = "The last step that is shown; 0 for a hundred steps";
+    let help = "The last step that is shown; 0 for a hundred steps; if it is below FROM, none is";
     let command = with_arg(command, to, help);
     let actor = number_option(alloc, "ACTOR", "actor", (0, 65_535), "0");
     let help = "The one actor that is shown; 0 for as many as have room";
@@ -37,7 +37,8 @@ pub(crate) fn show_command<'a>(
     let help = "Draws the timeline of a history: an operation a row";
     let command = with_arg(command, history, help);
     let page = flag_option(alloc, "HTML", "html");
-    let help = "Writes a page for a browser that goes through the run or the history";
+    let help =
+        "Writes a page for a browser that goes through the run, or with --history through the history or the recording";
     let command = with_arg(command, page, help);
     let why = flag_option(alloc, "WHY", "why");
     let help = "Draws the reason why a history or a recording isn't linearizable";

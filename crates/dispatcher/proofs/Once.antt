@@ -12,7 +12,7 @@ use Rattle.history.specs.declared.operations.Entry.{Entry}
 use Rattle.history.specs.declared.operations.Entry.TheVariants.{Push, Pop, Shut}
 use Rattle.history.specs.declared.operations.Taken.{Taken}
 use Rattle.history.specs.declared.refusals.Refusal.{Refusal}
-use Rattle.history.specs.declared.refusals.Refusal.TheVariants.{Stranger, WornOut}
+use Rattle.history.specs.declared.refusals.Refusal.TheVariants.{Closed, Stranger, WornOut}
 use Rattle.history.specs.declared.refusals.WornWord.TheVariants.{Tail as OfTail}
 use Rattle.history.specs.declared.rests.Rest.{Rest}
 use Rattle.history.specs.Rests.{left_of, was_shut_of}
@@ -24,6 +24,7 @@ use Rattle.history.specs.Ends.{AreAll, Closes}
 use Rattle.history.proofs.Sums.{AreApart, made-all}
 use Rattle.history.proofs.Values.{pushed-Leads, pushed-own}
 use Rattle.history.proofs.Ending.{ends_there}
+use Rattle.carriers.specs.ToEntries.{push_refused, shut as shut_entry}
 use Rattle.job_results.specs.declared.jobs.Job.{Job}
 use Rattle.dispatcher.specs.declared.workers.Back.{Back}
 use Rattle.dispatcher.specs.declared.workers.End.{End}
@@ -36,6 +37,7 @@ use Rattle.dispatcher.specs.Submissions.{EndsShutBy}
 use Rattle.dispatcher.specs.Crews.{HasRun}
 use Rattle.dispatcher.specs.Goings.{numbers_of, numbers_in, seats_in, body_of}
 use Rattle.dispatcher.specs.Laws.{times, AreNewSeats}
+use Rattle.dispatcher.proofs.Ending.{seen-mine}
 use Rattle.dispatcher.proofs.Going.{numbers_are}
 
 -- whether an entry pops a value with this body
@@ -165,9 +167,9 @@ module _ (n : ℕ) where
 module _ {Q S : Type 0} (is_seat : Q → S → Type 0) (known : S → Known) (cause : Q → S → S → ℕ → Refusal → Type 0) (queue : Q) (before after : S) where
   shut_more : (unshut : Option Refusal) → EndsShutBy is_seat known cause queue before after unshut
       → (shuts : List ℕ) × ((known after).mine ≡ (known before).mine ++ map Shut shuts)
-  shut_more None (inl d) = ((known before).number ∷ [], d.mine)
-  shut_more None (inr f) = ([], f.mine ∙ sym (append-nil (known before).mine))
-  shut_more (Some (WornOut OfTail)) h = ([], h.0.mine ∙ sym (append-nil (known before).mine))
+  shut_more None (inl d) = ((known before).number ∷ [], (shut_entry (known before) (known after) d).mine)
+  shut_more None (inr f) = ([], (push_refused (known before) (known after) Closed f).mine ∙ sym (append-nil (known before).mine))
+  shut_more (Some (WornOut OfTail)) h = ([], seen-mine (known before) (known after) h.0 ∙ sym (append-nil (known before).mine))
   shut_more (Some _) h = absurd h
 
 shuts_take : (n : ℕ) (shuts : List ℕ) → count_by (takes n) (map Shut shuts) ≡ 0

@@ -5,7 +5,7 @@ use Rattle.std.specs.List.{AllZip}
 use Rattle.history.specs.declared.refusals.Refusal.{Refusal}
 use Rattle.history.specs.declared.refusals.Refusal.TheVariants.{BadSize}
 use Rattle.history.specs.Seats.{Known}
-use Rattle.blocking_queue.specs.Queues.{queue_of}
+use Rattle.shared_queue.specs.Queues.{numbers_in}
 use Rattle.job_results.specs.declared.jobs.Job.{Job}
 use Rattle.dispatcher.specs.declared.workers.Back.{Back}
 use Rattle.dispatcher.specs.declared.crews.JobsRun.{JobsRun}
@@ -18,7 +18,7 @@ use Rattle.dispatcher.specs.Submissions.{HasGiven}
 module _ {Q G X S : Type 0} (is_seat : Q → S → Type 0) (known : S → Known) (cause : Q → S → S → ℕ → Refusal → Type 0) (queue : Q) (jobs : List Job) (stops : Type 0) (gated : G → ℕ → Type 0) (gate : G) where
   -- a worker was started for this seat: it is to bring it back, or no thread could be made, and it brought it back
   abbrev pub IsStartedFor : S → Started Q G X S → Type 0
-  IsStartedFor seat (Running handle) = (queue_of handle.promise.queue.now ≡ queue) × (handle.promise.jobs.now ≡ jobs) × (handle.promise.gate.value ≡ gate) × (handle.promise.was.value ≡ seat)
+  IsStartedFor seat (Running handle) = (numbers_in handle.promise.queue.now ≡ queue) × (handle.promise.jobs.now ≡ jobs) × (handle.promise.gate.value ≡ gate) × (handle.promise.was.value ≡ seat)
   IsStartedFor seat (Unstarted back) = IsBack is_seat known cause queue jobs stops (gated gate) seat back
 
   -- whichever seat a worker was started for, this is what it brought back

@@ -5,7 +5,8 @@ use Rattle.history.specs.declared.refusals.Refusal.TheVariants.{BadSize, Closed,
 use Rattle.history.specs.declared.refusals.WornWord.TheVariants.{Tail as OfTail}
 use Rattle.history.specs.Limits.{body_bits}
 use Rattle.history.specs.Seats.{Known}
-use Rattle.history.specs.Answers.{DidShut, FoundShut, SeesMore, EndsByTry}
+use Rattle.carriers.specs.Answers.{DidShutOf, FoundShutOf, SeesMoreOf, EndsByTryOf}
+use Rattle.carriers.specs.DeedsOfNumbers.{known_by_deeds}
 use Rattle.dispatcher.specs.declared.signals.NoneLeft.{NoneLeft}
 use Rattle.dispatcher.specs.declared.submitter.Given.{Given}
 use Rattle.dispatcher.specs.declared.submitter.Unpushed.{Unpushed}
@@ -25,12 +26,12 @@ module _ {Q S : Type 0} (is_seat : Q → S → Type 0) (known : S → Known) (ca
   -- why this number wasn't pushed, and nothing was: a look told that none of so many workers was left; it is no body's number;
   -- or, with the queue's cause, a word was worn out, or the queue was found shut
   abbrev pub EndsPushOne : (workers number : ℕ) → (before after : S) → Unpushed → Type 0
-  EndsPushOne workers number before after (why.NoneLeft none) = SeesMore (known before) (known after) × (workers_of none ≡ workers)
-  EndsPushOne workers number before after (why.Refused BadSize) = SeesMore (known before) (known after) × (2 ^ body_bits ≤ number)
+  EndsPushOne workers number before after (why.NoneLeft none) = SeesMoreOf (known_by_deeds (known before)) (known_by_deeds (known after)) × (workers_of none ≡ workers)
+  EndsPushOne workers number before after (why.Refused BadSize) = SeesMoreOf (known_by_deeds (known before)) (known_by_deeds (known after)) × (2 ^ body_bits ≤ number)
   EndsPushOne workers number before after (why.Refused (WornOut word)) =
-      SeesMore (known before) (known after) × EndsByTry is_seat known cause queue before after 8 (WornOut word)
+      SeesMoreOf (known_by_deeds (known before)) (known_by_deeds (known after)) × EndsByTryOf is_seat (λ s. known_by_deeds (known s)) cause queue before after 8 (WornOut word)
   EndsPushOne workers number before after (why.Refused Closed) =
-      FoundShut (known before) (known after) × EndsByTry is_seat known cause queue before after 8 Closed
+      FoundShutOf (known_by_deeds (known before)) (known_by_deeds (known after)) × EndsByTryOf is_seat (λ s. known_by_deeds (known s)) cause queue before after 8 Closed
   EndsPushOne workers number before after (why.Refused _) = ⊥
 
   -- after so many of these numbers the next one wasn't pushed, for this reason
@@ -51,7 +52,7 @@ module _ {Q S : Type 0} (is_seat : Q → S → Type 0) (known : S → Known) (ca
   -- a shut was refused so, with the queue's cause: Tail was worn out
   abbrev pub CouldNotShut : (before after : S) → Refusal → Type 0
   CouldNotShut before after (WornOut OfTail) =
-      SeesMore (known before) (known after) × EndsByTry is_seat known cause queue before after 8 (WornOut OfTail)
+      SeesMoreOf (known_by_deeds (known before)) (known_by_deeds (known after)) × EndsByTryOf is_seat (λ s. known_by_deeds (known s)) cause queue before after 8 (WornOut OfTail)
   CouldNotShut before after _ = ⊥
 
   -- a shut by some seat was refused
@@ -63,7 +64,7 @@ module _ {Q S : Type 0} (is_seat : Q → S → Type 0) (known : S → Known) (ca
 
   -- the queue was shut, or found shut; or it couldn't be shut, for this reason
   abbrev pub EndsShutBy : (before after : S) → Option Refusal → Type 0
-  EndsShutBy before after None = DidShut (known before) (known after) ⊎ FoundShut (known before) (known after)
+  EndsShutBy before after None = DidShutOf (known_by_deeds (known before)) (known_by_deeds (known after)) ⊎ FoundShutOf (known_by_deeds (known before)) (known_by_deeds (known after))
   EndsShutBy before after (Some refusal) = CouldNotShut before after refusal
 
 -- the submitter brings back its seat, with the same number: it pushed numbers from 1 on, and then shut the queue, found it

@@ -7,7 +7,8 @@ use Rattle.history.specs.declared.refusals.Refusal.{Refusal}
 use Rattle.history.specs.declared.refusals.Refusal.TheVariants.{Stranger, WornOut}
 use Rattle.history.specs.Entries.{Leads, LeadsTo}
 use Rattle.history.specs.Seats.{Known}
-use Rattle.blocking_queue.specs.Answers.{EndsAfterWait}
+use Rattle.carriers.specs.DeedsOfNumbers.{known_by_deeds}
+use Rattle.shared_queue.specs.Answers.{EndsAfterWaitOf}
 use Rattle.job_results.specs.declared.jobs.Job.{Job}
 use Rattle.job_results.specs.declared.results.JobResult.{JobResult}
 use Rattle.job_results.specs.Results.{number_in, job_in}
@@ -56,7 +57,7 @@ module _ {Q S : Type 0} (is_seat : Q → S → Type 0) (known : S → Known) (ca
   EndsSo before after Stopped = stops × LeadsTo (known after).seen [] × ((known after).mine ≡ (known before).mine)
   EndsSo before after (NoMemory none) = (known after).mine ≡ (known before).mine
   EndsSo before after (Refused (WornOut word)) =
-      ((known after).mine ≡ (known before).mine) × EndsAfterWait is_seat known cause queue before after 8 (WornOut word)
+      ((known after).mine ≡ (known before).mine) × EndsAfterWaitOf is_seat (λ s. known_by_deeds (known s)) cause queue before after 8 (WornOut word)
   EndsSo before after (Refused Stranger) = (value : Taken) × IsNoJob jobs value.body × TookOne (known before) value (known after)
   EndsSo before after (Refused _) = ⊥
 

@@ -1,7 +1,7 @@
 //! A thread for each worker.
 ghost use Rattle.std.specs.Prelude.{◌≡◌, ◌≤◌, [], List, length, vec_capacity, IfErr, IfOk};
 ghost use Rattle.std.specs.List.{All, AllZip};
-ghost use Rattle.blocking_queue.specs.Queues.{queue_of};
+ghost use Rattle.shared_queue.specs.Queues.{numbers_in};
 ghost use Rattle.dispatcher.specs.Workers.{IsTaker, IsGiver};
 ghost use Rattle.dispatcher.specs.Turns.{IsBack};
 ghost use Rattle.dispatcher.specs.Submissions.{WasUnshut};
@@ -11,9 +11,10 @@ use crate::gate::Gate;
 use crate::signals::{Excuse, Signals};
 use crate::submitter::{Given, submit};
 use crate::workers::{Back, work};
-use blocking_queue::BlockingQueue;
+use carriers::Numbers;
 use history::{Fifo, Refusal};
 use job_results::Job;
+use shared_queue::SharedQueue;
 use std::alloc::Global;
 use std::marker::PhantomData;
 use std::snapshot::Snapshot;
@@ -38,7 +39,7 @@ pub struct Unrun<S> {
 // That a worker of these jobs brings this seat back.
 #[derive(Drop)]
 struct Returns<'s, 'a, Q: Fifo, G: Gate, X: Excuse> {
-    queue: &'s BlockingQueue<Q>,
+    queue: &'s SharedQueue<Numbers<Q>>,
     jobs: &'a [Job],
     gate: Snapshot<G>,
     was: Snapshot<Q::Seat>,
@@ -46,10 +47,10 @@ struct Returns<'s, 'a, Q: Fifo, G: Gate, X: Excuse> {
 }
 
 impl<'s, 'a, Q: Fifo, G: Gate, X: Excuse> Promise<Back<'a, Q::Seat>> for Returns<'s, 'a, Q, G, X> {
-    ghost use Rattle.blocking_queue.specs.Queues.{queue_of};
+    ghost use Rattle.shared_queue.specs.Queues.{numbers_in};
     ghost use Rattle.dispatcher.specs.Turns.{IsBack};
 
-    ghost kept_by = { λ p back. IsBack Q.is_seat Q.known Q.pop_cause (queue_of p.queue.now)
+    ghost kept_by = { λ p back. IsBack Q.is_seat Q.known Q.pop_cause (numbers_in p.queue.now)
         p.jobs.now X.cause (G.done p.gate.value) p.was.value back };
 }
 
@@ -65,15 +66,15 @@ fn start<'s, 'a: 's, E, R: Threads + Wait + Sync, Q: Fifo + Sync, G: Gate + Sync
     scope: &Scope<'s, E>,
     rt: &'s R,
     alloc: Global,
-    queue: &'s BlockingQueue<Q>,
+    queue: &'s SharedQueue<Numbers<Q>>,
     seat: Q::Seat,
     jobs: &'a [Job],
     gate: &'s G,
     signals: &'s Signals<X>,
     number: usize,
 ) -> Started<'s, 'a, Q, G, X>
-    requires { IsTaker Q.is_seat Q.permits Q.known (queue_of queue.now) seat }
-    ensures { IsStartedFor Q.is_seat Q.known Q.pop_cause (queue_of queue.now) jobs.now X.cause
+    requires { IsTaker Q.is_seat Q.permits Q.known (numbers_in queue.now) seat }
+    ensures { IsStartedFor Q.is_seat Q.known Q.pop_cause (numbers_in queue.now) jobs.now X.cause
         G.done gate.now seat result }
 {
     let was = Snapshot::of(&seat);
@@ -86,8 +87,8 @@ fn start<'s, 'a: 's, E, R: Threads + Wait + Sync, Q: Fifo + Sync, G: Gate + Sync
             excuse: PhantomData,
         },
         move || -> Back<Q::Seat>
-            requires { IsTaker Q.is_seat Q.permits Q.known (queue_of queue.now) seat }
-            ensures { IsBack Q.is_seat Q.known Q.pop_cause (queue_of queue.entry.now)
+            requires { IsTaker Q.is_seat Q.permits Q.known (numbers_in queue.now) seat }
+            ensures { IsBack Q.is_seat Q.known Q.pop_cause (numbers_in queue.entry.now)
                 jobs.entry.now X.cause (G.done gate.entry.now) seat result }
         { work(rt, alloc, queue, seat, jobs, gate, signals, number) },
     );
@@ -113,17 +114,17 @@ fn start_all<
     scope: &Scope<'s, E>,
     rt: &'s R,
     alloc: Global,
-    queue: &'s BlockingQueue<Q>,
+    queue: &'s SharedQueue<Numbers<Q>>,
     takers: Vec<Q::Seat>,
     jobs: &'a [Job],
     gate: &'s G,
     signals: &'s Signals<X>,
     mut started: Vec<Started<'s, 'a, Q, G, X>>,
 ) -> Vec<Started<'s, 'a, Q, G, X>>
-    requires takers { All (IsTaker Q.is_seat Q.permits Q.known (queue_of queue.now)) takers.items }
+    requires takers { All (IsTaker Q.is_seat Q.permits Q.known (numbers_in queue.now)) takers.items }
     requires none { started.items ≡ [] }
     requires room { length takers.items ≤ vec_capacity started }
-    ensures { AllZip (IsStartedFor Q.is_seat Q.known Q.pop_cause (queue_of queue.now) jobs.now
+    ensures { AllZip (IsStartedFor Q.is_seat Q.known Q.pop_cause (numbers_in queue.now) jobs.now
         X.cause G.done gate.now) takers.items result.items }
 {
     for seat in takers {
@@ -136,12 +137,12 @@ fn start_all<
 // What a worker brought back, once it has ended.
 fn join_one<'s, 'a, R: Threads, Q: Fifo, G: Gate, X: Excuse>(
     rt: &R,
-    queue: &BlockingQueue<Q>,
+    queue: &SharedQueue<Numbers<Q>>,
     jobs: &[Job],
     gate: &G,
     started: Started<'s, 'a, Q, G, X>,
 ) -> Back<'a, Q::Seat>
-    ensures { Returned Q.is_seat Q.known Q.pop_cause (queue_of queue.now) jobs.now X.cause
+    ensures { Returned Q.is_seat Q.known Q.pop_cause (numbers_in queue.now) jobs.now X.cause
         G.done gate.now started.entry result }
 {
     match started {
@@ -153,7 +154,7 @@ fn join_one<'s, 'a, R: Threads, Q: Fifo, G: Gate, X: Excuse>(
 // What each worker brought back, in their order, once all have ended.
 fn join_all<'s, 'a, R: Threads, Q: Fifo, G: Gate, X: Excuse>(
     rt: &R,
-    queue: &BlockingQueue<Q>,
+    queue: &SharedQueue<Numbers<Q>>,
     jobs: &[Job],
     gate: &G,
     started: Vec<Started<'s, 'a, Q, G, X>>,
@@ -161,7 +162,7 @@ fn join_all<'s, 'a, R: Threads, Q: Fifo, G: Gate, X: Excuse>(
 ) -> Vec<Back<'a, Q::Seat>>
     requires none { workers.items ≡ [] }
     requires room { length started.items ≤ vec_capacity workers }
-    ensures { AllZip (Returned Q.is_seat Q.known Q.pop_cause (queue_of queue.now) jobs.now
+    ensures { AllZip (Returned Q.is_seat Q.known Q.pop_cause (numbers_in queue.now) jobs.now
         X.cause G.done gate.now) started.entry.items result.items }
 {
     for one in started {
@@ -184,18 +185,18 @@ pub(crate) fn run<
     scope: &Scope<'s, E>,
     rt: &'s R,
     alloc: Global,
-    queue: &'s BlockingQueue<Q>,
+    queue: &'s SharedQueue<Numbers<Q>>,
     giver: Q::Seat,
     takers: Vec<Q::Seat>,
     jobs: &'a [Job],
     gate: &'s G,
     signals: &'s Signals<X>,
 ) -> Result<JobsRun<'a, Q::Seat>, Unrun<Q::Seat>>
-    requires giver { IsGiver Q.is_seat Q.permits Q.known (queue_of queue.now) giver }
-    requires takers { All (IsTaker Q.is_seat Q.permits Q.known (queue_of queue.now)) takers.items }
-    requires excuse { WasUnshut Q.is_seat Q.known Q.shut_cause (queue_of queue.now) → X.cause }
+    requires giver { IsGiver Q.is_seat Q.permits Q.known (numbers_in queue.now) giver }
+    requires takers { All (IsTaker Q.is_seat Q.permits Q.known (numbers_in queue.now)) takers.items }
+    requires excuse { WasUnshut Q.is_seat Q.known Q.shut_cause (numbers_in queue.now) → X.cause }
     ensures run { IfOk result (HasRun Q.is_seat Q.known Q.push_cause Q.pop_cause Q.shut_cause
-        (queue_of queue.now) jobs.now X.cause (G.done gate.now) giver takers.items) }
+        (numbers_in queue.now) jobs.now X.cause (G.done gate.now) giver takers.items) }
     ensures unrun { IfErr result (IsAsGiven giver takers) }
     ensures only_memory { IfErr result (λ unrun. unrun.refusal ≡ Refusal.Memory) }
 {

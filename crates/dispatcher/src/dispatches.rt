@@ -3,7 +3,7 @@ ghost use Rattle.std.specs.Prelude.{◌≡◌, ◌<◌, ◌⊎◌, ◌↔◌, Is
 ghost use Rattle.std.specs.List.{All};
 ghost use Rattle.job_results.specs.Jobs.{job_rows};
 ghost use Rattle.job_results.specs.Results.{row_of, HaveJobs};
-ghost use Rattle.blocking_queue.specs.Queues.{queue_of};
+ghost use Rattle.shared_queue.specs.Queues.{numbers_in};
 ghost use Rattle.dispatcher.specs.Workers.{IsTaker, IsGiver, IsBadSize, StopsDispatch, StopsWorkers};
 ghost use Rattle.dispatcher.specs.Submissions.{WasUnshut};
 ghost use Rattle.dispatcher.specs.Crews.{HasRun, IsAsGiven, IsRefusedSize};
@@ -13,9 +13,10 @@ use crate::crews::{JobsRun, Unrun, run};
 use crate::gate::Gate;
 use crate::results::{Dispatched, gathered, seats_for};
 use crate::signals::{Excuse, Signals};
-use blocking_queue::BlockingQueue;
+use carriers::Numbers;
 use history::{Fifo, Refusal};
 use job_results::{Gather, Job, JobResult};
+use shared_queue::SharedQueue;
 use std::alloc::Global;
 use std::marker::Brand;
 use std::sync::Wait;
@@ -50,14 +51,14 @@ fn is_bad_size<S>(takers: &[S], jobs: &[Job]) -> bool
 pub fn run_jobs<'a, R: Threads + Wait + Sync, Q: Fifo + Sync, G: Gate + Sync>(
     rt: &R,
     alloc: Global,
-    queue: &BlockingQueue<Q>,
+    queue: &SharedQueue<Numbers<Q>>,
     giver: Q::Seat,
     takers: Vec<Q::Seat>,
     jobs: &'a [Job],
     gate: &G,
 ) -> Result<JobsRun<'a, Q::Seat>, Unrun<Q::Seat>>
-    requires giver { IsGiver Q.is_seat Q.permits Q.known (queue_of queue.now) giver }
-    requires takers { All (IsTaker Q.is_seat Q.permits Q.known (queue_of queue.now)) takers.items }
+    requires giver { IsGiver Q.is_seat Q.permits Q.known (numbers_in queue.now) giver }
+    requires takers { All (IsTaker Q.is_seat Q.permits Q.known (numbers_in queue.now)) takers.items }
     //= jobs/run: Jobs that are run: the submitter pushed the numbers from 1 on, in order and each once, all of them or up to
     //=   the first that wasn't pushed: a look told that no worker was left, or the push was refused, with the queue's
     //=   cause. Then it shut the queue, found it shut, or was refused the shut, with the queue's cause. Each worker, in the
@@ -65,8 +66,8 @@ pub fn run_jobs<'a, R: Threads + Wait + Sync, Q: Fifo + Sync, G: Gate + Sync>(
     //=   was refused, and the gate was told of each. It ended since it found the queue shut and empty, or empty where a
     //=   shut was refused; or was refused memory, or a pop, with the queue's cause; or took a number that no job has.
     ensures run { IfOk result (HasRun Q.is_seat Q.known Q.push_cause Q.pop_cause Q.shut_cause
-        (queue_of queue.now) jobs.now
-        (WasUnshut Q.is_seat Q.known Q.shut_cause (queue_of queue.now)) (G.done gate.now)
+        (numbers_in queue.now) jobs.now
+        (WasUnshut Q.is_seat Q.known Q.shut_cause (numbers_in queue.now)) (G.done gate.now)
         giver takers.items) }
     //= jobs/unrun (unrun, sized, refusal): Refused, `run_jobs` gives the seats back as they were. `BadSize` comes exactly
     //=   where there is no taker or more than 1,000,000 jobs; else only `Memory`.
@@ -88,17 +89,17 @@ pub fn run_jobs<'a, R: Threads + Wait + Sync, Q: Fifo + Sync, G: Gate + Sync>(
 fn run_with<'a, R: Threads + Wait + Sync, Q: Fifo + Sync, G: Gate + Sync, X: Excuse + Sync>(
     rt: &R,
     alloc: Global,
-    queue: &BlockingQueue<Q>,
+    queue: &SharedQueue<Numbers<Q>>,
     giver: Q::Seat,
     takers: Vec<Q::Seat>,
     jobs: &'a [Job],
     gate: &G,
 ) -> Result<JobsRun<'a, Q::Seat>, Unrun<Q::Seat>>
-    requires giver { IsGiver Q.is_seat Q.permits Q.known (queue_of queue.now) giver }
-    requires takers { All (IsTaker Q.is_seat Q.permits Q.known (queue_of queue.now)) takers.items }
-    requires excuse { WasUnshut Q.is_seat Q.known Q.shut_cause (queue_of queue.now) → X.cause }
+    requires giver { IsGiver Q.is_seat Q.permits Q.known (numbers_in queue.now) giver }
+    requires takers { All (IsTaker Q.is_seat Q.permits Q.known (numbers_in queue.now)) takers.items }
+    requires excuse { WasUnshut Q.is_seat Q.known Q.shut_cause (numbers_in queue.now) → X.cause }
     ensures run { IfOk result (HasRun Q.is_seat Q.known Q.push_cause Q.pop_cause Q.shut_cause
-        (queue_of queue.now) jobs.now X.cause (G.done gate.now) giver takers.items) }
+        (numbers_in queue.now) jobs.now X.cause (G.done gate.now) giver takers.items) }
     ensures unrun { IfErr result (IsAsGiven giver takers) }
     ensures only_memory { IfErr result (λ unrun. unrun.refusal ≡ Refusal.Memory) }
 {
@@ -117,18 +118,18 @@ fn run_in_scope<
 >(
     rt: &'s R,
     alloc: Global,
-    queue: &'s BlockingQueue<Q>,
+    queue: &'s SharedQueue<Numbers<Q>>,
     giver: Q::Seat,
     takers: Vec<Q::Seat>,
     jobs: &'a [Job],
     gate: &'s G,
     told: &'s Signals<X>,
 ) -> Result<JobsRun<'a, Q::Seat>, Unrun<Q::Seat>>
-    requires giver { IsGiver Q.is_seat Q.permits Q.known (queue_of queue.now) giver }
-    requires takers { All (IsTaker Q.is_seat Q.permits Q.known (queue_of queue.now)) takers.items }
-    requires excuse { WasUnshut Q.is_seat Q.known Q.shut_cause (queue_of queue.now) → X.cause }
+    requires giver { IsGiver Q.is_seat Q.permits Q.known (numbers_in queue.now) giver }
+    requires takers { All (IsTaker Q.is_seat Q.permits Q.known (numbers_in queue.now)) takers.items }
+    requires excuse { WasUnshut Q.is_seat Q.known Q.shut_cause (numbers_in queue.now) → X.cause }
     ensures run { IfOk result (HasRun Q.is_seat Q.known Q.push_cause Q.pop_cause Q.shut_cause
-        (queue_of queue.now) jobs.now X.cause (G.done gate.now) giver takers.items) }
+        (numbers_in queue.now) jobs.now X.cause (G.done gate.now) giver takers.items) }
     ensures unrun { IfErr result (IsAsGiven giver takers) }
     ensures only_memory { IfErr result (λ unrun. unrun.refusal ≡ Refusal.Memory) }
 {
@@ -136,13 +137,13 @@ fn run_in_scope<
         thread::scope_env(),
         rt,
         |scope| -> Result<JobsRun<Q::Seat>, Unrun<Q::Seat>>
-            requires giver { IsGiver Q.is_seat Q.permits Q.known (queue_of queue.now) giver }
-            requires takers { All (IsTaker Q.is_seat Q.permits Q.known (queue_of queue.now))
+            requires giver { IsGiver Q.is_seat Q.permits Q.known (numbers_in queue.now) giver }
+            requires takers { All (IsTaker Q.is_seat Q.permits Q.known (numbers_in queue.now))
                 takers.items }
-            requires excuse { WasUnshut Q.is_seat Q.known Q.shut_cause (queue_of queue.now)
+            requires excuse { WasUnshut Q.is_seat Q.known Q.shut_cause (numbers_in queue.now)
                 → X.cause }
             ensures run { IfOk result (HasRun Q.is_seat Q.known Q.push_cause Q.pop_cause
-                Q.shut_cause (queue_of queue.entry.now) jobs.entry.now X.cause
+                Q.shut_cause (numbers_in queue.entry.now) jobs.entry.now X.cause
                 (G.done gate.entry.now) giver takers.items) }
             ensures unrun { IfErr result (IsAsGiven giver takers) }
             ensures only_memory { IfErr result (λ unrun. unrun.refusal ≡ Refusal.Memory) }
@@ -160,25 +161,25 @@ fn run_in_scope<
 pub fn dispatch_keeping_seats<'a, R: Threads + Wait + Sync, Q: Fifo + Sync, G: Gate + Sync>(
     rt: &R,
     alloc: Global,
-    queue: &BlockingQueue<Q>,
+    queue: &SharedQueue<Numbers<Q>>,
     giver: Q::Seat,
     takers: Vec<Q::Seat>,
     jobs: &'a [Job],
     gate: &G,
 ) -> Result<Dispatched<'a, Q::Seat>, Refusal>
-    requires giver { IsGiver Q.is_seat Q.permits Q.known (queue_of queue.now) giver }
-    requires takers { All (IsTaker Q.is_seat Q.permits Q.known (queue_of queue.now)) takers.items }
+    requires giver { IsGiver Q.is_seat Q.permits Q.known (numbers_in queue.now) giver }
+    requires takers { All (IsTaker Q.is_seat Q.permits Q.known (numbers_in queue.now)) takers.items }
     //= jobs/kept (rows, same, went, sized, refusal, lost): A dispatch that keeps the seats answers as `dispatch` does; with the
     //=   results come the seats, the queue's, each with the number that it had, the giver's first: the number of each job was
     //=   taken from the queue by one of them.
     ensures rows { IfOk result (λ d. map row_of d.results.items ≡ job_rows 1 jobs.now) }
     ensures same { IfOk result (λ d. HaveJobs d.results.items jobs.now) }
-    ensures went { IfOk result (λ d. WentOver Q.is_seat Q.known (queue_of queue.now) giver takers.items
+    ensures went { IfOk result (λ d. WentOver Q.is_seat Q.known (numbers_in queue.now) giver takers.items
         (length jobs.now) d.seats.items) }
     ensures sized { (result ≡ Err Refusal.BadSize) ↔ IsBadSize takers.items jobs.now }
     ensures refusal { IfErr result StopsDispatch }
     ensures lost { IfErr result (LosesOnly (WasLost Q.is_seat Q.known Q.push_cause Q.pop_cause
-        Q.shut_cause (queue_of queue.now) jobs.now (G.done gate.now) giver takers.items)) }
+        Q.shut_cause (numbers_in queue.now) jobs.now (G.done gate.now) giver takers.items)) }
 {
     if is_bad_size(&takers, jobs) {
         return Err(Refusal::BadSize);
@@ -210,14 +211,14 @@ pub fn dispatch_keeping_seats<'a, R: Threads + Wait + Sync, Q: Fifo + Sync, G: G
 pub fn dispatch<'a, R: Threads + Wait + Sync, Q: Fifo + Sync, G: Gate + Sync>(
     rt: &R,
     alloc: Global,
-    queue: &BlockingQueue<Q>,
+    queue: &SharedQueue<Numbers<Q>>,
     giver: Q::Seat,
     takers: Vec<Q::Seat>,
     jobs: &'a [Job],
     gate: &G,
 ) -> Result<Vec<JobResult<'a>>, Refusal>
-    requires giver { IsGiver Q.is_seat Q.permits Q.known (queue_of queue.now) giver }
-    requires takers { All (IsTaker Q.is_seat Q.permits Q.known (queue_of queue.now)) takers.items }
+    requires giver { IsGiver Q.is_seat Q.permits Q.known (numbers_in queue.now) giver }
+    requires takers { All (IsTaker Q.is_seat Q.permits Q.known (numbers_in queue.now)) takers.items }
     //= jobs/dispatch (rows, same, sized, refusal, lost): A dispatch answers each job's number, kind and value once, in the
     //=   order of the jobs. `BadSize` comes exactly where there is no taker or more than 1,000,000 jobs; else `Lost`, only
     //=   where jobs were run of which some worker brought back no result, and `Memory`.
@@ -226,7 +227,7 @@ pub fn dispatch<'a, R: Threads + Wait + Sync, Q: Fifo + Sync, G: Gate + Sync>(
     ensures sized { (result ≡ Err Refusal.BadSize) ↔ IsBadSize takers.items jobs.now }
     ensures refusal { IfErr result StopsDispatch }
     ensures lost { IfErr result (LosesOnly (WasLost Q.is_seat Q.known Q.push_cause Q.pop_cause
-        Q.shut_cause (queue_of queue.now) jobs.now (G.done gate.now) giver takers.items)) }
+        Q.shut_cause (numbers_in queue.now) jobs.now (G.done gate.now) giver takers.items)) }
 {
     match dispatch_keeping_seats(rt, alloc, queue, giver, takers, jobs, gate) {
         Ok(done) => {

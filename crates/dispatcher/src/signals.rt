@@ -1,8 +1,8 @@
 //! What the submitter and the workers tell each other, and what only a look at that, or at memory, can tell.
 ghost use Rattle.std.specs.Prelude.{◌≡◌, ◌<◌, ◌≤◌, IsTrue, true, Bool, vec_len, vec_capacity, IfSome, OnOk, OnErr};
 
-use blocking_queue::Deadline;
 use job_results::JobResult;
+use shared_queue::Deadline;
 use std::marker::{Brand, PhantomData};
 use std::sync::atomic::{AtomicIn, AtomicUsize, Ordering, Rule};
 use std::thread::SpawnError;

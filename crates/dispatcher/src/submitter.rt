@@ -1,13 +1,14 @@
 //! The submitter: it pushes the numbers of the jobs, and then shuts the queue.
 ghost use Rattle.std.specs.Prelude.{◌≡◌, OnOk, OnErr, IfErr};
 ghost use Rattle.history.specs.Seats.{MayPush};
-ghost use Rattle.blocking_queue.specs.Queues.{queue_of};
+ghost use Rattle.shared_queue.specs.Queues.{numbers_in};
 ghost use Rattle.dispatcher.specs.Workers.{IsGiver, HasPushedOne};
 ghost use Rattle.dispatcher.specs.Submissions.{EndsPushOne, HasOffered, EndsShutBy, WasUnshut, HasGiven, refusal_of};
 
 use crate::signals::{AllEnded, Excuse, NoneLeft, Signals};
-use blocking_queue::{BlockingQueue, InTime};
+use carriers::{Carrier, Numbers};
 use history::{Body, Fifo, Refusal};
+use shared_queue::{InTime, SharedQueue};
 use std::sync::Wait;
 
 /// Why a number wasn't pushed.
@@ -44,19 +45,19 @@ pub struct Given<S> {
 // Pushes one number while a worker runs, and sleeps while no node is free.
 fn push_one<R: Wait, Q: Fifo, X: Excuse>(
     rt: &R,
-    queue: &BlockingQueue<Q>,
+    queue: &SharedQueue<Numbers<Q>>,
     seat: &mut Q::Seat,
     number: u64,
     workers: usize,
     signals: &Signals<X>,
 ) -> Result<(), Unpushed>
-    requires { IsGiver Q.is_seat Q.permits Q.known (queue_of queue.now) seat.old }
-    ensures giver { IsGiver Q.is_seat Q.permits Q.known (queue_of queue.now) seat.new }
+    requires { IsGiver Q.is_seat Q.permits Q.known (numbers_in queue.now) seat.old }
+    ensures giver { IsGiver Q.is_seat Q.permits Q.known (numbers_in queue.now) seat.new }
     ensures number { (Q.known seat.new).number ≡ (Q.known seat.old).number }
     ensures pushed { OnOk result (HasPushedOne (Q.known seat.old) number (Q.known seat.new)) }
     ensures kept { OnErr result ((Q.known seat.new).mine ≡ (Q.known seat.old).mine) }
     ensures refusal { IfErr result (EndsPushOne Q.is_seat Q.known Q.push_cause
-        (queue_of queue.now) workers number seat.old seat.new) }
+        (numbers_in queue.now) workers number seat.old seat.new) }
 {
     let Some(body) = Body::new(number) else {
         return Err(Unpushed::Refused(Refusal::BadSize));
@@ -67,8 +68,8 @@ fn push_one<R: Wait, Q: Fifo, X: Excuse>(
         }
         match queue.send_until(rt, seat, body, &AllEnded::new(signals, workers)) {
             Ok(InTime::Done(())) => return Ok(()),
-            Ok(InTime::Late(_)) => {}
-            Err(refusal) => return Err(Unpushed::Refused(refusal)),
+            Ok(InTime::Late(_unsent)) => {}
+            Err(unpushed) => return Err(Unpushed::Refused(unpushed.refusal)),
         }
     }
     unreachable!()
@@ -77,16 +78,16 @@ fn push_one<R: Wait, Q: Fifo, X: Excuse>(
 // Pushes 1 and so on to the number of jobs. Ends at the first number that isn't pushed, and tells why.
 fn push_all<R: Wait, Q: Fifo, X: Excuse>(
     rt: &R,
-    queue: &BlockingQueue<Q>,
+    queue: &SharedQueue<Numbers<Q>>,
     seat: &mut Q::Seat,
     jobs: usize,
     workers: usize,
     signals: &Signals<X>,
 ) -> Option<Unpushed>
-    requires { IsGiver Q.is_seat Q.permits Q.known (queue_of queue.now) seat.old }
-    ensures giver { IsGiver Q.is_seat Q.permits Q.known (queue_of queue.now) seat.new }
+    requires { IsGiver Q.is_seat Q.permits Q.known (numbers_in queue.now) seat.old }
+    ensures giver { IsGiver Q.is_seat Q.permits Q.known (numbers_in queue.now) seat.new }
     ensures number { (Q.known seat.new).number ≡ (Q.known seat.old).number }
-    ensures offered { HasOffered Q.is_seat Q.known Q.push_cause (queue_of queue.now) jobs workers
+    ensures offered { HasOffered Q.is_seat Q.known Q.push_cause (numbers_in queue.now) jobs workers
         seat.old result seat.new }
 {
     for count in 0..jobs as u64 {
@@ -98,12 +99,16 @@ fn push_all<R: Wait, Q: Fifo, X: Excuse>(
 }
 
 // Shuts the queue; where it can't be shut, tells why.
-fn shut<R: Wait, Q: Fifo>(rt: &R, queue: &BlockingQueue<Q>, seat: &mut Q::Seat) -> Option<Refusal>
-    requires seat { Q.is_seat (queue_of queue.now) seat.old }
-    requires role { MayPush (Q.permits (queue_of queue.now)) (Q.known seat.old).number }
-    ensures seat { Q.is_seat (queue_of queue.now) seat.new }
+fn shut<R: Wait, Q: Fifo>(
+    rt: &R,
+    queue: &SharedQueue<Numbers<Q>>,
+    seat: &mut Q::Seat,
+) -> Option<Refusal>
+    requires seat { Q.is_seat (numbers_in queue.now) seat.old }
+    requires role { MayPush (Q.permits (numbers_in queue.now)) (Q.known seat.old).number }
+    ensures seat { Q.is_seat (numbers_in queue.now) seat.new }
     ensures number { (Q.known seat.new).number ≡ (Q.known seat.old).number }
-    ensures shut { EndsShutBy Q.is_seat Q.known Q.shut_cause (queue_of queue.now)
+    ensures shut { EndsShutBy Q.is_seat Q.known Q.shut_cause (numbers_in queue.now)
         seat.old seat.new result }
 {
     match queue.shut(rt, seat) {
@@ -116,15 +121,15 @@ fn shut<R: Wait, Q: Fifo>(rt: &R, queue: &BlockingQueue<Q>, seat: &mut Q::Seat) 
 /// yet; or tells the workers that it can't be.
 pub(crate) fn submit<R: Wait, Q: Fifo, X: Excuse>(
     rt: &R,
-    queue: &BlockingQueue<Q>,
+    queue: &SharedQueue<Numbers<Q>>,
     mut seat: Q::Seat,
     jobs: usize,
     workers: usize,
     signals: &Signals<X>,
 ) -> Given<Q::Seat>
-    requires giver { IsGiver Q.is_seat Q.permits Q.known (queue_of queue.now) seat }
-    requires excuse { WasUnshut Q.is_seat Q.known Q.shut_cause (queue_of queue.now) → X.cause }
-    ensures { HasGiven Q.is_seat Q.known Q.push_cause Q.shut_cause (queue_of queue.now) jobs workers
+    requires giver { IsGiver Q.is_seat Q.permits Q.known (numbers_in queue.now) seat }
+    requires excuse { WasUnshut Q.is_seat Q.known Q.shut_cause (numbers_in queue.now) → X.cause }
+    ensures { HasGiven Q.is_seat Q.known Q.push_cause Q.shut_cause (numbers_in queue.now) jobs workers
         seat result }
 {
     let refused = push_all(rt, queue, &mut seat, jobs, workers, signals);

@@ -1,6 +1,6 @@
 //! A worker: turns until it is told to stop.
 ghost use Rattle.std.specs.Prelude.{◌≡◌, IfOk, IfErr, OnOk, OnErr};
-ghost use Rattle.blocking_queue.specs.Queues.{queue_of};
+ghost use Rattle.shared_queue.specs.Queues.{numbers_in};
 ghost use Rattle.history.specs.Entries.{LeadsTo};
 ghost use Rattle.job_results.specs.Results.{number_in};
 ghost use Rattle.dispatcher.specs.Workers.{IsTaker};
@@ -9,9 +9,10 @@ ghost use Rattle.dispatcher.specs.Turns.{TookNext, DoesNext, EndsSo, IsBack};
 use crate::gate::Gate;
 use crate::signals::{Excuse, GivenUp, NoMemory, Signals, room_for_one};
 use crate::worker_turns::do_job;
-use blocking_queue::{BlockingQueue, InTime};
+use carriers::Numbers;
 use history::{Fifo, Refusal, Taken};
 use job_results::{Job, JobResult};
+use shared_queue::{InTime, SharedQueue};
 use std::alloc::Global;
 use std::sync::Wait;
 
@@ -39,49 +40,49 @@ pub struct Back<'a, S> {
 // The next value, for which it sleeps; none where its sleep was ended, and none was left.
 fn next_value<R: Wait, Q: Fifo, X: Excuse>(
     rt: &R,
-    queue: &BlockingQueue<Q>,
+    queue: &SharedQueue<Numbers<Q>>,
     seat: &mut Q::Seat,
     jobs: &[Job],
     signals: &Signals<X>,
 ) -> Result<Option<Taken>, End>
-    requires { IsTaker Q.is_seat Q.permits Q.known (queue_of queue.now) seat.old }
-    ensures seat { IsTaker Q.is_seat Q.permits Q.known (queue_of queue.now) seat.new }
+    requires { IsTaker Q.is_seat Q.permits Q.known (numbers_in queue.now) seat.old }
+    ensures seat { IsTaker Q.is_seat Q.permits Q.known (numbers_in queue.now) seat.new }
     ensures number { (Q.known seat.new).number ≡ (Q.known seat.old).number }
     ensures took { IfOk result (TookNext (Q.known seat.old) (Q.known seat.new)) }
-    ensures ended { IfErr result (EndsSo Q.is_seat Q.known Q.pop_cause (queue_of queue.now)
+    ensures ended { IfErr result (EndsSo Q.is_seat Q.known Q.pop_cause (numbers_in queue.now)
         jobs.now X.cause seat.old seat.new) }
 {
     match queue.recv_until(rt, seat, &GivenUp::new(signals)) {
-        Ok(came) => match &came {
-            InTime::Done(taken) => Ok(Some(*taken)),
-            InTime::Late(_) => {
-                if signals.has_given_up() {
-                    return Err(End::Stopped);
-                }
-                Ok(None)
+        Ok(InTime::Done(front)) => Ok(Some(front.into_taken())),
+        Ok(InTime::Late(_late)) => {
+            if signals.has_given_up() {
+                return Err(End::Stopped);
             }
+            Ok(None)
+        }
+        Err(refusal) => match refusal {
+            Refusal::Closed => Err(End::Finished),
+            _ => Err(End::Refused(refusal)),
         },
-        Err(Refusal::Closed) => Err(End::Finished),
-        Err(refusal) => Err(End::Refused(refusal)),
     }
 }
 
 // Takes one value, and does its job; or takes none, where its sleep was ended.
 fn work_next<'a, R: Wait, Q: Fifo, G: Gate, X: Excuse>(
     rt: &R,
-    queue: &BlockingQueue<Q>,
+    queue: &SharedQueue<Numbers<Q>>,
     seat: &mut Q::Seat,
     jobs: &'a [Job],
     gate: &G,
     out: &mut Vec<JobResult<'a>>,
     signals: &Signals<X>,
 ) -> Result<(), End>
-    requires { IsTaker Q.is_seat Q.permits Q.known (queue_of queue.now) seat.old }
-    ensures seat { IsTaker Q.is_seat Q.permits Q.known (queue_of queue.now) seat.new }
+    requires { IsTaker Q.is_seat Q.permits Q.known (numbers_in queue.now) seat.old }
+    ensures seat { IsTaker Q.is_seat Q.permits Q.known (numbers_in queue.now) seat.new }
     ensures number { (Q.known seat.new).number ≡ (Q.known seat.old).number }
     ensures did { OnOk result (DoesNext jobs.now (G.done gate.now) (Q.known seat.old)
         (Q.known seat.new) out.old.items out.new.items) }
-    ensures ended { IfErr result (EndsSo Q.is_seat Q.known Q.pop_cause (queue_of queue.now)
+    ensures ended { IfErr result (EndsSo Q.is_seat Q.known Q.pop_cause (numbers_in queue.now)
         jobs.now X.cause seat.old seat.new) }
     ensures same { OnErr result (out.new.items ≡ out.old.items) }
 {
@@ -101,14 +102,14 @@ fn work_next<'a, R: Wait, Q: Fifo, G: Gate, X: Excuse>(
 fn work_on<'a, R: Wait, Q: Fifo, G: Gate, X: Excuse>(
     rt: &R,
     alloc: Global,
-    queue: &BlockingQueue<Q>,
+    queue: &SharedQueue<Numbers<Q>>,
     mut seat: Q::Seat,
     jobs: &'a [Job],
     gate: &G,
     signals: &Signals<X>,
 ) -> Back<'a, Q::Seat>
-    requires { IsTaker Q.is_seat Q.permits Q.known (queue_of queue.now) seat }
-    ensures { IsBack Q.is_seat Q.known Q.pop_cause (queue_of queue.now) jobs.now X.cause
+    requires { IsTaker Q.is_seat Q.permits Q.known (numbers_in queue.now) seat }
+    ensures { IsBack Q.is_seat Q.known Q.pop_cause (numbers_in queue.now) jobs.now X.cause
         (G.done gate.now) seat result }
 {
     let mut results = Vec::new(alloc);
@@ -126,15 +127,15 @@ fn work_on<'a, R: Wait, Q: Fifo, G: Gate, X: Excuse>(
 pub(crate) fn work<'a, R: Wait, Q: Fifo, G: Gate, X: Excuse>(
     rt: &R,
     alloc: Global,
-    queue: &BlockingQueue<Q>,
+    queue: &SharedQueue<Numbers<Q>>,
     seat: Q::Seat,
     jobs: &'a [Job],
     gate: &G,
     signals: &Signals<X>,
     number: usize,
 ) -> Back<'a, Q::Seat>
-    requires { IsTaker Q.is_seat Q.permits Q.known (queue_of queue.now) seat }
-    ensures { IsBack Q.is_seat Q.known Q.pop_cause (queue_of queue.now) jobs.now X.cause
+    requires { IsTaker Q.is_seat Q.permits Q.known (numbers_in queue.now) seat }
+    ensures { IsBack Q.is_seat Q.known Q.pop_cause (numbers_in queue.now) jobs.now X.cause
         (G.done gate.now) seat result }
 {
     let back = match signals.left_out(number) {

@@ -1,5 +1,5 @@
 -- What an engine answers of the expansion of a recipe.
-use Rattle.std.proofs.Common.{◌≡◌, ℕ, ◌+◌, ◌≤◌, List, [], Option, Some, None, Result, Ok, Err, inl, inr, refl, sym, ap, subst, ◌∙◌}
+use Rattle.std.proofs.Common.{◌≡◌, ℕ, ◌+◌, List, [], Option, None, Result, Ok, Err, inl, inr, refl, sym, ap, subst, ◌∙◌}
 use Rattle.std.specs.Prelude.{IfSome, option_map}
 use Rattle.engine_faults.specs.Faults.{IsEventRefusal}
 use Rattle.engine_faults.specs.declared.faults.Fault.{Fault}
@@ -13,7 +13,7 @@ use Rattle.text_io.specs.Devices.{SinkState}
 use Rattle.text_io.proofs.Sends.{Appends-Sends}
 use Rattle.run_engine.specs.Extents.{IsExtentOf}
 use Rattle.run_engine.specs.declared.counts.RunExtent.{RunExtent}
-use Rattle.expand_engine.specs.Expansions.{EndsAs}
+use Rattle.expand_engine.specs.Expansions.{EndsAs, IsActFault}
 use Rattle.expand_engine.specs.RecipesRun.{AnswersOf}
 use Rattle.expand_engine.specs.declared.acts.Stop.{Stop}
 use Rattle.expand_engine.specs.declared.expansions.Expansion.{Expansion}
@@ -42,7 +42,7 @@ not_write : (refusal : Refusal) → IsEventRefusal refusal → refusal ≡ Write
 not_write refusal event write = subst IsEventRefusal write event
 
 module _ (t : RunText) (e : Expansion) (counted : RunExtent) (count : IsExtentOf e.schedule counted) (refuses : counted.refusal ≡ option_map (λ (stop : Stop). stop.refusal) e.stop)
-    (fault : IfSome e.stop (λ stop. IsEventRefusal stop.refusal × (7 ≤ stop.act.line))) (text : List ℕ) (due : IsDue t e.schedule counted count.world text) (a b : SinkState) (same : Type 0) where
+    (fault : IfSome e.stop (λ stop. IsActFault stop.refusal stop.act.line)) (text : List ℕ) (due : IsDue t e.schedule counted count.world text) (a b : SinkState) (same : Type 0) where
   -- its writing stopped
   pub AnswersOf-telling : (refusal : Refusal) (told : Fault) → told ≡ record { refusal = refusal; line = None } → Tells {A = Unit {0}} a b text [] (Err refusal) → AnswersOf t e a b same (Err told)
   AnswersOf-telling refusal told is tells = subst (λ (f : Fault). AnswersOf t e a b same (Err f)) (sym is) (by refusal tells.cause)
@@ -84,7 +84,7 @@ module _ (t : RunText) (e : Expansion) (counted : RunExtent) (count : IsExtentOf
   }
   AnswersOf-ended (Err told) ends sends quiet =
       let stop = ends.0 in
-      let kind : IsEventRefusal stop.refusal × (7 ≤ stop.act.line) = subst (λ (o : Option Stop). IfSome o (λ stop. IsEventRefusal stop.refusal × (7 ≤ stop.act.line))) ends.1 fault in
+      let kind : IsActFault stop.refusal stop.act.line = subst (λ (o : Option Stop). IfSome o (λ stop. IsActFault stop.refusal stop.act.line)) ends.1 fault in
       let at = header_lines e.schedule.version + counted.made + 1 in
       let there = is_stop t e.schedule counted count text due a b same stop.refusal at (refuses ∙ ap (option_map (λ (stop : Stop). stop.refusal)) ends.1) refl in
       subst (λ (f : Fault). AnswersOf t e a b same (Err f)) (sym ends.2)

@@ -7,7 +7,7 @@ use Rattle.std.proofs.lemmas.List.{append-nil, length-append}
 use Rattle.std.proofs.lemmas.List.Elements.{All-nil, All-cons, All-append}
 use Rattle.schedule_text.specs.declared.schedules.Event.{Event}
 use Rattle.schedule_text.specs.declared.schedules.Event.TheVariants.{Steps}
-use Rattle.schedule_text.specs.declared.fields.Field.TheVariants.{Bits, Nodes, Limit, Actors}
+use Rattle.schedule_text.specs.declared.fields.Field.TheVariants.{Bits, Nodes, Limit, Actors, Events}
 use Rattle.text_io.specs.Grammars.{AreDue, state_after}
 use Rattle.expand_engine.specs.declared.recipes.Act.{Act}
 use Rattle.expand_engine.specs.declared.recipes.Due.{Due}
@@ -40,10 +40,10 @@ Fits VersionDue number None = 1 ≤ number
 Fits QueueDue number None = 2 ≤ number
 Fits (NumberDue bits Bits) number None = 3 ≤ number
 Fits (NumberDue bits Nodes) number None = 4 ≤ number
-Fits (NumberDue bits Limit) number None = 5 ≤ number
-Fits (NumberDue bits Actors) number None = 6 ≤ number
-Fits (ActDue acts) number None = (7 ≤ number) × (acts ≤ 100000000)
-Fits (Repeated acts times) number (Some held) = (7 ≤ number) × (acts ≤ 100000000) × (held.times ≡ times) × All IsActOf held.body
+Fits (NumberDue bits Limit) number None = 4 ≤ number
+Fits (NumberDue bits Actors) number None = 5 ≤ number
+Fits (ActDue acts) number None = (6 ≤ number) × (acts ≤ 100000000)
+Fits (Repeated acts times) number (Some held) = (6 ≤ number) × (acts ≤ 100000000) × (held.times ≡ times) × All IsActOf held.body
 Fits NothingDue number None = Unit {0}
 Fits _ number held = ⊥
 
@@ -70,7 +70,7 @@ steps_least (Steps me count) = by (nat_le count 100) refl
 steps_least _ = omega arith
 
 -- the act of a line
-one_act : (said : Said) (number : ℕ) → is_act said ≡ true → IsActInRange said → 7 ≤ number → All IsActOf (record { line = number; said = said } ∷ [])
+one_act : (said : Said) (number : ℕ) → is_act said ≡ true → IsActInRange said → 6 ≤ number → All IsActOf (record { line = number; said = said } ∷ [])
 one_act said number is range far =
     All-cons IsActOf (record { line = number; said = said }) [] (record { is = is; range = range; behind = far }) (All-nil IsActOf)
 
@@ -88,7 +88,11 @@ goes_queue _ number may far = absurd may
 -- how many bits hold a node
 goes_bits : (bits : ℕ) (said : Said) (number : ℕ) → MaySay (NumberDue bits Bits) said → 3 ≤ number → Goes (NumberDue bits Bits) said number None
 goes_bits bits Nothing number may far = record { fits = omega (arith, far); acts = All-nil IsActOf; told = λ told is. omega (arith, is) }
-goes_bits bits (Number field value) number may far = record { fits = omega (arith, far); acts = All-nil IsActOf; told = λ told is. omega (arith, is) }
+goes_bits bits (Number Bits value) number may far = record { fits = omega (arith, far); acts = All-nil IsActOf; told = λ told is. omega (arith, is) }
+goes_bits bits (Number Nodes value) number may far = record { fits = omega (arith, far); acts = All-nil IsActOf; told = λ told is. omega (arith, is) }
+goes_bits bits (Number Limit value) number may far = record { fits = omega (arith, far); acts = All-nil IsActOf; told = λ told is. omega (arith, is) }
+goes_bits bits (Number Actors value) number may far = record { fits = omega (arith, far); acts = All-nil IsActOf; told = λ told is. omega (arith, is) }
+goes_bits bits (Number Events value) number may far = record { fits = omega (arith, far); acts = All-nil IsActOf; told = λ told is. omega (arith, is) }
 goes_bits bits _ number may far = absurd may
 
 -- how many nodes there are
@@ -98,20 +102,20 @@ goes_nodes bits (Number field value) number may far = record { fits = omega (ari
 goes_nodes bits _ number may far = absurd may
 
 -- the limit
-goes_limit : (bits : ℕ) (said : Said) (number : ℕ) → MaySay (NumberDue bits Limit) said → 5 ≤ number → Goes (NumberDue bits Limit) said number None
+goes_limit : (bits : ℕ) (said : Said) (number : ℕ) → MaySay (NumberDue bits Limit) said → 4 ≤ number → Goes (NumberDue bits Limit) said number None
 goes_limit bits Nothing number may far = record { fits = omega (arith, far); acts = All-nil IsActOf; told = λ told is. omega (arith, is) }
 goes_limit bits (Number field value) number may far = record { fits = omega (arith, far); acts = All-nil IsActOf; told = λ told is. omega (arith, is) }
 goes_limit bits _ number may far = absurd may
 
 -- how many actors there are
-goes_actors : (bits : ℕ) (said : Said) (number : ℕ) → MaySay (NumberDue bits Actors) said → 6 ≤ number → Goes (NumberDue bits Actors) said number None
+goes_actors : (bits : ℕ) (said : Said) (number : ℕ) → MaySay (NumberDue bits Actors) said → 5 ≤ number → Goes (NumberDue bits Actors) said number None
 goes_actors bits Nothing number may far = record { fits = omega (arith, far); acts = All-nil IsActOf; told = λ told is. omega (arith, is) }
 goes_actors bits (Number field value) number may far =
     record { fits = (omega (arith, far), omega arith); acts = All-nil IsActOf; told = λ told is. omega (arith, is) }
 goes_actors bits _ number may far = absurd may
 
 -- an act, a repeat or the end
-goes_outside : (acts : ℕ) (said : Said) (number : ℕ) → MaySay (ActDue acts) said → IsSaidInRange (ActDue acts) said → 7 ≤ number → acts ≤ 100000000 → Goes (ActDue acts) said number None
+goes_outside : (acts : ℕ) (said : Said) (number : ℕ) → MaySay (ActDue acts) said → IsSaidInRange (ActDue acts) said → 6 ≤ number → acts ≤ 100000000 → Goes (ActDue acts) said number None
 goes_outside acts Nothing number may range far few = record { fits = (omega (arith, far), few); acts = All-nil IsActOf; told = λ told is. omega (arith, is) }
 goes_outside acts Version number may range far few = absurd may
 goes_outside acts (Queue kind) number may range far few = absurd may
@@ -150,7 +154,7 @@ goes_in_repeat acts times body act told counts least allows =
     (mul-le times 100 times counts (omega arith) least)
 
 -- all of it that an act in a repeat does
-in_repeat : (body : List Act) (said : Said) (number : ℕ) → is_act said ≡ true → IsActInRange said → 7 ≤ number → All IsActOf body → All IsActOf (body ++ record { line = number; said = said } ∷ [])
+in_repeat : (body : List Act) (said : Said) (number : ℕ) → is_act said ≡ true → IsActInRange said → 6 ≤ number → All IsActOf body → All IsActOf (body ++ record { line = number; said = said } ∷ [])
 in_repeat body said number is range far all = All-append IsActOf body (record { line = number; said = said } ∷ []) all (one_act said number is range far)
 
 -- a line in a repeat that says nothing
@@ -167,7 +171,7 @@ goes_out told times acts held same allows =
     let long : length (repeated held.times held.body) ≡ times * length held.body = length-repeated held.times held.body ∙ ap (λ n. n * length held.body) same in
     rw long allows
 
-goes_inside : (acts times : ℕ) (said : Said) (number : ℕ) (held : Open) → MaySay (Repeated acts times) said → IsSaidInRange (Repeated acts times) said → 7 ≤ number → acts ≤ 100000000
+goes_inside : (acts times : ℕ) (said : Said) (number : ℕ) (held : Open) → MaySay (Repeated acts times) said → IsSaidInRange (Repeated acts times) said → 6 ≤ number → acts ≤ 100000000
     → held.times ≡ times → All IsActOf held.body → Goes (Repeated acts times) said number (Some held)
 goes_inside acts times Nothing number held may range far few same body = record {
   fits = (omega (arith, far), few, same, All-append IsActOf held.body [] body (All-nil IsActOf));

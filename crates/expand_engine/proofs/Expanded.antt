@@ -1,9 +1,9 @@
 -- The events that the acts of a recipe stand for, as far as these can be done.
-use Rattle.std.proofs.Common.{◌≡◌, ℕ, zero, suc, ◌+◌, ◌*◌, ◌<◌, ◌≤◌, Bool, true, false, if◌then◌else◌, List, [], ◌∷◌, ◌++◌, length, take, All, Option, Some, None, refl, sym, ap, subst, ◌∙◌, arith}
+use Rattle.std.proofs.Common.{◌≡◌, ℕ, suc, ◌+◌, ◌*◌, ◌≤◌, Bool, true, false, if◌then◌else◌, List, [], ◌∷◌, ◌++◌, length, take, All, Option, Some, None, refl, sym, ap, subst, ◌∙◌, arith}
 use Rattle.std.specs.List.{slice_get}
 use Rattle.std.specs.Prelude.{option_map}
 use Rattle.std.proofs.lemmas.List.{length-append, length-replicate, take_all}
-use Rattle.std.proofs.lemmas.List.Elements.{All-cons, All-head, All-nil, All-push, All-tail}
+use Rattle.std.proofs.lemmas.List.Elements.{All-head, All-tail}
 use Rattle.engine_faults.specs.Faults.{IsEventRefusal, IsMoveRefusal}
 use Rattle.history.specs.declared.operations.Op.{Op}
 use Rattle.history.specs.declared.refusals.Refusal.{Refusal}
@@ -13,7 +13,6 @@ use Rattle.line_steps.specs.Outcomes.{Outcome}
 use Rattle.line_table.specs.declared.lines.Line.{Line}
 use Rattle.run_engine.specs.Extents.{IsCount}
 use Rattle.run_engine.specs.Runs.{EventRefused, EventsLead, world_after}
-use Rattle.run_engine.specs.declared.counts.RunExtent.{RunExtent}
 use Rattle.schedule_text.specs.Schedules.{moves_of_event}
 use Rattle.schedule_text.specs.Texts.{IsEventInRange}
 use Rattle.schedule_text.specs.declared.schedules.Event.{Event}
@@ -27,7 +26,7 @@ use Rattle.expand_engine.specs.declared.recipes.Act.{Act}
 use Rattle.expand_engine.specs.declared.recipes.Said.{Said}
 use Rattle.expand_engine.specs.declared.recipes.Said.TheVariants.{Happens, Until, Finish}
 use Rattle.expand_engine.specs.Recipes.{IsActInRange, is_act}
-use Rattle.expand_engine.specs.Expansions.{ActRefused, GoesAsFar, IsActOf, refused_event, with_refused}
+use Rattle.expand_engine.specs.Expansions.{ActRefused, GoesAsFar, refused_event, with_refused}
 use Rattle.expand_engine.proofs.Leading.{acts_lead}
 use Rattle.expand_engine.proofs.Walked.{Walks-none}
 

@@ -1,5 +1,5 @@
 -- The sizes that a recipe says.
-use Rattle.std.proofs.Common.{◌≡◌, ℕ, List, [], ◌∷◌, map, false, refl, sym, subst}
+use Rattle.std.proofs.Common.{◌≡◌, ℕ, List, [], ◌∷◌, map, false, refl, sym, subst, arith}
 use Rattle.counted_ref.specs.Ref.{IsSplit}
 use Rattle.schedule_text.specs.declared.fields.Field.{Field}
 use Rattle.schedule_text.specs.declared.fields.Field.TheVariants.{Bits, Nodes, Limit, Actors, Events}
@@ -11,7 +11,7 @@ use Rattle.expand_engine.specs.declared.recipes.Due.TheVariants.{Version as Vers
 use Rattle.expand_engine.specs.declared.recipes.Said.{Said}
 use Rattle.expand_engine.specs.declared.recipes.Said.TheVariants.{Nothing, Version, Queue, Number}
 use Rattle.expand_engine.specs.declared.recipes.Sizes.{Sizes}
-use Rattle.expand_engine.specs.Recipes.{IsSaidInRange, MaySay, RecipeLine, due_after, is_due, no_sizes, recipe_lines, sizes_after, sizes_from}
+use Rattle.expand_engine.specs.Recipes.{IsSaidInRange, MayName, MaySay, RecipeLine, due_after, is_due, no_sizes, recipe_lines, sizes_after, sizes_from}
 use Rattle.expand_engine.specs.Expansions.{AreSizesInRange}
 
 -- so many bits hold a node, where this was said
@@ -31,6 +31,9 @@ record KnowsLimit (bits : ℕ) (s : Sizes) : Type 0 where
 
 -- what is known of the sizes where this line is due
 abbrev Knows : Due → Sizes → Type 0
+Knows VersionDue s = s.bits ≡ 24
+Knows QueueDue s = s.bits ≡ 24
+Knows (NumberDue bits Bits) s = KnowsBits bits s
 Knows (NumberDue bits Nodes) s = KnowsBits bits s
 Knows (NumberDue bits Limit) s = KnowsNodes bits s
 Knows (NumberDue bits Actors) s = KnowsLimit bits s
@@ -38,14 +41,15 @@ Knows (NumberDue bits Events) s = ⊥
 Knows (ActDue acts) s = AreSizesInRange s
 Knows (Repeated acts times) s = AreSizesInRange s
 Knows NothingDue s = AreSizesInRange s
-Knows _ s = Unit {0}
 
 -- each line of sizes
-after_bits : (bits : ℕ) (field : Field) (value : ℕ) (s : Sizes) → Bits ≡ field → IsWithin (least field) (greatest bits field) value
+after_bits : (bits : ℕ) (field : Field) (value : ℕ) (s : Sizes) → MayName Bits field → IsWithin (least field) (greatest bits field) value → KnowsBits bits s
     → Knows (due_after (NumberDue bits Bits) (Number field value)) (sizes_after s (Number field value))
-after_bits bits field value s is within =
-    subst (λ (f : Field). IsWithin (least f) (greatest bits f) value → Knows (due_after (NumberDue bits Bits) (Number f value)) (sizes_after s (Number f value))) is
-    (λ within. record { same = refl; split = record { least = within.0; most = within.1 } }) within
+after_bits bits Bits value s may within knows = record { same = refl; split = record { least = within.0; most = within.1 } }
+after_bits bits Nodes value s may within knows = record { before = record { same = knows.same; split = knows.split }; nodes = within }
+after_bits bits Limit value s may within knows = absurd cc
+after_bits bits Actors value s may within knows = absurd cc
+after_bits bits Events value s may within knows = absurd cc
 
 after_nodes : (bits : ℕ) (field : Field) (value : ℕ) (s : Sizes) → Nodes ≡ field → IsWithin (least field) (greatest bits field) value → KnowsBits bits s
     → Knows (due_after (NumberDue bits Nodes) (Number field value)) (sizes_after s (Number field value))
@@ -80,7 +84,7 @@ after_actors bits field value s is within knows =
 after_number : (bits : ℕ) (due : Field) (said : Said) (s : Sizes) → MaySay (NumberDue bits due) said → IsSaidInRange (NumberDue bits due) said → Knows (NumberDue bits due) s
     → Knows (due_after (NumberDue bits due) said) (sizes_after s said)
 after_number bits due Nothing s may range knows = knows
-after_number bits Bits (Number field value) s may range knows = after_bits bits field value s may range
+after_number bits Bits (Number field value) s may range knows = after_bits bits field value s may range knows
 after_number bits Nodes (Number field value) s may range knows = after_nodes bits field value s may range knows
 after_number bits Limit (Number field value) s may range knows = after_limit bits field value s may range knows
 after_number bits Actors (Number field value) s may range knows = after_actors bits field value s may range knows
@@ -101,20 +105,20 @@ after_repeated acts times (Number field value) s may knows = absurd may
 after_repeated acts times _ s may knows = knows
 
 -- the queue
-after_queue : (said : Said) (s : Sizes) → MaySay QueueDue said → Knows (due_after QueueDue said) (sizes_after s said)
-after_queue Nothing s may = tt
-after_queue (Queue kind) s may = tt
-after_queue _ s may = absurd may
+after_queue : (said : Said) (s : Sizes) → MaySay QueueDue said → s.bits ≡ 24 → Knows (due_after QueueDue said) (sizes_after s said)
+after_queue Nothing s may knows = knows
+after_queue (Queue kind) s may knows = record { same = knows; split = record { least = omega arith; most = omega arith } }
+after_queue _ s may knows = absurd may
 
 -- the version
-after_version : (said : Said) (s : Sizes) → MaySay VersionDue said → Knows (due_after VersionDue said) (sizes_after s said)
-after_version Version s may = tt
-after_version _ s may = absurd may
+after_version : (said : Said) (s : Sizes) → MaySay VersionDue said → s.bits ≡ 24 → Knows (due_after VersionDue said) (sizes_after s said)
+after_version Version s may knows = knows
+after_version _ s may knows = absurd may
 
 -- any line
 after_line : (due : Due) (said : Said) (s : Sizes) → MaySay due said → IsSaidInRange due said → Knows due s → Knows (due_after due said) (sizes_after s said)
-after_line VersionDue said s may range knows = after_version said s may
-after_line QueueDue said s may range knows = after_queue said s may
+after_line VersionDue said s may range knows = after_version said s may knows
+after_line QueueDue said s may range knows = after_queue said s may knows
 after_line (NumberDue bits due) said s may range knows = after_number bits due said s may range knows
 after_line (ActDue acts) said s may range knows = after_act acts said s may knows
 after_line (Repeated acts times) said s may range knows = after_repeated acts times said s may knows
@@ -135,4 +139,4 @@ sizes_known due s (line ∷ lines) are done knows =
 -- those of a recipe
 pub of_lines : (lines : List RecipeLine) → AreDue recipe_lines VersionDue lines → is_due (state_after recipe_lines VersionDue lines) ≡ false
     → AreSizesInRange (sizes_from no_sizes (map (λ (line : RecipeLine). line.says) lines))
-of_lines lines are done = sizes_known VersionDue no_sizes lines are done tt
+of_lines lines are done = sizes_known VersionDue no_sizes lines are done refl

@@ -6,7 +6,6 @@ pub mod Bounds
 pub mod ExpansionSizes
 pub mod Ranges
 pub mod Spoken
-pub mod Marks
 pub mod SoFar
 pub mod Unrolled
 pub mod OneRecipe

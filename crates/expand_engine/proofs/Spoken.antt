@@ -11,6 +11,7 @@ use Rattle.text_io.specs.Lines.{HasNo, spaced, words_of}
 use Rattle.text_io.specs.LineReadings.{IsWrong, Reads, ReadsLine}
 use Rattle.text_io.proofs.Splits.{HasNo-tested, spaced-words_of, words_of-spaced}
 use Rattle.schedule_text.specs.declared.fields.Field.{Field}
+use Rattle.schedule_text.specs.declared.fields.Field.TheVariants.{Bits, Nodes, Limit, Actors, Events}
 use Rattle.schedule_text.specs.declared.schedules.Version.TheVariants.{Two}
 use Rattle.schedule_text.specs.declared.schedules.Event.{Event}
 use Rattle.schedule_text.specs.declared.schedules.Event.TheVariants.{Begin, Step, Steps, Give}
@@ -19,7 +20,7 @@ use Rattle.schedule_text.proofs.Spelling.{AreWords-said, words_of-said, spaced-s
 use Rattle.expand_engine.specs.declared.recipes.Due.TheVariants.{Queue as QueueDue, Number as NumberDue, Act as ActDue, Repeated}
 use Rattle.expand_engine.specs.declared.recipes.Said.{Said}
 use Rattle.expand_engine.specs.declared.recipes.Said.TheVariants.{Nothing, Version, Queue, Number, Happens, Until, Finish, Repeat, End}
-use Rattle.expand_engine.specs.Recipes.{HasRoom, IsActInRange, IsActSaid, IsSaidInRange, MaySay, SaysWhere, SpellsAct, SpellsEvent, said_text, said_words}
+use Rattle.expand_engine.specs.Recipes.{HasRoom, IsActInRange, IsActSaid, IsSaidInRange, MayName, MaySay, SaysWhere, SpellsAct, SpellsEvent, said_text, said_words}
 
 -- what is wrong with a line that is to say one thing is wrong with it where it is to say another, of which each stands for one
 pub wrong_as : {V W : Type 0} (Says InRange : V → Type 0) (Others Ranges : W → Type 0) (f : V → W) → ((v : V) → Says v → Others (f v))
@@ -49,19 +50,63 @@ wrong_queue line some cause wrong =
     back (Repeat times) is = absurd is.0
     back End is = absurd is.0
 
--- a line that is to say a number of the header
-pub wrong_field : (bits : ℕ) (field : Field) (line : List ℕ) → line ≢ [] → (cause : TextCause)
+-- the number that is due may stand where it is
+may_same : (field : Field) → MayName field field
+may_same Bits = refl
+may_same Nodes = refl
+may_same Limit = refl
+may_same Actors = refl
+may_same Events = refl
+
+pub says_field : (bits : ℕ) (field : Field) (value : ℕ) (line : List ℕ) → words_of line ≡ schedule_words (number field value) → SaysWhere (NumberDue bits field) line (Number field value)
+says_field bits field value line same = (may_same field, spaced-said (number field value) line same)
+
+-- no other one may, but for the nodes in place of the bits
+name_same : (field name : Field) → field ≢ Bits → MayName field name → name ≡ field
+name_same Bits name other may = absurd (other refl)
+name_same Nodes name other may = sym may
+name_same Limit name other may = sym may
+name_same Actors name other may = sym may
+name_same Events name other may = sym may
+
+-- a line that is to say a number of the header, and says it out of its range
+pub wrong_range : (bits : ℕ) (field : Field) (line : List ℕ) (cause : TextCause) → cause ≢ Form
     → IsWrong (λ (value : ℕ). words_of line ≡ schedule_words (number field value)) (λ value. IsScheduleInRange bits (number field value)) cause
     → IsWrong (SaysWhere (NumberDue bits field) line) (IsSaidInRange (NumberDue bits field)) cause
-wrong_field bits field line some cause wrong =
-    wrong_as (λ (value : ℕ). words_of line ≡ schedule_words (number field value)) (λ value. IsScheduleInRange bits (number field value))
-    (SaysWhere (NumberDue bits field) line) (IsSaidInRange (NumberDue bits field)) (Number field)
-    (λ value is. (refl, spaced-said (number field value) line is)) back (λ value r. r) cause wrong
+wrong_range bits field line EndCause other wrong = absurd wrong
+wrong_range bits field line Form other wrong = absurd (other refl)
+wrong_range bits field line Range other wrong = (Number field wrong.0, says_field bits field wrong.0 line wrong.1, wrong.2)
+wrong_range bits field line Extra other wrong = absurd wrong
+
+-- and one that says none
+pub wrong_form : (bits : ℕ) (field : Field) (line : List ℕ) → line ≢ [] → field ≢ Bits → ((value : ℕ) → words_of line ≢ schedule_words (number field value))
+    → (said : Said) → ¬ SaysWhere (NumberDue bits field) line said
+wrong_form bits field line some other none (Number name value) is =
+    none value (subst (λ (f : Field). words_of line ≡ schedule_words (number f value)) (name_same field name other is.0) (words_of-said (number name value) line is.1))
+wrong_form bits field line some other none Nothing is = some is.1
+wrong_form bits field line some other none Version is = is.0
+wrong_form bits field line some other none (Queue kind) is = is.0
+wrong_form bits field line some other none (Happens event) is = is.0
+wrong_form bits field line some other none (Until actor at) is = is.0
+wrong_form bits field line some other none (Finish actor) is = is.0
+wrong_form bits field line some other none (Repeat times) is = is.0
+wrong_form bits field line some other none End is = is.0
+
+-- a line that says no bits, where these are due, and says no nodes in their range
+pub wrong_nodes : (bits : ℕ) (line : List ℕ) → line ≢ [] → ((value : ℕ) → words_of line ≢ schedule_words (number Bits value)) → (cause : TextCause)
+    → IsWrong (λ (value : ℕ). words_of line ≡ schedule_words (number Nodes value)) (λ value. IsScheduleInRange bits (number Nodes value)) cause
+    → IsWrong (SaysWhere (NumberDue bits Bits) line) (IsSaidInRange (NumberDue bits Bits)) cause
+wrong_nodes bits line some none cause wrong =
+    wrong_as (λ (value : ℕ). words_of line ≡ schedule_words (number Nodes value)) (λ value. IsScheduleInRange bits (number Nodes value))
+    (SaysWhere (NumberDue bits Bits) line) (IsSaidInRange (NumberDue bits Bits)) (Number Nodes)
+    (λ value is. (tt, spaced-said (number Nodes value) line is)) back (λ value r. r) cause wrong
   where
-    back : (said : Said) → SaysWhere (NumberDue bits field) line said → (value : ℕ) × (words_of line ≡ schedule_words (number field value)) × (said ≡ Number field value)
-    back (Number other value) is =
-        let same : other ≡ field = sym is.0 in
-        (value, subst (λ (f : Field). words_of line ≡ schedule_words (number f value)) same (words_of-said (number other value) line is.1), ap (λ (f : Field). Number f value) same)
+    back : (said : Said) → SaysWhere (NumberDue bits Bits) line said → (value : ℕ) × (words_of line ≡ schedule_words (number Nodes value)) × (said ≡ Number Nodes value)
+    back (Number Nodes value) is = (value, words_of-said (number Nodes value) line is.1, refl)
+    back (Number Bits value) is = absurd (none value (words_of-said (number Bits value) line is.1))
+    back (Number Limit value) is = absurd cc
+    back (Number Actors value) is = absurd cc
+    back (Number Events value) is = absurd cc
     back Nothing is = absurd (some is.1)
     back Version is = absurd is.0
     back (Queue kind) is = absurd is.0

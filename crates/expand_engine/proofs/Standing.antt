@@ -1,7 +1,7 @@
 -- What recipes stand for.
-use Rattle.std.proofs.Common.{◌≡◌, ℕ, ◌≤◌, List, All, true, Option, Some, None, Result, Err, length, refl, sym, ap, subst, ◌∙◌}
+use Rattle.std.proofs.Common.{◌≡◌, ℕ, ◌≤◌, List, All, true, Option, Some, None, Err, length, refl, sym, ap, subst, ◌∙◌}
 use Rattle.std.specs.Prelude.{IfSome, option_map}
-use Rattle.engine_faults.specs.Faults.{IsEventFault, IsEventRefusal}
+use Rattle.engine_faults.specs.Faults.{IsEventRefusal}
 use Rattle.engine_faults.specs.declared.faults.Fault.{Fault}
 use Rattle.history.specs.declared.refusals.Refusal.{Refusal}
 use Rattle.history.specs.declared.refusals.Refusal.TheVariants.{IdleActor, ActorBusy, NotHere, NoSuchActor}
@@ -18,7 +18,7 @@ use Rattle.expand_engine.specs.declared.recipes.Said.{Said}
 use Rattle.expand_engine.specs.declared.recipes.Sizes.{Sizes}
 use Rattle.expand_engine.specs.Recipes.{IsRecipe, is_act}
 use Rattle.expand_engine.specs.UnrolledActs.{unrolled}
-use Rattle.expand_engine.specs.Expansions.{ActsLead, ActsRefused, EndsAs, ExpansionRefused, GoesAsFar, IsActOf, IsDone, IsExpansionOf, IsReadAs, IsVersionOf, StandsFor, StopsAt, StopsExpansion, opening_with, with_refused}
+use Rattle.expand_engine.specs.Expansions.{ActsLead, ActsRefused, EndsAs, ExpansionRefused, GoesAsFar, IsActFault, IsActOf, IsDone, IsExpansionOf, IsReadAs, IsVersionOf, StandsFor, StopsAt, StopsExpansion, opening_with, with_refused}
 use Rattle.expand_engine.proofs.Expanded.{counted_by}
 use Rattle.expand_engine.proofs.Ranges.{acts_few, acts_in_range, events_in_range, schedule_in_range, sizes_in_range, stop_is_act}
 
@@ -38,7 +38,7 @@ stops_refused w v acts events stop went = record {
 
 -- the act at which acts stop
 fault_of : (w v : World) (acts : List Act) (events : List Event) (stop : Option Stop) → All IsActOf acts → GoesAsFar w acts events v stop
-    → IfSome stop (λ stop. IsEventRefusal stop.refusal × (7 ≤ stop.act.line))
+    → IfSome stop (λ stop. IsActFault stop.refusal stop.act.line)
 fault_of w v acts events None all went = tt
 fault_of w v acts events (Some stop) all went = (went.kind, (stop_is_act w v acts events stop all went).behind)
 
@@ -132,11 +132,11 @@ module _ (given : Option (List ℕ)) (e : Expansion) (r : IsReadAs given e) wher
 pub stops_read : (old new : SourceState) (e : Expansion) (fault : Fault) → IsReadAs old.left e → ReachesEnd old new → EndsAs e.stop (Err fault) → StopsExpansion old new fault.refusal fault.line
 stops_read old new e fault r reached ends =
     let stop = ends.0 in
-    let kind : IsEventRefusal stop.refusal × (7 ≤ stop.act.line) = subst (λ (o : Option Stop). IfSome o (λ stop. IsEventRefusal stop.refusal × (7 ≤ stop.act.line))) ends.1 r.stands.made.fault in
+    let kind : IsActFault stop.refusal stop.act.line = subst (λ (o : Option Stop). IfSome o (λ stop. IsActFault stop.refusal stop.act.line)) ends.1 r.stands.made.fault in
     let refused = refused_read old.left e r stop ends.1 in
     subst (λ (f : Fault). StopsExpansion old new f.refusal f.line) (sym ends.2) (by stop.refusal kind.0 kind refused reached)
   where
-    by : (refusal : Refusal) → IsEventRefusal refusal → IsEventRefusal refusal × (7 ≤ ends.0.act.line) → ExpansionRefused old.left ends.0.act.line refusal → ReachesEnd old new
+    by : (refusal : Refusal) → IsEventRefusal refusal → IsActFault refusal ends.0.act.line → ExpansionRefused old.left ends.0.act.line refusal → ReachesEnd old new
         → StopsExpansion old new refusal (Some ends.0.act.line)
     by IdleActor event kind refused reached = record { fault = kind; text = tt; refused = refused; unwritten = λ write. absurd cc; reader = reached }
     by ActorBusy event kind refused reached = record { fault = kind; text = tt; refused = refused; unwritten = λ write. absurd cc; reader = reached }
@@ -149,7 +149,7 @@ module _ (w : World) (acts : List Act) (done : Done) (stop : Stop) (all : All Is
   stopped : StopsAt w acts done.events.items is.world stop
   stopped = subst (λ (o : Option Stop). GoesAsFar w acts done.events.items is.world o) some is.went
 
-  pub fault_at : IsEventFault stop.refusal (Some stop.act.line)
+  pub fault_at : IsActFault stop.refusal stop.act.line
   fault_at = (stopped.kind, (stop_is_act w is.world acts done.events.items stop all stopped).behind)
 
   pub refused_at : ActsRefused w acts stop.act.line stop.refusal

@@ -1,5 +1,5 @@
 -- Acts that are unrolled a line at a time.
-use Rattle.std.proofs.Common.{◌≡◌, ℕ, ◌+◌, List, [], ◌∷◌, ◌++◌, Option, sym, ap, ◌∙◌, append_assoc}
+use Rattle.std.proofs.Common.{◌≡◌, ℕ, zero, suc, ◌+◌, List, [], ◌∷◌, ◌++◌, Option, refl, sym, ap, ◌∙◌, append_assoc}
 use Rattle.std.specs.Prelude.{replicate}
 use Rattle.std.specs.List.{flat_map}
 use Rattle.std.proofs.lemmas.List.{append-nil, replicate-append-replicate}
@@ -19,6 +19,15 @@ repeated-more : {A : Type 0} (times : ℕ) (xs : List A) → repeated times xs +
 repeated-more times xs =
     ap (λ (ys : List _). repeated times xs ++ ys) (sym (append-nil xs)) ∙ sym (flat_map-append (λ copy. copy) (replicate times xs) (xs ∷ []))
     ∙ ap (flat_map (λ copy. copy)) (replicate-append-replicate times 1 xs)
+
+-- nothing so often is nothing
+repeated-nothing : {A : Type 0} (times : ℕ) → ◌≡◌ {A = List A} (repeated times []) []
+repeated-nothing zero = refl
+repeated-nothing (suc times) = repeated-nothing times
+
+-- and adds nothing
+pub repeated-none : {A : Type 0} (old xs : List A) (times : ℕ) → xs ≡ [] → old ≡ old ++ repeated times xs
+repeated-none old xs times none = rw (none, repeated-nothing times) (sym (append-nil old))
 
 -- behind others
 pub repeated-next : {A : Type 0} (old now new xs : List A) (times : ℕ) → now ≡ old ++ repeated times xs → new ≡ now ++ xs → new ≡ old ++ repeated (times + 1) xs

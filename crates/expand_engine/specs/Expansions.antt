@@ -67,7 +67,22 @@ pub record DoesAct (w : World) (said : Said) (old new : List Event) (v : World) 
 pub record IsActOf (act : Act) : Type 0 where
   pub is : is_act act.said ≡ true
   pub range : IsActInRange act.said
-  pub behind : 7 ≤ act.line
+  pub behind : 6 ≤ act.line
+
+-- an act is refused for this cause, on this line, which is behind those of a header: the sixth one, where no line says the bits, or a
+-- later one
+abbrev pub IsActFault : Refusal → (line : ℕ) → Type 0
+IsActFault refusal line = IsEventRefusal refusal × (6 ≤ line)
+
+-- acts were refused memory, or one of them was refused
+abbrev pub IsDoingFault : Refusal → Option ℕ → Type 0
+IsDoingFault refusal None = refusal ≡ Memory
+IsDoingFault refusal (Some line) = IsActFault refusal line
+
+-- a refusal comes with the line of an act exactly where an act was refused
+abbrev pub IsRecipeFault : Refusal → Option ℕ → Type 0
+IsRecipeFault refusal None = IsRunFault refusal None
+IsRecipeFault refusal (Some line) = IsActFault refusal line
 
 -- acts are refused at the one on this line, after those before it
 pub record ActsRefused (w : World) (acts : List Act) (line : ℕ) (refusal : Refusal) : Type 0 where
@@ -159,7 +174,7 @@ pub record CanBeMade (e : Expansion) : Type 0 where
   pub range : IsInRange e.schedule
   pub extent : IsExtentOf e.schedule e.extent
   pub refusal : e.extent.refusal ≡ option_map (λ (stop : Stop). stop.refusal) e.stop
-  pub fault : IfSome e.stop (λ stop. IsEventRefusal stop.refusal × (7 ≤ stop.act.line))
+  pub fault : IfSome e.stop (λ stop. IsActFault stop.refusal stop.act.line)
 
 -- what the lines of a recipe, with its sizes, stand for: a schedule of the events of its acts as far as these can be done, and how far
 -- it can be made
@@ -240,7 +255,7 @@ IsReadingRefusal _ = ⊥
 
 -- an expansion stops before anything is written, for this cause and at this line of an act, if at one
 pub record StopsExpansion (old new : SourceState) (refusal : Refusal) (line : Option ℕ) : Type 0 where
-  pub fault : IsRunFault refusal line
+  pub fault : IsRecipeFault refusal line
   pub text : TellsFaultyLine old.left refusal
   pub refused : IfSome line (λ line. ExpansionRefused old.left line refusal)
   pub unwritten : refusal ≢ Write

@@ -1,5 +1,5 @@
 -- The grammar of recipes: what a line says before its comment, and which lines are due.
-use Rattle.std.specs.Prelude.{◌≡◌, ℕ, ◌+◌, ◌-◌, ◌*◌, ◌^◌, ◌<◌, ◌≤◌, ◌==◌, Bool, true, false, if◌then◌else◌, List, [], ◌∷◌, ◌++◌, map, Option, Some, None, option_map, codes, length, nat_le, slice_get, take}
+use Rattle.std.specs.Prelude.{◌≡◌, ℕ, ◌+◌, ◌-◌, ◌*◌, ◌^◌, ◌<◌, ◌≤◌, ◌==◌, Bool, true, false, if◌then◌else◌, List, [], ◌∷◌, ◌++◌, map, Option, Some, None, codes, length, nat_le, slice_get, take}
 use Rattle.counted_ref.specs.Ref.{IsSplit}
 use Rattle.line_table.specs.Names.{name_of}
 use Rattle.line_table.specs.declared.lines.Kind.TheVariants.{TwoLock}
@@ -19,28 +19,33 @@ use Rattle.expand_engine.specs.declared.recipes.Said.{Said}
 use Rattle.expand_engine.specs.declared.recipes.Said.TheVariants.{Nothing, Version, Queue, Number, Happens, Until, Finish, Repeat, End}
 use Rattle.expand_engine.specs.declared.recipes.Sizes.{Sizes}
 
--- what stands before the first such byte; none where there is none
-abbrev pub before : (byte : ℕ) → List ℕ → Option (List ℕ)
-before byte [] = None
-before byte (b ∷ rest) = if b == byte then Some [] else option_map (λ (front : List ℕ). b ∷ front) (before byte rest)
+-- whether a byte is a space or a tab
+abbrev pub is_blank : ℕ → Bool
+is_blank b = if b == 32 then true else b == 9
 
--- whether a byte, if there is one, is a space
-abbrev pub is_space : Option ℕ → Bool
-is_space None = false
-is_space (Some b) = b == 32
+-- whether a byte, if there is one, is a carriage return
+abbrev pub is_return : Option ℕ → Bool
+is_return None = false
+is_return (Some b) = b == 13
 
--- the same bytes, less a space at their end
-abbrev pub without_space : List ℕ → List ℕ
-without_space bytes = if is_space (slice_get bytes (length bytes - 1)) then take (length bytes - 1) bytes else bytes
+-- the same bytes, less a carriage return at their end
+abbrev pub without_return : List ℕ → List ℕ
+without_return bytes = if is_return (slice_get bytes (length bytes - 1)) then take (length bytes - 1) bytes else bytes
 
--- what is left of a line, by what stands before its comment, if it has one
-abbrev pub spoken_of : List ℕ → Option (List ℕ) → List ℕ
-spoken_of line None = line
-spoken_of line (Some front) = without_space front
+-- a byte of a word, behind a space where the word stands apart from one before
+abbrev pub word_byte : (is_apart : Bool) → (byte : ℕ) → List ℕ
+word_byte is_apart b = if is_apart then 32 ∷ b ∷ [] else b ∷ []
 
--- what a line says before its comment: what stands before its first `#`, less a space there
+-- what bytes say down to the first `#`: their words, one space between two; by whether a word began before, and whether blanks came
+-- behind it
+abbrev pub said_from : (is_begun is_apart : Bool) → List ℕ → List ℕ
+said_from is_begun is_apart [] = []
+said_from is_begun is_apart (b ∷ rest) =
+    if b == 35 then [] else if is_blank b then said_from is_begun is_begun rest else word_byte is_apart b ++ said_from true false rest
+
+-- what a line says before its comment
 abbrev pub spoken : List ℕ → List ℕ
-spoken line = spoken_of line (before 35 line)
+spoken line = said_from false false (without_return line)
 
 -- the words of what a line says
 abbrev pub said_words : Said → List (List ℕ)
@@ -78,12 +83,18 @@ abbrev pub is_due : Due → Bool
 is_due NothingDue = false
 is_due _ = true
 
+-- where this number of the header is due, a line may say this one; where it is the bits, which are 24 unless a line says them, it may
+-- be the nodes
+abbrev pub MayName : Field → Field → Type 0
+MayName Bits Nodes = Unit {0}
+MayName due field = due ≡ field
+
 -- the line that is due may say this; all but the first may say nothing, and a repeat has none in it
 abbrev pub MaySay : Due → Said → Type 0
 MaySay VersionDue Version = Unit {0}
 MaySay QueueDue (Queue kind) = Unit {0}
 MaySay QueueDue Nothing = Unit {0}
-MaySay (NumberDue bits due) (Number field value) = due ≡ field
+MaySay (NumberDue bits due) (Number field value) = MayName due field
 MaySay (NumberDue bits due) Nothing = Unit {0}
 MaySay (ActDue steps) Nothing = Unit {0}
 MaySay (ActDue steps) said = IsActSaid said
@@ -131,9 +142,14 @@ abbrev pub bits_in : (bits : ℕ) → Said → ℕ
 bits_in bits (Number Bits value) = value
 bits_in bits _ = bits
 
+-- what is due after a line that says the bits or the nodes
+abbrev pub due_after_bits : (bits : ℕ) → Said → Due
+due_after_bits bits (Number Nodes value) = NumberDue bits Limit
+due_after_bits bits said = NumberDue (bits_in bits said) Nodes
+
 -- what is due after a number of the header
 abbrev pub due_after_number : (bits : ℕ) → Field → Said → Due
-due_after_number bits Bits said = NumberDue (bits_in bits said) Nodes
+due_after_number bits Bits said = due_after_bits bits said
 due_after_number bits Nodes said = NumberDue bits Limit
 due_after_number bits Limit said = NumberDue bits Actors
 due_after_number bits Actors said = ActDue 0

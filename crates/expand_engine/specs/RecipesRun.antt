@@ -6,13 +6,13 @@ use Rattle.history.specs.declared.operations.Stamped.{Stamped}
 use Rattle.history.specs.declared.refusals.Refusal.{Refusal}
 use Rattle.history.specs.declared.refusals.Refusal.TheVariants.{Memory, Write}
 use Rattle.history_text.specs.HistoryText.{history_text}
-use Rattle.run_engine.specs.Answers.{HasBegun, HasStopped, HasWritten, IsTracingFault, RunText}
+use Rattle.run_engine.specs.Answers.{HasBegun, HasStopped, HasWritten, IsTracingRefusal, RunText}
 use Rattle.schedule_text.specs.declared.schedules.Event.{Event}
 use Rattle.step_machine.specs.Machine.{World}
 use Rattle.text_io.specs.Blocks.{GivesUp, TakesPrefix}
 use Rattle.text_io.specs.Devices.{SinkState}
 use Rattle.text_io.specs.Readings.{WereAll}
-use Rattle.expand_engine.specs.Expansions.{ActsLead, IsReadAs, RefusesAt, opening_with}
+use Rattle.expand_engine.specs.Expansions.{ActsLead, IsActFault, IsReadAs, RefusesAt, opening_with}
 use Rattle.expand_engine.specs.Recipes.{IsRecipe}
 use Rattle.expand_engine.specs.UnrolledActs.{unrolled}
 use Rattle.expand_engine.specs.declared.acts.Stop.{Stop}
@@ -71,11 +71,16 @@ pub record HasStoppedAt (t : RunText) (e : Expansion) (line : ℕ) (refusal : Re
   pub at : ℕ
   pub written : HasStopped t e.schedule at refusal old new
 
+-- it is refused as a whole, or comes with the line of an act that is refused
+abbrev pub IsTellingFault : Refusal → Option ℕ → Type 0
+IsTellingFault refusal None = IsTracingRefusal refusal
+IsTellingFault refusal (Some line) = IsActFault refusal line
+
 -- an engine answers so of an expansion, as it does of a schedule, but that an act is refused by its line
 pub record AnswersOf (t : RunText) (e : Expansion) (old new : SinkState) (same : Type 0) (result : Result (Unit {0}) Fault) : Type 0 where
   pub ok : OnOk result (HasWrittenAll t e old new)
   pub quiet : OnOk result (new.failures ≡ old.failures)
-  pub fault : IfErr result (λ fault. IsTracingFault fault.refusal fault.line)
+  pub fault : IfErr result (λ fault. IsTellingFault fault.refusal fault.line)
   pub stopped : IfErr result (λ fault. IfSome fault.line (λ line. HasStoppedAt t e line fault.refusal old new))
   pub none_failed_there : IfErr result (λ fault. IfSome fault.line (λ line. new.failures ≡ old.failures))
   pub memory : IfErr result (λ fault. fault.refusal ≡ Memory → same ⊎ HasBegun t e.schedule old new)

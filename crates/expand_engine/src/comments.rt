@@ -1,37 +1,79 @@
 //! What a line says before its comment.
-ghost use Rattle.std.specs.Prelude.{◌≡◌, ◌++◌, ◌∷◌, MatchOption};
-ghost use Rattle.text_io.specs.Lines.{HasNo};
-ghost use Rattle.expand_engine.specs.Recipes.{spoken, without_space};
+ghost use Rattle.std.specs.Prelude.{◌≡◌, ◌==◌, ◌++◌, ◌∷◌, [], false, IfErr, OnOk};
+ghost use Rattle.history.specs.declared.refusals.Refusal.TheVariants.{Memory};
+ghost use Rattle.expand_engine.specs.Recipes.{is_blank, said_from, spoken, without_return, word_byte};
 
-/// What a line says: what stands before its first `#`, less a space there; the whole line where it has no `#`.
-pub fn before_comment(line: &[u8]) -> &[u8]
-    ensures { result.now ≡ spoken line.now }
+use history::Refusal;
+
+/// Puts what a line says in place of a text: its words before its first `#`, one space between two. Spaces and tabs separate
+/// words, and a carriage return at the line's end says nothing.
+pub fn speak(line: &[u8], said: &mut Vec<u8>) -> Result<(), Refusal>
+    ensures ok { OnOk result (said.new.items ≡ spoken line.now) }
+    ensures err { IfErr result (λ refusal. refusal ≡ Memory) }
 {
-    match split_at_mark(line) {
-        Some((front, _)) => less_space(front),
-        None => line,
-    }
+    said.clear();
+    speak_words(less_return(line), said)
 }
 
-// What stands before the first `#`, and what follows it; none where there is none.
-fn split_at_mark(line: &[u8]) -> Option<(&[u8], &[u8])>
-    ensures { MatchOption result (HasNo 35 line.now)
-        (λ parts. HasNo 35 parts.0.now × (line.now ≡ parts.0.now ++ 35 ∷ parts.1.now)) }
+// Adds what bytes say.
+fn speak_words(bytes: &[u8], said: &mut Vec<u8>) -> Result<(), Refusal>
+    requires { said.old.items ≡ [] }
+    ensures ok { OnOk result (said.new.items ≡ said_from false false bytes.now) }
+    ensures err { IfErr result (λ refusal. refusal ≡ Memory) }
 {
-    for (at, here) in line.iter().enumerate() {
-        if *here == b'#' {
-            return Some((&line[..at], &line[at + 1..]));
+    let mut is_begun = false;
+    let mut is_apart = false;
+    for byte in bytes {
+        if is_mark(*byte) {
+            return Ok(());
+        }
+        if is_blank(*byte) {
+            is_apart = is_begun;
+        } else {
+            push_byte(said, is_apart, *byte)?;
+            is_begun = true;
+            is_apart = false;
         }
     }
-    None
+    Ok(())
 }
 
-// The same bytes, less a space at their end.
-fn less_space(bytes: &[u8]) -> &[u8]
-    ensures { result.now ≡ without_space bytes.now }
+// Whether a comment begins with this byte.
+fn is_mark(byte: u8) -> bool
+    ensures { result ≡ (byte == 35) }
+{
+    byte == b'#'
+}
+
+// Whether a byte is a space or a tab.
+fn is_blank(byte: u8) -> bool
+    ensures { result ≡ is_blank byte }
+{
+    byte == b' ' || byte == b'\t'
+}
+
+// Adds a byte of a word, behind a space where the word stands apart.
+fn push_byte(said: &mut Vec<u8>, is_apart: bool, byte: u8) -> Result<(), Refusal>
+    ensures ok { OnOk result (said.new.items ≡ said.old.items ++ word_byte is_apart byte) }
+    ensures err { IfErr result (λ refusal. refusal ≡ Memory) }
+{
+    let added = if is_apart {
+        said.extend_from_slice(&[b' ', byte])
+    } else {
+        said.extend_from_slice(&[byte])
+    };
+    match added {
+        Ok(()) => Ok(()),
+        Err(_) => Err(Refusal::Memory),
+    }
+}
+
+// The same bytes, less a carriage return at their end.
+fn less_return(bytes: &[u8]) -> &[u8]
+    ensures { result.now ≡ without_return bytes.now }
 {
     if let Some(last) = bytes.last()
-        && *last == b' '
+        && *last == b'\r'
     {
         return &bytes[..bytes.len() - 1];
     }

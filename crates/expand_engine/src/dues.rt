@@ -1,6 +1,6 @@
 //! What is due after a line, and the sizes so far.
 ghost use Rattle.std.specs.Prelude.{◌≡◌, ◌+◌, ◌*◌, ◌≤◌};
-ghost use Rattle.expand_engine.specs.Recipes.{HasWords, IsDueInRange, bits_in, due_after, due_after_number, due_inside, due_outside, sizes_after, weight};
+ghost use Rattle.expand_engine.specs.Recipes.{HasWords, IsDueInRange, bits_in, due_after, due_after_bits, due_after_number, due_inside, due_outside, sizes_after, weight};
 
 use crate::recipes::{Due, Said, Sizes};
 use schedule_text::Field;
@@ -29,10 +29,20 @@ fn after_number(bits: u32, field: Field, said: &Said) -> Due
     ensures { result ≡ due_after_number bits field said.now }
 {
     match field {
-        Field::Bits => Due::Number(bits_after(bits, said), Field::Nodes),
+        Field::Bits => after_bits(bits, said),
         Field::Nodes => Due::Number(bits, Field::Limit),
         Field::Limit => Due::Number(bits, Field::Actors),
         Field::Actors | Field::Events => Due::Act(0),
+    }
+}
+
+fn after_bits(bits: u32, said: &Said) -> Due
+    requires { HasWords said.now }
+    ensures { result ≡ due_after_bits bits said.now }
+{
+    match said {
+        Said::Number(Field::Nodes, _) => Due::Number(bits, Field::Limit),
+        _ => Due::Number(bits_after(bits, said), Field::Nodes),
     }
 }
 

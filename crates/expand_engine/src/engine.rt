@@ -1,9 +1,9 @@
 //! From a reader's bytes of a recipe to a writer's of a schedule.
 ghost use Rattle.std.specs.Prelude.{◌≡◌, ◌≢◌, IfErr, IfOk, IfSome, OnOk};
-ghost use Rattle.run_engine.specs.Runs.{EndsReading, IsRunFault};
+ghost use Rattle.run_engine.specs.Runs.{EndsReading};
 ghost use Rattle.text_io.specs.Blocks.{GivesUp};
 ghost use Rattle.text_io.specs.Readings.{EndsReadingFor, ReachesEnd};
-ghost use Rattle.expand_engine.specs.Expansions.{BeginsExpansion, ExpansionRefused, IsExpansionOf, IsReadAs, IsReadingRefusal, StopsExpansion, TellsFaultyLine, WritesExpansion};
+ghost use Rattle.expand_engine.specs.Expansions.{BeginsExpansion, ExpansionRefused, IsExpansionOf, IsReadAs, IsReadingRefusal, IsRecipeFault, StopsExpansion, TellsFaultyLine, WritesExpansion};
 
 use crate::expansions::{Expansion, expansion_of};
 use crate::readers::Recipes;
@@ -56,7 +56,7 @@ fn schedule_of_text<R: Source>(alloc: Global, reader: &mut R) -> Result<Schedule
 fn schedule_of<R: Source>(alloc: Global, reader: &mut R) -> Result<Schedule, Fault>
     ensures ok { IfOk result (IsExpansionOf (R.state reader.old).left) }
     ensures text { IfErr result (λ fault. TellsFaultyLine (R.state reader.old).left fault.refusal) }
-    ensures fault { IfErr result (λ fault. IsRunFault fault.refusal fault.line) }
+    ensures fault { IfErr result (λ fault. IsRecipeFault fault.refusal fault.line) }
     ensures refused { IfErr result (λ fault. IfSome fault.line (λ line.
         ExpansionRefused (R.state reader.old).left line fault.refusal)) }
     ensures unwritten { IfErr result (λ fault. fault.refusal ≢ Refusal.Write) }
@@ -94,7 +94,7 @@ pub fn expand_text<R: Source, W: Sink>(
     ensures write { IfErr result (λ fault. fault.refusal ≡ Refusal.Write
         → GivesUp (W.state writer.old) (W.state writer.new)) }
     ensures unwritten { IfErr result (λ fault. fault.refusal ≢ Refusal.Write → writer.new ≡ writer.old) }
-    ensures fault { IfErr result (λ fault. IsRunFault fault.refusal fault.line) }
+    ensures fault { IfErr result (λ fault. IsRecipeFault fault.refusal fault.line) }
     ensures text { IfErr result (λ fault. TellsFaultyLine (R.state reader.old).left fault.refusal) }
     ensures refused { IfErr result (λ fault. IfSome fault.line (λ line.
         ExpansionRefused (R.state reader.old).left line fault.refusal)) }

@@ -1,8 +1,9 @@
 //! What a line of a recipe says, where it is due.
 ghost use Rattle.std.specs.Prelude.{◌≡◌, ◌≢◌, ◌≤◌, ℕ, ◌∷◌, [], MatchResult, codes};
 ghost use Rattle.counted_ref.specs.Ref.{IsSplit};
+ghost use Rattle.schedule_text.specs.Texts.{IsSaidInRange as IsScheduleInRange, number, said_words as schedule_words};
 ghost use Rattle.text_io.specs.Lines.{words_of};
-ghost use Rattle.text_io.specs.LineReadings.{ReadsLine};
+ghost use Rattle.text_io.specs.LineReadings.{IsWrong, ReadsLine};
 ghost use Rattle.expand_engine.specs.Recipes.{HasRoom, IsActInRange, IsActSaid, IsDueInRange, IsSaidInRange, SaysWhere, said_words};
 
 use crate::act_lines::{act_in, opens_repeat};
@@ -68,6 +69,49 @@ fn field_in(bits: u32, field: Field, line: &[u8]) -> Result<Said, TextCause>
 {
     match number_of(field, bits, line) {
         Ok(value) => Ok(Said::Number(field, value)),
+        Err(cause) => unless_other(bits, field, line, cause),
+    }
+}
+
+// What a line says that doesn't say the number of the header that is due, for this cause.
+fn unless_other(bits: u32, field: Field, line: &[u8], cause: TextCause) -> Result<Said, TextCause>
+    requires split { IsSplit bits }
+    requires some { line.now ≢ [] }
+    requires wrong { IsWrong (λ value. words_of line.now ≡ schedule_words (number field value))
+        (λ value. IsScheduleInRange bits (number field value)) cause }
+    ensures { ReadsLine (SaysWhere (Due.Number bits field) line.now)
+        (IsSaidInRange (Due.Number bits field)) result }
+{
+    match cause {
+        TextCause::Form => other_in(bits, field, line),
+        _ => Err(cause),
+    }
+}
+
+// What a line says that is to say a number of the header, and says another one, if any: where the bits are due, the nodes.
+fn other_in(bits: u32, field: Field, line: &[u8]) -> Result<Said, TextCause>
+    requires split { IsSplit bits }
+    requires some { line.now ≢ [] }
+    requires none { (value : ℕ) → words_of line.now ≢ schedule_words (number field value) }
+    ensures { ReadsLine (SaysWhere (Due.Number bits field) line.now)
+        (IsSaidInRange (Due.Number bits field)) result }
+{
+    match field {
+        Field::Bits => nodes_in(bits, line),
+        _ => Err(TextCause::Form),
+    }
+}
+
+// What a line says where the bits are due, and it doesn't say them.
+fn nodes_in(bits: u32, line: &[u8]) -> Result<Said, TextCause>
+    requires split { IsSplit bits }
+    requires some { line.now ≢ [] }
+    requires none { (value : ℕ) → words_of line.now ≢ schedule_words (number Field.Bits value) }
+    ensures { ReadsLine (SaysWhere (Due.Number bits Field.Bits) line.now)
+        (IsSaidInRange (Due.Number bits Field.Bits)) result }
+{
+    match number_of(Field::Nodes, bits, line) {
+        Ok(value) => Ok(Said::Number(Field::Nodes, value)),
         Err(cause) => Err(cause),
     }
 }

@@ -3,7 +3,7 @@ ghost use Rattle.std.specs.Prelude.{◌≡◌, ◌++◌, ◌∷◌, [], true, If
 ghost use Rattle.text_io.specs.Prefixes.{IsRefusedBy};
 ghost use Rattle.expand_engine.specs.Recipes.{HasWords, IsDueInRange, IsRecipe, IsRefusedLine, IsSaidInRange, MaySay, ReadsOn, is_due, recipe_lines};
 
-use crate::comments::before_comment;
+use crate::comments::speak;
 use crate::dues::{due_after, sizes_after};
 use crate::lines::said_in;
 use crate::recipes::{Due, Recipe, Said, Sizes};
@@ -68,8 +68,8 @@ impl Reading {
         self.lines.len() as u64 + 1
     }
 
-    // Reads the line at the front of a text, which is due, and answers what follows it.
-    fn read_line<'a>(&mut self, text: &'a [u8]) -> Result<&'a [u8], Refusal>
+    // Reads the line at the front of a text, which is due, and answers what follows it. What was heard before goes.
+    fn read_line<'a>(&mut self, text: &'a [u8], heard: &mut Vec<u8>) -> Result<&'a [u8], Refusal>
         requires range { IsDueInRange self.old.due }
         requires due { is_due self.old.due ≡ true }
         ensures ok { IfOk result (λ rest. ReadsOn self.old text.now self.new rest.now) }
@@ -80,7 +80,8 @@ impl Reading {
         let Some((line, rest)) = line_at(text) else {
             return Err(Refusal::Text(number, TextCause::End));
         };
-        match said_in(self.due, before_comment(line)) {
+        speak(line, heard)?;
+        match said_in(self.due, heard) {
             Ok(said) => {
                 self.keep(said)?;
                 Ok(rest)
@@ -123,9 +124,10 @@ fn recipe_of(alloc: Global, text: &[u8]) -> Result<Recipe, Refusal>
     ensures err { IfErr result (IsRefusedBy recipe_lines Due.Version text.now) }
 {
     let mut read = Reading::new(alloc);
+    let mut heard = Vec::new(alloc);
     let mut rest = text;
     while read.is_due() {
-        rest = read.read_line(rest)?;
+        rest = read.read_line(rest, &mut heard)?;
     }
     if !rest.is_empty() {
         return Err(Refusal::Text(read.next_number(), TextCause::Extra));

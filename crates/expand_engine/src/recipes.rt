@@ -94,7 +94,7 @@ pub enum Due {
     Version,
     /// The queue.
     Queue,
-    /// This number of the header, where so many bits hold a node.
+    /// This number of the header, where so many bits hold a node; in place of the bits also the nodes.
     Number(u32, Field),
     /// An act, a repeat or the recipe's end, where the acts so far count as so many steps.
     Act(u64),

@@ -1,10 +1,9 @@
 //! From a reader's bytes of a recipe to a writer's of a history.
 ghost use Rattle.std.specs.Prelude.{◌≡◌, ◌≢◌, ◌≤◌, All, IfErr, IfOk, IfSome, OnOk, length};
-ghost use Rattle.engine_faults.specs.Faults.{IsEventFault};
-ghost use Rattle.run_engine.specs.Runs.{EndsReading, IsRunFault};
+ghost use Rattle.run_engine.specs.Runs.{EndsReading};
 ghost use Rattle.text_io.specs.Blocks.{GivesUp};
 ghost use Rattle.text_io.specs.Readings.{ReachesEnd};
-ghost use Rattle.expand_engine.specs.Expansions.{AreSizesInRange, ExpansionRefused, IsActOf, RefusesAt, StopsExpansion, TellsFaultyLine};
+ghost use Rattle.expand_engine.specs.Expansions.{AreSizesInRange, ExpansionRefused, IsActOf, IsDoingFault, IsRecipeFault, RefusesAt, StopsExpansion, TellsFaultyLine};
 ghost use Rattle.expand_engine.specs.Recipes.{IsRecipe};
 ghost use Rattle.expand_engine.specs.RecipesRun.{BeginsHistory, IsRunOfActs, IsRunOfLines, IsRunOfRecipe, RefusesLinesAt, WritesHistory};
 
@@ -31,7 +30,7 @@ fn history_with_bits<const B: u32>(
     requires acts { All IsActOf acts.now }
     requires few { length acts.now ≤ 1000000 }
     ensures ok { IfOk result (λ history. IsRunOfActs sizes.now acts.now history.items) }
-    ensures fault { IfErr result (λ fault. IsEventFault fault.refusal fault.line) }
+    ensures fault { IfErr result (λ fault. IsDoingFault fault.refusal fault.line) }
     ensures refused { IfErr result (λ fault. RefusesAt sizes.now acts.now fault.line fault.refusal) }
 {
     let mut world = opening_world::<B>(alloc, sizes)?;
@@ -53,7 +52,7 @@ fn history_of_acts(alloc: Global, sizes: &Sizes, acts: &[Act]) -> Result<Vec<Sta
     requires acts { All IsActOf acts.now }
     requires few { length acts.now ≤ 1000000 }
     ensures ok { IfOk result (λ history. IsRunOfActs sizes.now acts.now history.items) }
-    ensures fault { IfErr result (λ fault. IsEventFault fault.refusal fault.line) }
+    ensures fault { IfErr result (λ fault. IsDoingFault fault.refusal fault.line) }
     ensures refused { IfErr result (λ fault. RefusesAt sizes.now acts.now fault.line fault.refusal) }
 {
     let bits = sizes.bits;
@@ -65,7 +64,7 @@ fn history_of(alloc: Global, recipe: &Recipe) -> Result<Vec<Stamped>, Fault>
     requires { IsRecipe recipe.now.text.items recipe.now.sizes recipe.now.lines.items }
     ensures ok { IfOk result (λ history.
         IsRunOfLines recipe.now.sizes recipe.now.lines.items history.items) }
-    ensures fault { IfErr result (λ fault. IsEventFault fault.refusal fault.line) }
+    ensures fault { IfErr result (λ fault. IsDoingFault fault.refusal fault.line) }
     ensures refused { IfErr result (λ fault. RefusesLinesAt recipe.now.sizes recipe.now.lines.items
         fault.line fault.refusal) }
 {
@@ -91,7 +90,7 @@ fn history_from<R: Source>(alloc: Global, reader: &mut R) -> Result<Vec<Stamped>
     ensures ok { IfOk result (λ history.
         IsRunOfRecipe (R.state reader.old).left history.items) }
     ensures text { IfErr result (λ fault. TellsFaultyLine (R.state reader.old).left fault.refusal) }
-    ensures fault { IfErr result (λ fault. IsRunFault fault.refusal fault.line) }
+    ensures fault { IfErr result (λ fault. IsRecipeFault fault.refusal fault.line) }
     ensures refused { IfErr result (λ fault. IfSome fault.line (λ line.
         ExpansionRefused (R.state reader.old).left line fault.refusal)) }
     ensures unwritten { IfErr result (λ fault. fault.refusal ≢ Refusal.Write) }
@@ -122,7 +121,7 @@ pub fn run_recipe<R: Source, W: Sink>(
     ensures write { IfErr result (λ fault. fault.refusal ≡ Refusal.Write
         → GivesUp (W.state writer.old) (W.state writer.new)) }
     ensures unwritten { IfErr result (λ fault. fault.refusal ≢ Refusal.Write → writer.new ≡ writer.old) }
-    ensures fault { IfErr result (λ fault. IsRunFault fault.refusal fault.line) }
+    ensures fault { IfErr result (λ fault. IsRecipeFault fault.refusal fault.line) }
     ensures text { IfErr result (λ fault. TellsFaultyLine (R.state reader.old).left fault.refusal) }
     ensures refused { IfErr result (λ fault. IfSome fault.line (λ line.
         ExpansionRefused (R.state reader.old).left line fault.refusal)) }

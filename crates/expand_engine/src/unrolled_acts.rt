@@ -42,11 +42,14 @@ fn push_acts(acts: &mut Vec<Act>, more: &[Act]) -> Result<(), Refusal>
     Ok(())
 }
 
-// Adds acts at the end, so often.
+// Adds acts at the end, so often; where there are none, at once.
 fn push_repeated(acts: &mut Vec<Act>, body: &[Act], times: u64) -> Result<(), Refusal>
     ensures ok { OnOk result (acts.new.items ≡ acts.old.items ++ repeated times body.now) }
     ensures err { IfErr result (λ refusal. refusal ≡ Memory) }
 {
+    if body.is_empty() {
+        return Ok(());
+    }
     for _ in 0..times {
         push_acts(acts, body)?;
     }

@@ -3,7 +3,7 @@ ghost use Rattle.std.specs.Prelude.{◌≡◌, ◌≤◌, length, map, IfErr, If
 ghost use Rattle.std.specs.List.{All};
 ghost use Rattle.node_arena.specs.Seats.{plan_of};
 ghost use Rattle.picked.specs.Picked.{any_arena_of};
-ghost use Rattle.blocking_queue.specs.Queues.{queue_of};
+ghost use Rattle.shared_queue.specs.Queues.{numbers_in};
 ghost use Rattle.job_results.specs.Jobs.{job_rows};
 ghost use Rattle.job_results.specs.Results.{row_of};
 ghost use Rattle.dispatcher.specs.Workers.{IsTaker, IsGiver, StopsWorkers};
@@ -17,7 +17,7 @@ ghost use Rattle.job_engine.specs.Overs.{IsOver, WereOver};
 ghost use Rattle.job_engine.specs.Works.{AreSized};
 ghost use Rattle.job_engine.specs.Queues.{queue_in, seats_in};
 
-use blocking_queue::BlockingQueue;
+use carriers::Numbers;
 use dispatcher::{Dispatched, Gate, dispatch_keeping_seats};
 use history::{Fifo, Refusal};
 use job_results::{Job, JobResult};
@@ -25,6 +25,7 @@ use line_table::{Kind, QueueKind};
 use node_arena::{MOST_COUNT, Role, Seat};
 use picked::{AnyQueue, EitherQueue};
 use ring_queue::{RingQueue, Role as RingRole, Seat as RingSeat};
+use shared_queue::SharedQueue;
 use std::alloc::Global;
 use std::sync::Wait;
 use std::thread::Threads;
@@ -208,25 +209,26 @@ fn results_over<'a, R: Threads + Wait + Sync, Q: Fifo + Sync + Drop>(
         (λ r. IsOver Q.is_seat Q.known r.1 workers (length jobs.now) r.0.seats.items) }
     ensures refusal { IfErr result StopsWorkers }
 {
-    let queue = BlockingQueue::new(queue);
+    let numbers = Numbers::new(queue);
+    let queue = SharedQueue::new(numbers);
     let done = results_with(rt, alloc, &queue, workers, seats, jobs)?;
-    Ok((done, queue.into_inner()))
+    Ok((done, queue.into_inner().into_queue()))
 }
 
 // The results of jobs over any queue, by a worker for each of its seats but the last, which is the submitter's.
 fn results_with<'a, R: Threads + Wait + Sync, Q: Fifo + Sync>(
     rt: &R,
     alloc: Global,
-    queue: &BlockingQueue<Q>,
+    queue: &SharedQueue<Numbers<Q>>,
     workers: u32,
     mut seats: Vec<Q::Seat>,
     jobs: &'a [Job],
 ) -> Result<Dispatched<'a, Q::Seat>, Refusal>
     requires some { 1 ≤ workers }
-    requires crew { IsCrew Q.is_seat Q.permits Q.known (queue_of queue.now) workers seats.items }
+    requires crew { IsCrew Q.is_seat Q.permits Q.known (numbers_in queue.now) workers seats.items }
     requires few { length jobs.now ≤ 1000000 }
     ensures rows { IfOk result (λ d. map row_of d.results.items ≡ job_rows 1 jobs.now) }
-    ensures went { IfOk result (λ d. IsOver Q.is_seat Q.known (queue_of queue.now) workers
+    ensures went { IfOk result (λ d. IsOver Q.is_seat Q.known (numbers_in queue.now) workers
         (length jobs.now) d.seats.items) }
     ensures refusal { IfErr result StopsWorkers }
 {
@@ -240,7 +242,7 @@ fn results_with<'a, R: Threads + Wait + Sync, Q: Fifo + Sync>(
 fn submit<'a, R: Threads + Wait + Sync, Q: Fifo + Sync>(
     rt: &R,
     alloc: Global,
-    queue: &BlockingQueue<Q>,
+    queue: &SharedQueue<Numbers<Q>>,
     workers: u32,
     giver: Q::Seat,
     takers: Vec<Q::Seat>,
@@ -248,11 +250,11 @@ fn submit<'a, R: Threads + Wait + Sync, Q: Fifo + Sync>(
 ) -> Result<Dispatched<'a, Q::Seat>, Refusal>
     requires some { 1 ≤ workers }
     requires each { length takers.items ≡ workers }
-    requires giver { IsGiver Q.is_seat Q.permits Q.known (queue_of queue.now) giver }
-    requires takers { All (IsTaker Q.is_seat Q.permits Q.known (queue_of queue.now)) takers.items }
+    requires giver { IsGiver Q.is_seat Q.permits Q.known (numbers_in queue.now) giver }
+    requires takers { All (IsTaker Q.is_seat Q.permits Q.known (numbers_in queue.now)) takers.items }
     requires few { length jobs.now ≤ 1000000 }
     ensures rows { IfOk result (λ d. map row_of d.results.items ≡ job_rows 1 jobs.now) }
-    ensures went { IfOk result (λ d. WentOver Q.is_seat Q.known (queue_of queue.now) giver
+    ensures went { IfOk result (λ d. WentOver Q.is_seat Q.known (numbers_in queue.now) giver
         takers.items (length jobs.now) d.seats.items) }
     ensures refusal { IfErr result StopsWorkers }
 {

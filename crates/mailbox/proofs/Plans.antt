@@ -7,7 +7,7 @@ use Rattle.std.proofs.lemmas.List.{length-map}
 use Rattle.std.proofs.lemmas.List.Elements.{All-head, All-tail}
 use Rattle.history.specs.Seats.{Permit, Known, MayPush, MayPop}
 use Rattle.history.specs.Values.{OnlyPops}
-use Rattle.blocking_queue.specs.Queues.{queue_of}
+use Rattle.shared_queue.specs.Queues.{numbers_in}
 use Rattle.mailbox.specs.declared.office.Office.{Office}
 use Rattle.mailbox.specs.declared.receiver.Letter.{Letter}
 use Rattle.mailbox.specs.declared.receiver.Receiver.{Receiver}
@@ -68,7 +68,7 @@ module _ {Q S : Type 0} (P : Task Q S → Type 0) (numbers : List ℕ) (number :
 
 -- an office over the queue of another one
 pub queue_in-same : {Q S : Type 0} (o o' : Office Q S) → HasQueueOf o o' → queue_in o' ≡ queue_in o
-queue_in-same o o' same = ap queue_of same
+queue_in-same o o' same = ap numbers_in same
 
 module _ {Q S : Type 0} (is_seat : Q → S → Type 0) (permits : Q → List Permit) (known : S → Known) (o o' : Office Q S) (same : HasQueueOf o o') where
   -- the tasks of an office are tasks of another one over the same queue
@@ -76,16 +76,16 @@ module _ {Q S : Type 0} (is_seat : Q → S → Type 0) (permits : Q → List Per
   tasks_of-same tasks all k d short =
       let is = all k d short in
       record {
-        seat = subst (λ q. is_seat (queue_of q) (get_or tasks k d).sender.seat) (sym same) is.seat;
-        role = subst (λ q. MayPush (permits (queue_of q)) (known (get_or tasks k d).sender.seat).number) (sym same) is.role;
+        seat = subst (λ q. is_seat (numbers_in q) (get_or tasks k d).sender.seat) (sym same) is.seat;
+        role = subst (λ q. MayPush (permits (numbers_in q)) (known (get_or tasks k d).sender.seat).number) (sym same) is.role;
       }
 
   -- and so is its receiver
   pub receiver_of-same : (r : Receiver Q S) → IsReceiver is_seat permits known o r → IsReceiver is_seat permits known o' r
   receiver_of-same r is = record {
-    seat = subst (λ q. is_seat (queue_of q) r.seat) (sym same) is.seat;
-    role = subst (λ q. MayPop (permits (queue_of q)) (known r.seat).number) (sym same) is.role;
-    only = subst (λ q. OnlyPops (permits (queue_of q)) (known r.seat).number) (sym same) is.only;
+    seat = subst (λ q. is_seat (numbers_in q) r.seat) (sym same) is.seat;
+    role = subst (λ q. MayPop (permits (numbers_in q)) (known r.seat).number) (sym same) is.role;
+    only = subst (λ q. OnlyPops (permits (numbers_in q)) (known r.seat).number) (sym same) is.only;
   }
 
 -- how many letters tasks have to send

@@ -4,7 +4,8 @@ use Rattle.std.specs.Prelude.{None, String}
 use Rattle.history.specs.declared.refusals.Refusal.{Refusal}
 use Rattle.history.specs.declared.refusals.Refusal.TheVariants.{Memory, BadSize}
 use Rattle.history.specs.Seats.{Known}
-use Rattle.history.proofs.Learning.{sees_itself}
+use Rattle.carriers.specs.DeedsOfNumbers.{known_by_deeds}
+use Rattle.carriers.proofs.Learning.{sees_itself}
 use Rattle.mailbox.specs.declared.office.Office.{Office}
 use Rattle.mailbox.specs.declared.sender.Sender.{Sender}
 use Rattle.mailbox.specs.Causes.{HasEnded}
@@ -26,5 +27,5 @@ module _ {Q S Z : Type 0} (is_seat : Q → S → Type 0) (known : S → Known) (
     sent = 0;
     last = s;
     added = omega arith;
-    ends = (omega arith, record { text = text; after = s; nothing = sees_itself (known s.seat); caused = tt; memory = λ _. refl; no_body = λ e. absurd (subst no_body e 0) });
+    ends = (omega arith, record { text = text; after = s; nothing = sees_itself (known_by_deeds (known s.seat)); caused = tt; memory = λ _. refl; no_body = λ e. absurd (subst no_body e 0) });
   }

@@ -4,7 +4,7 @@ use Rattle.std.specs.List.{AllZip}
 use Rattle.history.specs.declared.refusals.Refusal.{Refusal}
 use Rattle.history.specs.declared.refusals.Refusal.TheVariants.{Memory, BadSize, Lost, Closed}
 use Rattle.history.specs.Seats.{Known}
-use Rattle.blocking_queue.specs.Answers.{Received, RecvRefused}
+use Rattle.shared_queue.specs.Answers.{ReceivedOf, RecvRefusedOf}
 use Rattle.mailbox.specs.Refusals.{HandsOn}
 use Rattle.mailbox.specs.Offices.{SentNothing, SendEnded, HasNoBody, TookText, TookNothing, Loses, LastIs, WaitedInVain}
 use Rattle.mailbox.specs.Posts.{AddsEntries, Delivered, texts_of, letters_of}
@@ -57,7 +57,7 @@ EndsSo is_seat known cause o task end = HasEnded is_seat known cause o task.send
 pub record TookAllThere {Q S : Type 0} (known : S → Known) (r : Receiver Q S) (letters : List Letter) (r' : Receiver Q S) : Type 0 where
   pub last : Receiver Q S
   pub delivered : Delivered known r letters last
-  pub none : WaitedInVain known last r' ⊎ TookNothing RecvRefused known last Closed r'
+  pub none : WaitedInVain known last r' ⊎ TookNothing RecvRefusedOf known last Closed r'
 
 -- where these letters of so many tasks were taken, it is the turn of a letter of this sender that is this one of those due
 pub record IsItsTurn (senders : ℕ) (letters : List Letter) (sender : ℕ) (due : Due) : Type 0 where
@@ -68,15 +68,15 @@ pub record IsItsTurn (senders : ℕ) (letters : List Letter) (sender : ℕ) (due
 -- a letter was taken whose turn it isn't, or that is of no task
 pub record TookOutOfTurn {Q S : Type 0} (known : S → Known) (o : Office Q S) (senders : ℕ) (letters : List Letter) (r r' : Receiver Q S) : Type 0 where
   pub letter : Letter
-  pub took : TookText Received known o r letter.from letter.text.now r'
+  pub took : TookText ReceivedOf known o r letter.from letter.text.now r'
   pub due : Option Due
   pub is : LastIs r' due
   pub out : IfSome due (λ d. IsItsTurn senders letters letter.from d → ⊥)
 
 -- a take after these letters was refused so: nothing was taken; or, at `Lost`, a letter is lost, or its turn it isn't
 pub record StopsAt {Q S : Type 0} (known : S → Known) (o : Office Q S) (senders : ℕ) (letters : List Letter) (r r' : Receiver Q S) (refusal : Refusal) : Type 0 where
-  pub nothing : refusal ≢ Lost → TookNothing RecvRefused known r refusal r'
-  pub lost : refusal ≡ Lost → Loses Received known r r' ⊎ TookOutOfTurn known o senders letters r r'
+  pub nothing : refusal ≢ Lost → TookNothing RecvRefusedOf known r refusal r'
+  pub lost : refusal ≡ Lost → Loses ReceivedOf known r r' ⊎ TookOutOfTurn known o senders letters r r'
 
 -- letters were taken, up to a take that was refused so
 pub record TookUntil {Q S : Type 0} (known : S → Known) (o : Office Q S) (senders : ℕ) (r : Receiver Q S) (refusal : Refusal) (r' : Receiver Q S) : Type 0 where

@@ -2,14 +2,17 @@
 use Rattle.std.specs.Prelude.{◌≡◌, ◌<◌, ◌≤◌, ◌^◌, ℕ, List, Bool, true, false, Option, Some, None, is_some, IfSome, IsSomeAnd, String, string_bytes}
 use Rattle.boxcar.specs.Table.{Shows, Where}
 use Rattle.history.specs.Limits.{body_bits}
-use Rattle.history.specs.declared.operations.Taken.{Taken}
 use Rattle.history.specs.Seats.{Permit, Known, MayPush, MayPop}
 use Rattle.history.specs.declared.refusals.Refusal.{Refusal}
-use Rattle.history.specs.Answers.{Pushed, Popped, DidShut, FoundEmpty, PushRefused, EndsByTry}
-use Rattle.history.specs.Values.{pushed, OnlyPops}
-use Rattle.blocking_queue.specs.Queues.{queue_of}
-use Rattle.blocking_queue.specs.Waits.{Waited, EmptySince}
-use Rattle.blocking_queue.specs.Answers.{Received, EndsAfterWait}
+use Rattle.history.specs.Values.{OnlyPops}
+use Rattle.carriers.specs.declared.items.ItemOf.{ItemOf}
+use Rattle.carriers.specs.Knowledge.{KnownOf}
+use Rattle.carriers.specs.Answers.{PushedOf, PoppedOf, DidShutOf, FoundEmptyOf, PushRefusedOf, EndsByTryOf}
+use Rattle.carriers.specs.Values.{values_pushed}
+use Rattle.carriers.specs.DeedsOfNumbers.{known_by_deeds}
+use Rattle.shared_queue.specs.Queues.{numbers_in}
+use Rattle.shared_queue.specs.Waits.{WaitedOf, EmptySinceOf}
+use Rattle.shared_queue.specs.Answers.{ReceivedOf, EndsAfterWaitOf}
 use Rattle.mailbox.specs.Plans.{Fits}
 use Rattle.mailbox.specs.declared.office.Office.{Office}
 use Rattle.mailbox.specs.declared.sender.Sender.{Sender}
@@ -21,7 +24,7 @@ use Rattle.mailbox.specs.declared.parcels.Parcel.{Parcel}
 
 -- the queue of an office
 abbrev pub queue_in : {Q S : Type 0} → Office Q S → Q
-queue_in o = queue_of o.queue
+queue_in o = numbers_in o.queue
 
 -- what the receiver knows of the queue
 abbrev pub receiver_knows : {Q S : Type 0} → (S → Known) → Receiver Q S → Known
@@ -87,21 +90,21 @@ pub record TextsAt : Type 0 where
 -- a letter was sent: its text is stored, and its index was pushed
 pub record Sent {Q S Z : Type 0} (known : S → Known) (o : Office Q S) (s s' : Sender Q S) (text : String Z) : Type 0 where
   pub index : ℕ
-  pub pushed : Pushed (known s.seat) index (known s'.seat)
+  pub pushed : PushedOf (known_by_deeds (known s.seat)) index (known_by_deeds (known s'.seat))
   pub stored : Stored o s' index (string_bytes text)
 
 -- nothing was sent or shut, for this cause: the sender found the queue shut, or else it may have seen more and all else that it
 -- knows is as before
 abbrev pub SentNothing : {Q S : Type 0} → (S → Known) → (s : Sender Q S) → Refusal → (s' : Sender Q S) → Type 0
-SentNothing known s refusal s' = PushRefused (known s.seat) refusal (known s'.seat)
+SentNothing known s refusal s' = PushRefusedOf (known_by_deeds (known s.seat)) refusal (known_by_deeds (known s'.seat))
 
 -- the sender shut the queue
 abbrev pub DidShutOffice : {Q S : Type 0} → (S → Known) → (s s' : Sender Q S) → Type 0
-DidShutOffice known s s' = DidShut (known s.seat) (known s'.seat)
+DidShutOffice known s s' = DidShutOf (known_by_deeds (known s.seat)) (known_by_deeds (known s'.seat))
 
 -- what a sender has sent is as before, and so is what shows the letter that it stored last
 pub record HasSentTheSame {Q S : Type 0} (known : S → Known) (s s' : Sender Q S) : Type 0 where
-  pub sent : pushed (known s'.seat).mine ≡ pushed (known s.seat).mine
+  pub sent : values_pushed (known_by_deeds (known s'.seat)).mine ≡ values_pushed (known_by_deeds (known s.seat)).mine
   pub last : s'.last ≡ s.last
 
 -- a letter is stored, at an index that is a body
@@ -116,7 +119,7 @@ SendHadCause cause o s s' turns = cause (queue_in o) s.seat s'.seat turns
 
 -- a send that waits, or a shut, ended by a push of so many turns, or a shut, which had this cause for its refusal
 abbrev pub SendEnded : {Q S : Type 0} → (Q → S → Type 0) → (S → Known) → (Q → S → S → ℕ → Refusal → Type 0) → Office Q S → (s s' : Sender Q S) → (turns : ℕ) → Refusal → Type 0
-SendEnded is_seat known cause o s s' turns = EndsByTry is_seat known cause (queue_in o) s.seat s'.seat turns
+SendEnded is_seat known cause o s s' turns = EndsByTryOf is_seat (λ t. known_by_deeds (known t)) cause (queue_in o) s.seat s'.seat turns
 
 -- a letter was stored, at an index that is no body
 pub record HasNoBody {Q S Z : Type 0} (o : Office Q S) (s s' : Sender Q S) (text : String Z) : Type 0 where
@@ -126,40 +129,40 @@ pub record HasNoBody {Q S Z : Type 0} (o : Office Q S) (s s' : Sender Q S) (text
   pub stored : Stored o s' index (string_bytes text)
 
 -- a letter was taken: one value was popped, at once or after a wait, which this sender pushed, and this is the text at its body
-pub record TookText {Q S : Type 0} (Pops : Known → Taken → Known → Type 0) (known : S → Known) (o : Office Q S) (r : Receiver Q S) (from : ℕ) (text : List ℕ) (r' : Receiver Q S) : Type 0 where
-  pub value : Taken
-  pub popped : Pops (known r.seat) value (known r'.seat)
-  pub sender : value.from ≡ from
-  pub read : Read o r' value.body text
+pub record TookText {Q S : Type 0} (Pops : KnownOf ℕ → ItemOf ℕ → KnownOf ℕ → Type 0) (known : S → Known) (o : Office Q S) (r : Receiver Q S) (from : ℕ) (text : List ℕ) (r' : Receiver Q S) : Type 0 where
+  pub front : ItemOf ℕ
+  pub popped : Pops (known_by_deeds (known r.seat)) front (known_by_deeds (known r'.seat))
+  pub sender : front.from ≡ from
+  pub read : Read o r' front.value text
   pub kept : has_lost r' ≡ false
 
 -- there was no letter: the queue was found empty
 pub record FoundNone {Q S : Type 0} (known : S → Known) (r r' : Receiver Q S) : Type 0 where
-  pub empty : FoundEmpty (known r.seat) (known r'.seat)
+  pub empty : FoundEmptyOf (known_by_deeds (known r.seat)) (known_by_deeds (known r'.seat))
   pub last : r'.last ≡ r.last
   pub kept : has_lost r' ≡ false
 
 -- what a take answers: a letter, or that there is none
 abbrev pub TakeAnswers : {Q S : Type 0} → (S → Known) → Office Q S → Receiver Q S → Option Letter → Receiver Q S → Type 0
 TakeAnswers known o r None r' = FoundNone known r r'
-TakeAnswers known o r (Some letter) r' = TookText Popped known o r letter.from letter.text.now r'
+TakeAnswers known o r (Some letter) r' = TookText PoppedOf known o r letter.from letter.text.now r'
 
 -- there was no letter: the receiver waited, up to some moment, and found the queue empty after it
 pub record WaitedInVain {Q S : Type 0} (known : S → Known) (r r' : Receiver Q S) : Type 0 where
-  pub late : Known
-  pub waited : Waited (known r.seat) late
-  pub empty : EmptySince late (known r'.seat)
+  pub late : KnownOf ℕ
+  pub waited : WaitedOf (known_by_deeds (known r.seat)) late
+  pub empty : EmptySinceOf late (known_by_deeds (known r'.seat))
   pub last : r'.last ≡ r.last
   pub kept : has_lost r' ≡ false
 
 -- what a receive up to a deadline answers: a letter, or that there was none
 abbrev pub RecvAnswers : {Q S : Type 0} → (S → Known) → Office Q S → Receiver Q S → Option Letter → Receiver Q S → Type 0
 RecvAnswers known o r None r' = WaitedInVain known r r'
-RecvAnswers known o r (Some letter) r' = TookText Received known o r letter.from letter.text.now r'
+RecvAnswers known o r (Some letter) r' = TookText ReceivedOf known o r letter.from letter.text.now r'
 
 -- a take was refused so, without a loss: nothing was taken, as where a pop is refused, at once or after a wait
-pub record TookNothing {Q S : Type 0} (Refused : Known → Refusal → Known → Type 0) (known : S → Known) (r : Receiver Q S) (refusal : Refusal) (r' : Receiver Q S) : Type 0 where
-  pub nothing : Refused (known r.seat) refusal (known r'.seat)
+pub record TookNothing {Q S : Type 0} (Refused : KnownOf ℕ → Refusal → KnownOf ℕ → Type 0) (known : S → Known) (r : Receiver Q S) (refusal : Refusal) (r' : Receiver Q S) : Type 0 where
+  pub nothing : Refused (known_by_deeds (known r.seat)) refusal (known_by_deeds (known r'.seat))
   pub last : r'.last ≡ r.last
   pub was : has_lost r ≡ false
   pub kept : has_lost r' ≡ false
@@ -170,24 +173,24 @@ TakeHadCause cause o r r' turns = cause (queue_in o) r.seat r'.seat turns
 
 -- a take that waits ended by a pop of so many turns, which had this cause for its refusal
 abbrev pub TakeEnded : {Q S : Type 0} → (Q → S → Type 0) → (S → Known) → (Q → S → S → ℕ → Refusal → Type 0) → Office Q S → (r r' : Receiver Q S) → (turns : ℕ) → Refusal → Type 0
-TakeEnded is_seat known cause o r r' turns = EndsByTry is_seat known cause (queue_in o) r.seat r'.seat turns
+TakeEnded is_seat known cause o r r' turns = EndsByTryOf is_seat (λ s. known_by_deeds (known s)) cause (queue_in o) r.seat r'.seat turns
 
 -- a receive waited, and ended by a pop of so many turns, which had this cause for its refusal
 abbrev pub RecvEnded : {Q S : Type 0} → (Q → S → Type 0) → (S → Known) → (Q → S → S → ℕ → Refusal → Type 0) → Office Q S → (r r' : Receiver Q S) → (turns : ℕ) → Refusal → Type 0
-RecvEnded is_seat known cause o r r' turns = EndsAfterWait is_seat known cause (queue_in o) r.seat r'.seat turns
+RecvEnded is_seat known cause o r r' turns = EndsAfterWaitOf is_seat (λ s. known_by_deeds (known s)) cause (queue_in o) r.seat r'.seat turns
 
 -- the receiver was answered by the store of letters that it has none at this index
 abbrev pub FoundMissing : {Q S : Type 0} → Receiver Q S → (index : ℕ) → Type 0
 FoundMissing r index = IsSomeAnd r.missing (λ (m : Missing). m.index ≡ index)
 
 -- one value was popped, at once or after a wait, and the store of letters answered that it has none at its body
-pub record TookMissing {Q S : Type 0} (Pops : Known → Taken → Known → Type 0) (known : S → Known) (r r' : Receiver Q S) : Type 0 where
-  pub value : Taken
-  pub popped : Pops (known r.seat) value (known r'.seat)
-  pub missing : FoundMissing r' value.body
+pub record TookMissing {Q S : Type 0} (Pops : KnownOf ℕ → ItemOf ℕ → KnownOf ℕ → Type 0) (known : S → Known) (r r' : Receiver Q S) : Type 0 where
+  pub front : ItemOf ℕ
+  pub popped : Pops (known_by_deeds (known r.seat)) front (known_by_deeds (known r'.seat))
+  pub missing : FoundMissing r' front.value
 
 -- a letter is lost: where none was lost before, one value was popped that names no letter; else nothing was done
-pub record Loses {Q S : Type 0} (Pops : Known → Taken → Known → Type 0) (known : S → Known) (r r' : Receiver Q S) : Type 0 where
+pub record Loses {Q S : Type 0} (Pops : KnownOf ℕ → ItemOf ℕ → KnownOf ℕ → Type 0) (known : S → Known) (r r' : Receiver Q S) : Type 0 where
   pub first : has_lost r ≡ false → TookMissing Pops known r r'
   pub later : has_lost r ≡ true → r' ≡ r
   pub lost : has_lost r' ≡ true

@@ -2,8 +2,8 @@
 ghost use Rattle.std.specs.Prelude.{◌≡◌, Bool, true, Some, None, IfSome};
 ghost use Rattle.mailbox.specs.Refusals.{EndsDue, may_end};
 
-use blocking_queue::Deadline;
 use history::Refusal;
+use shared_queue::Deadline;
 use std::sync::atomic::{AtomicBool, AtomicUsize, Ordering};
 use std::time::Duration;
 

@@ -7,15 +7,16 @@ ghost use Rattle.mailbox.specs.Offices.{IsSender, IsReceiver, TextsAt, Stored, R
 use crate::parcels::Letters;
 use crate::receiver::Receiver;
 use crate::sender::Sender;
-use blocking_queue::BlockingQueue;
 use boxcar::tag::Tag;
+use carriers::Numbers;
 use history::{Fifo, Refusal};
+use shared_queue::SharedQueue;
 use std::alloc::Global;
 
 /// A queue whose bodies are the indexes of letters, and whose calls may sleep. Threads share it by reference.
 #[derive(Drop)]
 pub struct Office<Q: Fifo + Drop> {
-    pub(crate) queue: BlockingQueue<Q>,
+    pub(crate) queue: SharedQueue<Numbers<Q>>,
     pub(crate) letters: Letters,
 }
 
@@ -58,7 +59,8 @@ impl<Q: Fifo + Drop> Office<Q> {
             last: None,
             missing: None,
         };
-        let queue = BlockingQueue::new(queue);
+        let numbers = Numbers::new(queue);
+        let queue = SharedQueue::new(numbers);
         Ok((Office { queue, letters }, all, receiver))
     }
 

@@ -1,8 +1,8 @@
 //! The receiver of letters.
 ghost use Rattle.std.specs.Prelude.{◌≡◌, ◌≤◌, ◌≢◌, true, Err, IfErr, IfOk, OnOk, OnErr};
 ghost use Rattle.history.specs.declared.refusals.Refusal.TheVariants.{Lost};
-ghost use Rattle.history.specs.Answers.{Popped, PopRefused};
-ghost use Rattle.blocking_queue.specs.Answers.{Received, RecvRefused};
+ghost use Rattle.carriers.specs.Answers.{PoppedOf, PopRefusedOf};
+ghost use Rattle.shared_queue.specs.Answers.{ReceivedOf, RecvRefusedOf};
 ghost use Rattle.mailbox.specs.Deliveries.{InOrder};
 ghost use Rattle.mailbox.specs.Offices.{IsReceiver, receiver_knows, has_lost};
 ghost use Rattle.mailbox.specs.Offices.{ShowsLast, LastIs, LastFits, Read, FoundMissing};
@@ -12,8 +12,9 @@ ghost use Rattle.mailbox.specs.Refusals.{StopsTake, EndsTake, HandsOn};
 
 use crate::office::Office;
 use crate::parcels::{Due, Missing, Shown, find, parcel_at};
-use blocking_queue::{Deadline, InTime};
-use history::{Fifo, Refusal, Taken};
+use carriers::{Carrier, ItemOf};
+use history::{Body, Fifo, Refusal};
+use shared_queue::{Deadline, InTime};
 use std::sync::Wait;
 
 /// A letter taken: the number of its sender's seat, and its text.
@@ -40,15 +41,20 @@ impl<Q: Fifo + Drop> Receiver<Q> {
     }
 
     // The letter that a value names. Refused by `Lost` where the office shows none.
-    fn open<'a>(&mut self, office: &'a Office<Q>, value: Taken) -> Result<Letter<'a>, Refusal>
+    fn open<'a>(
+        &mut self,
+        office: &'a Office<Q>,
+        front: ItemOf<Body>,
+    ) -> Result<Letter<'a>, Refusal>
         ensures seat { self.new.seat ≡ self.old.seat }
-        ensures from { IfOk result (λ letter. value.from ≡ letter.from) }
-        ensures read { IfOk result (λ letter. Read office.now self.new value.body letter.text.now) }
+        ensures from { IfOk result (λ letter. front.from ≡ letter.from) }
+        ensures read { IfOk result
+            (λ letter. Read office.now self.new front.value letter.text.now) }
         ensures kept { OnOk result (has_lost self.new ≡ has_lost self.old) }
-        ensures missing { OnErr result (FoundMissing self.new value.body) }
+        ensures missing { OnErr result (FoundMissing self.new front.value) }
         ensures refusal { IfErr result (λ refusal. refusal ≡ Lost) }
     {
-        let shown = match find(&office.letters, value.body.number() as usize) {
+        let shown = match find(&office.letters, front.value.number() as usize) {
             Ok(shown) => shown,
             Err(missing) => {
                 self.missing = Some(missing);
@@ -58,7 +64,7 @@ impl<Q: Fifo + Drop> Receiver<Q> {
         let parcel = parcel_at(&office.letters, &shown);
         self.last = Some(shown);
         Ok(Letter {
-            from: value.from,
+            from: front.from,
             text: parcel.text.as_str(),
         })
     }
@@ -92,8 +98,8 @@ impl<Q: Fifo + Drop> Receiver<Q> {
         //=   value and keeps that the store has no letter at its body (`Missing`), and each later one changes nothing
         //=   and is refused so too. That a look at the store told so, no clause says.
         ensures refused { IfErr result
-            (λ refusal. refusal ≢ Lost → TookNothing PopRefused Q.known self.old refusal self.new) }
-        ensures lost { result ≡ Err Lost → Loses Popped Q.known self.old self.new }
+            (λ why. why ≢ Lost → TookNothing PopRefusedOf Q.known self.old why self.new) }
+        ensures lost { result ≡ Err Lost → Loses PoppedOf Q.known self.old self.new }
         ensures stays_lost { has_lost self.old ≡ true → result ≡ Err Lost }
         //= letters/refusals: A send is refused by `Memory` with the sender as it was, by `BadSize` where the index is
         //=   no body, or as a push; a take as a pop, or by `Lost`; a shut as the queue's. Those that wait are never
@@ -107,10 +113,10 @@ impl<Q: Fifo + Drop> Receiver<Q> {
         if self.has_lost() {
             return Err(Refusal::Lost);
         }
-        let Some(value) = office.queue.try_pop(&mut self.seat, turns)? else {
+        let Some(front) = office.queue.try_pop(&mut self.seat, turns)? else {
             return Ok(None);
         };
-        let letter = self.open(office, value)?;
+        let letter = self.open(office, front)?;
         Ok(Some(letter))
     }
 
@@ -136,8 +142,8 @@ impl<Q: Fifo + Drop> Receiver<Q> {
         ensures order { InOrder (receiver_knows Q.known self.new) }
         //= letters/refused_take (refused, lost, stays_lost)
         ensures refused { IfErr result
-            (λ refusal. refusal ≢ Lost → TookNothing PopRefused Q.known self.old refusal self.new) }
-        ensures lost { result ≡ Err Lost → Loses Popped Q.known self.old self.new }
+            (λ why. why ≢ Lost → TookNothing PopRefusedOf Q.known self.old why self.new) }
+        ensures lost { result ≡ Err Lost → Loses PoppedOf Q.known self.old self.new }
         ensures stays_lost { has_lost self.old ≡ true → result ≡ Err Lost }
         //= letters/refusals
         ensures refusal { IfErr result EndsTake }
@@ -148,10 +154,10 @@ impl<Q: Fifo + Drop> Receiver<Q> {
         if self.has_lost() {
             return Err(Refusal::Lost);
         }
-        let Some(value) = office.queue.pop(rt, &mut self.seat)? else {
+        let Some(front) = office.queue.pop(rt, &mut self.seat)? else {
             return Ok(None);
         };
-        let letter = self.open(office, value)?;
+        let letter = self.open(office, front)?;
         Ok(Some(letter))
     }
 
@@ -172,13 +178,13 @@ impl<Q: Fifo + Drop> Receiver<Q> {
         ensures office { IsReceiver Q.is_seat Q.permits Q.known office.now self.new }
         //= letters/received (answer, refused, lost, stays_lost, caused): A `recv` takes a letter, or is refused, as a take
         //=   that waits; before that its seat made no entry, saw no less, and noted only more.
-        ensures answer { IfOk result (λ letter. TookText Received Q.known office.now self.old
+        ensures answer { IfOk result (λ letter. TookText ReceivedOf Q.known office.now self.old
             letter.from letter.text.now self.new) }
         //= letters/in_order
         ensures order { InOrder (receiver_knows Q.known self.new) }
         ensures refused { IfErr result
-            (λ refusal. refusal ≢ Lost → TookNothing RecvRefused Q.known self.old refusal self.new) }
-        ensures lost { result ≡ Err Lost → Loses Received Q.known self.old self.new }
+            (λ why. why ≢ Lost → TookNothing RecvRefusedOf Q.known self.old why self.new) }
+        ensures lost { result ≡ Err Lost → Loses ReceivedOf Q.known self.old self.new }
         ensures stays_lost { has_lost self.old ≡ true → result ≡ Err Lost }
         //= letters/refusals
         ensures refusal { IfErr result EndsTake }
@@ -188,8 +194,8 @@ impl<Q: Fifo + Drop> Receiver<Q> {
         if self.has_lost() {
             return Err(Refusal::Lost);
         }
-        let value = office.queue.recv(rt, &mut self.seat)?;
-        let letter = self.open(office, value)?;
+        let front = office.queue.recv(rt, &mut self.seat)?;
+        let letter = self.open(office, front)?;
         Ok(letter)
     }
 
@@ -205,16 +211,16 @@ impl<Q: Fifo + Drop> Receiver<Q> {
         ensures answer { IfOk result (λ v. RecvAnswers Q.known office.now self.old v self.new) }
         ensures order { InOrder (receiver_knows Q.known self.new) }
         ensures refused { IfErr result
-            (λ refusal. refusal ≢ Lost → TookNothing RecvRefused Q.known self.old refusal self.new) }
-        ensures lost { result ≡ Err Lost → Loses Received Q.known self.old self.new }
+            (λ why. why ≢ Lost → TookNothing RecvRefusedOf Q.known self.old why self.new) }
+        ensures lost { result ≡ Err Lost → Loses ReceivedOf Q.known self.old self.new }
         ensures refusal { IfErr result EndsTake }
     {
         if self.has_lost() {
             return Err(Refusal::Lost);
         }
-        match &office.queue.recv_until(rt, &mut self.seat, until)? {
-            InTime::Done(value) => Ok(Some(self.open(office, *value)?)),
-            InTime::Late(_) => Ok(None),
+        match office.queue.recv_until(rt, &mut self.seat, until)? {
+            InTime::Done(front) => Ok(Some(self.open(office, front)?)),
+            InTime::Late(_late) => Ok(None),
         }
     }
 

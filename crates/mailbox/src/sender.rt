@@ -10,8 +10,9 @@ ghost use Rattle.mailbox.specs.Offices.{SendHadCause, SendEnded};
 
 use crate::office::Office;
 use crate::parcels::{Due, Parcel, Shown};
-use blocking_queue::{Deadline, InTime};
+use carriers::Carrier;
 use history::{Body, Fifo, Refusal};
+use shared_queue::{Deadline, InTime};
 use std::sync::Wait;
 
 /// A seat that sends letters, and what shows the last letter that it stored.
@@ -83,7 +84,10 @@ impl<Q: Fifo + Drop> Sender<Q> {
             (HandsOn (SendHadCause Q.push_cause office.now self.old self.new turns)) }
     {
         let body = self.store(rt, office, text, None)?;
-        office.queue.try_push(&mut self.seat, body, turns)
+        match office.queue.try_push(&mut self.seat, body, turns) {
+            Ok(()) => Ok(()),
+            Err(unpushed) => Err(unpushed.refusal),
+        }
     }
 
     /// Sends a letter, and sleeps while there is no node for it, until a take or a shut wakes it. The letter is stored once.
@@ -109,7 +113,10 @@ impl<Q: Fifo + Drop> Sender<Q> {
             (HandsOn (SendEnded Q.is_seat Q.known Q.push_cause office.now self.old self.new 8)) }
     {
         let index = self.store(rt, office, text, None)?;
-        office.queue.send(rt, &mut self.seat, index)
+        match office.queue.send(rt, &mut self.seat, index) {
+            Ok(()) => Ok(()),
+            Err(unpushed) => Err(unpushed.refusal),
+        }
     }
 
     /// As `send`, of a letter that is one of those due; `NoNode` where there was no node for it when the deadline came.
@@ -135,9 +142,10 @@ impl<Q: Fifo + Drop> Sender<Q> {
             (HandsOn (SendEnded Q.is_seat Q.known Q.push_cause office.now self.old self.new 8)) }
     {
         let body = self.store(rt, office, text, Some(due))?;
-        match office.queue.send_until(rt, &mut self.seat, body, until)? {
-            InTime::Done(()) => Ok(()),
-            InTime::Late(_) => Err(Refusal::NoNode),
+        match office.queue.send_until(rt, &mut self.seat, body, until) {
+            Ok(InTime::Done(())) => Ok(()),
+            Ok(InTime::Late(_unsent)) => Err(Refusal::NoNode),
+            Err(unpushed) => Err(unpushed.refusal),
         }
     }
 

@@ -1,12 +1,18 @@
 //! A queue with no room: each push and each shut is refused, and each pop finds it empty, until its notes can't be counted.
-ghost use Rattle.std.specs.Prelude.{IfOk, IfErr};
+ghost use Rattle.std.specs.Prelude.{◌≡◌, IfOk, IfErr, IsTrue};
 
-use history::{Body, Close, Fifo, Refusal, Rest, Taken, WornWord};
-use std::alloc::Global;
+use crate::planned::Plan;
+use carriers::{Bodies, Carrier, ItemOf, Unpushed};
+use history::{Body, Refusal, WornWord};
+use std::marker::PhantomData;
 
-/// A queue with no room.
+/// A queue with no room for values of this type, which may be any. Others are in the way of a push where its plan says so; no
+/// other call is put to the plan.
 #[derive(Drop)]
-pub struct FullQueue;
+pub struct FullQueue<T, P: Drop> {
+    plan: P,
+    of: PhantomData<T>,
+}
 
 /// The one seat of a queue with no room. It may push and pop.
 #[derive(Drop)]
@@ -14,24 +20,52 @@ pub struct FullSeat {
     empties: u64,
 }
 
-impl FullQueue {
+/// The plan of a queue that is in nobody's way.
+#[derive(Drop)]
+pub struct NeverBusy;
+
+impl Plan for NeverBusy {
+    fn push_refusal(&self, _turns: u32) -> Option<Refusal> {
+        None
+    }
+
+    fn pop_refusal(&self, _turns: u32) -> Option<Refusal> {
+        None
+    }
+
+    fn finds_empty(&self) {}
+}
+
+impl<T, P: Plan + Drop> FullQueue<T, P> {
     ghost use Rattle.mock_queues.specs.Full.{IsFullSeat};
 
-    /// A queue with no room, with its seat. Takes no memory.
-    pub fn new() -> (FullQueue, FullSeat)
+    /// A queue with no room, whose pushes go by this plan, with its seat. Takes no memory.
+    pub fn new(plan: P) -> (FullQueue<T, P>, FullSeat)
         ensures { IsFullSeat result.0 result.1 }
     {
-        (FullQueue, FullSeat { empties: 0 })
+        (
+            FullQueue {
+                plan,
+                of: PhantomData,
+            },
+            FullSeat { empties: 0 },
+        )
     }
 }
 
-impl Fifo for FullQueue {
-    ghost use Rattle.std.specs.Prelude.{◌≡◌};
+/// A queue of numbers with no room, with its seat. Takes no memory.
+pub fn full_of_numbers() -> (Bodies<FullQueue<Body, NeverBusy>>, FullSeat) {
+    let (queue, seat) = FullQueue::new(NeverBusy);
+    (Bodies::new(queue), seat)
+}
+
+impl<T, P: Plan + Drop> Carrier for FullQueue<T, P> {
     ghost use Rattle.std.specs.Coded.{Unit-prop};
-    ghost use Rattle.history.specs.declared.refusals.Refusal.TheVariants.{NoNode, WornOut, Busy};
+    ghost use Rattle.history.specs.declared.refusals.Refusal.TheVariants.{WornOut, Busy};
     ghost use Rattle.history.specs.declared.refusals.WornWord.TheVariants.{Tail};
-    ghost use Rattle.mock_queues.specs.Permits.{one_permit};
-    ghost use Rattle.mock_queues.specs.Full.{IsFullSeat, knows_empties, empties_are_sound, closed_never};
+    ghost use Rattle.mock_queues.specs.Full.{one_permit, IsFullSeat, IsFullOrBusy, knows_empties, empties_are_sound, closed_never};
+
+    type Item = T;
 
     type Seat = FullSeat;
 
@@ -41,7 +75,7 @@ impl Fifo for FullQueue {
 
     ghost known = { knows_empties };
 
-    ghost push_cause = { λ _ _ _ _ refusal. refusal ≡ NoNode };
+    ghost push_cause = { λ _ _ _ _ refusal. IsFullOrBusy refusal };
 
     ghost pop_cause = { λ _ _ _ _ refusal. refusal ≡ Busy };
 
@@ -53,11 +87,15 @@ impl Fifo for FullQueue {
 
     ghost seat_prop = { λ _ _. Unit-prop };
 
-    fn try_push(&self, _seat: &mut FullSeat, _body: Body, _turns: u32) -> Result<(), Refusal> {
-        Err(Refusal::NoNode)
+    fn try_push(&self, _seat: &mut FullSeat, value: T, turns: u32) -> Result<(), Unpushed<T>> {
+        let refusal = match self.plan.push_refusal(turns) {
+            Some(Refusal::Busy) => Refusal::Busy,
+            _ => Refusal::NoNode,
+        };
+        Err(Unpushed { refusal, value })
     }
 
-    fn try_pop(&self, seat: &mut FullSeat, _turns: u32) -> Result<Option<Taken>, Refusal> {
+    fn try_pop(&self, seat: &mut FullSeat, _turns: u32) -> Result<Option<ItemOf<T>>, Refusal> {
         if seat.empties == u64::MAX {
             return Err(Refusal::Busy);
         }
@@ -77,33 +115,5 @@ impl Fifo for FullQueue {
 
     fn may_pop(&self, _seat: &FullSeat) -> bool {
         true
-    }
-}
-
-impl Close for FullQueue {
-    ghost use Rattle.std.specs.Prelude.{◌≡◌, [], map};
-    ghost use Rattle.history.specs.Ends.{Closes};
-    ghost use Rattle.mock_queues.specs.Permits.{one_permit};
-    ghost use Rattle.mock_queues.specs.Full.{knows_empties, LeavesNone};
-
-    type End = ();
-
-    ghost ends = { λ _ _ rest. LeavesNone rest };
-
-    ghost asks = { λ _ _. Unit {0} };
-
-    ghost has_room = { λ _ room. room.items ≡ [] };
-
-    fn room(&self, alloc: Global) -> Result<Vec<Taken>, Refusal> {
-        Ok(Vec::new(alloc))
-    }
-
-    fn close_with(self, room: Vec<Taken>, seats: Vec<FullSeat>) -> (Rest, ())
-        requires { room.items ≡ [] }
-        ensures rest { Closes one_permit (map knows_empties seats.items) result.0 }
-        ensures ends { LeavesNone result.0 }
-    {
-        drop(seats);
-        (Rest::of(room, 0, true, false), ())
     }
 }

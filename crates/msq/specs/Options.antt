@@ -40,24 +40,24 @@ has_colours options is_usual = if options.is_page then false else colours_at opt
 
 -- known bytes were the text of a history, if the options say so, or else of a schedule, or of a recipe, which it is taken for; its page in its frame was written, or its
 -- timeline or its picture of the view that they ask for, or what is found of a recorded history, if they say so. A page, or a picture
--- of what is found, tells of a search of at most a million steps
+-- of what is found, tells of a search whose states take at most 1 GiB
 pub record Draws (options : ShowOptions) (frames : Frames) (meanings : List Meaning) (is_recipe : Bool) (given : Option (List ℕ)) (old new : SinkState) : Type 0 where
   pub view : View
   pub asked : IsViewOf options meanings view
   pub timeline : options.is_history ≡ true → options.is_page ≡ false → options.draws_reason ≡ false → WritesTimeline view given old new
-  pub history_page : options.is_history ≡ true → options.is_page ≡ true → WritesHistoryPage frames.history given 1000000 old new
+  pub history_page : options.is_history ≡ true → options.is_page ≡ true → WritesHistoryPage frames.history given 1073741824 old new
   pub page : options.is_history ≡ false → options.is_page ≡ true → is_recipe ≡ false → WritesPage frames.run given old new
   pub recipe_page : options.is_history ≡ false → options.is_page ≡ true → is_recipe ≡ true → WritesRecipePage frames.run given old new
   pub picture : options.is_history ≡ false → options.is_page ≡ false → options.draws_reason ≡ false → is_recipe ≡ false → WritesPicture view given old new
   pub recipe : options.is_history ≡ false → options.is_page ≡ false → options.draws_reason ≡ false → is_recipe ≡ true → WritesOf (the_picture view) given old new
-  pub found : options.draws_reason ≡ true → options.is_page ≡ false → DrawsFound view given 1000000 old new
+  pub found : options.draws_reason ≡ true → options.is_page ≡ false → DrawsFound view given 1073741824 old new
 
 -- the texts that are held, where some are
 abbrev pub held_texts : Option (Bor (List (Bor (List ℕ)))) → Option (List (List ℕ))
 held_texts held = option_map (λ held. map bytes_of held.now) held
 
--- what is told of known bytes by a search of at most so many steps: of a history or a recording, or, where the queue holds texts at
+-- what is told of known bytes by a search whose states take at most so many bytes: of a history or a recording, or, where the queue holds texts at
 -- the start, of a recording of such a queue
-abbrev pub PlacesBy : Option (List (List ℕ)) → (given : Option (List ℕ)) → (steps : ℕ) → (why : Bool) → (old new : SinkState) → Placed → Type 0
-PlacesBy None given steps why old new answer = TellsPlaces given steps why old new answer
-PlacesBy (Some held) given steps why old new answer = TellsHolding held given steps why old new answer
+abbrev pub PlacesBy : Option (List (List ℕ)) → (given : Option (List ℕ)) → (room : ℕ) → (why : Bool) → (old new : SinkState) → Placed → Type 0
+PlacesBy None given room why old new answer = TellsPlaces given room why old new answer
+PlacesBy (Some held) given room why old new answer = TellsHolding held given room why old new answer

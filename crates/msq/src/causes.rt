@@ -1,11 +1,11 @@
 //! What is told behind the line of a fault: where it is, what is there, what is due, and what to do.
 ghost use Rattle.msq.specs.Causes.{IsNumberOf};
 
-use crate::finds::{tell_count, tell_number, tell_span, tell_word};
+use crate::finds::{tell_count, tell_number, tell_queue, tell_span, tell_word};
 use crate::forms::due_at;
 use crate::notes::Notes;
-use crate::stands::{header_line, spoken, tell_stand};
-use crate::starts::RECIPE_START;
+use crate::stands::{header_line, tell_stand};
+use crate::starts::{is_recipe, spoken};
 use command_line::{Command, Task};
 use engine_faults::{ENTRIES, Fault, entry_named};
 use history::{Refusal, TextCause};
@@ -82,21 +82,16 @@ fn tell_in_schedule<R: Runtime>(
     number: u64,
     cause: TextCause,
 ) -> io::Result<bool> {
-    let said = if text.starts_with(RECIPE_START) {
-        spoken(line)
-    } else {
-        line
-    };
     let events = header_line(text, b"events");
-    let last = if text.starts_with(RECIPE_START) {
-        header_line(text, b"actors")
+    let (said, last) = if is_recipe(text) {
+        (spoken(line), header_line(text, b"actors"))
     } else {
-        events
+        (line, events)
     };
     match cause {
         TextCause::Form => match last {
             Some((header, _)) if header < number => tell_word(rt, text, said),
-            _ => Ok(false),
+            _ => tell_queue(rt, said),
         },
         TextCause::Range => tell_number(rt, said),
         TextCause::Extra => tell_count(rt, events, number, true),

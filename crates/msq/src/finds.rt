@@ -1,10 +1,9 @@
 //! What a line of a schedule or a recipe has that isn't due: the word at which it leaves the form that it follows furthest, or the
 //! number that is out of its range.
-use crate::starts::RECIPE_START;
+use crate::starts::{first_word, is_recipe};
 use line_table::Line;
 use std::io;
 use std::rt::Runtime;
-use text_io::split_once;
 
 /// The forms of events in version 1, then that of version 2, and then those that a recipe has besides. A stands for an actor's number,
 /// B, K and N for numbers, L for a line.
@@ -26,20 +25,10 @@ const FORMS: [&str; 10] = [
 struct Along<'a> {
     /// How many of its words are as the form has them.
     words: usize,
-    /// How many bytes these take, with the spaces behind them.
-    bytes: usize,
-    /// The next word, or nothing.
-    next: &'a [u8],
-    /// What the form has behind these words.
+    /// What the line has behind these.
+    rest: &'a [u8],
+    /// What the form has behind them.
     due: &'static [u8],
-}
-
-/// The first word, and what follows its space.
-fn first_word(words: &[u8]) -> (&[u8], &[u8]) {
-    match split_once(words, b' ') {
-        Some((first, rest)) => (first, rest),
-        None => (words, b""),
-    }
 }
 
 /// Whether a word is decimal digits.
@@ -64,7 +53,7 @@ fn fits(form: &[u8], word: &[u8]) -> bool {
 /// How far a line goes along a form.
 fn compared<'a>(form: &'static str, said: &'a [u8]) -> Along<'a> {
     let mut due = form.as_bytes();
-    let mut rest = said;
+    let mut rest = said.trim_ascii_start();
     let mut words = 0_usize;
     for _ in 0..said.len() {
         let (wanted, later) = first_word(due);
@@ -76,18 +65,12 @@ fn compared<'a>(form: &'static str, said: &'a [u8]) -> Along<'a> {
         due = later;
         rest = behind;
     }
-    let (next, _) = first_word(rest);
-    Along {
-        words,
-        bytes: said.len().saturating_sub(rest.len()),
-        next,
-        due,
-    }
+    Along { words, rest, due }
 }
 
 /// How many of the forms a text has.
 fn forms_of(text: &[u8]) -> usize {
-    if text.starts_with(RECIPE_START) {
+    if is_recipe(text) {
         10
     } else if text.starts_with(b"msq schedule 2\n") {
         6
@@ -96,8 +79,35 @@ fn forms_of(text: &[u8]) -> usize {
     }
 }
 
+/// The column of what is left of a line.
+fn column_of(said: &[u8], rest: &[u8]) -> usize {
+    said.len().saturating_sub(rest.len()).saturating_add(1)
+}
+
+/// The column of the first space, tab or carriage return of a line that isn't one space between two words.
+fn stray_space(line: &[u8]) -> Option<usize> {
+    let mut is_apart = true;
+    for (at, byte) in line.iter().enumerate() {
+        let is_last = at.saturating_add(1) == line.len();
+        match byte {
+            b'\t' | b'\r' => return Some(at.saturating_add(1)),
+            b' ' if is_apart || is_last => return Some(at.saturating_add(1)),
+            b' ' => is_apart = true,
+            _ => is_apart = false,
+        }
+    }
+    None
+}
+
 /// Tells the word at which a line of events leaves the form that it follows furthest, and what is due there; whether it was told.
 pub(crate) fn tell_word<R: Runtime>(rt: &R, text: &[u8], said: &[u8]) -> io::Result<bool> {
+    if !is_recipe(text)
+        && let Some(column) = stray_space(said)
+    {
+        eprint!(rt; "  found: a space too many, or a tab or a carriage return, column {column}\n")?;
+        eprint!(rt; "  due: one space between two words, and no other\n")?;
+        return Ok(true);
+    }
     let count = forms_of(text);
     let mut best = compared("end", b"");
     for (index, form) in FORMS.iter().enumerate() {
@@ -109,34 +119,72 @@ pub(crate) fn tell_word<R: Runtime>(rt: &R, text: &[u8], said: &[u8]) -> io::Res
     if best.words == 0 {
         return Ok(false);
     }
-    let column = best.bytes.saturating_add(1);
-    if best.next.is_empty() {
-        eprint!(rt; "  found: the line ends in column {column}\n  due: ")?;
+    let column = column_of(said, best.rest);
+    if best.rest.is_empty() {
+        eprint!(rt; "  found: the line ends in column {column}\n")?;
     } else {
-        let next = best.next.escape_ascii();
-        eprint!(rt; "  found: '{next}', column {column}\n  due: ")?;
+        let (next, _) = first_word(best.rest);
+        eprint!(rt; "  found: '{}', column {column}\n", next.escape_ascii())?;
     }
-    let mut is_first = true;
-    for (index, form) in FORMS.iter().enumerate() {
-        let one = compared(*form, said);
-        if index < count && one.words == best.words {
-            if !is_first {
-                eprint!(rt; " or ")?;
-            }
-            is_first = false;
-            tell_due(rt, one.due)?;
-        }
-    }
-    eprint!(rt; "\n")?;
+    tell_due(rt, said, count, best.words)?;
     Ok(true)
 }
 
+/// Tells what is due behind so many words of a line, by the first so many forms.
+fn tell_due<R: Runtime>(rt: &R, said: &[u8], count: usize, words: usize) -> io::Result<()> {
+    let mut left = 0_usize;
+    for (index, form) in FORMS.iter().enumerate() {
+        if index < count && compared(*form, said).words == words {
+            left = left.saturating_add(1);
+        }
+    }
+    let most = left;
+    for (index, form) in FORMS.iter().enumerate() {
+        let one = compared(*form, said);
+        if index < count && one.words == words {
+            tell_between(rt, left, most)?;
+            tell_rest(rt, one.due)?;
+            left = left.saturating_sub(1);
+        }
+    }
+    eprint!(rt; "\n")
+}
+
+/// Tells what stands before what is due by a form, where so many forms are left of these.
+fn tell_between<R: Runtime>(rt: &R, left: usize, most: usize) -> io::Result<()> {
+    if left == most {
+        eprint!(rt; "  due: ")
+    } else if left > 1 {
+        eprint!(rt; ", ")
+    } else {
+        eprint!(rt; " or ")
+    }
+}
+
 /// Tells what is due of a form.
-fn tell_due<R: Runtime>(rt: &R, due: &[u8]) -> io::Result<()> {
+fn tell_rest<R: Runtime>(rt: &R, due: &[u8]) -> io::Result<()> {
     if due.is_empty() {
         return eprint!(rt; "'the end of the line'");
     }
     eprint!(rt; "'{}'", due.escape_ascii())
+}
+
+/// Tells the kind of queue that a line may mean, where it says another word for it; whether it was told.
+pub(crate) fn tell_queue<R: Runtime>(rt: &R, said: &[u8]) -> io::Result<bool> {
+    let (first, rest) = first_word(said);
+    if first != b"queue".as_slice() {
+        return Ok(false);
+    }
+    let (kind, _) = first_word(rest);
+    let meant = match kind {
+        b"non-blocking" | b"non_blocking" | b"lock-free" | b"lockfree" => "nonblocking",
+        b"twolock" | b"two_lock" | b"two-locks" | b"locked" => "two-lock",
+        _ => return Ok(false),
+    };
+    let column = column_of(said, rest);
+    eprint!(rt; "  found: '{}', column {column}\n", kind.escape_ascii())?;
+    eprint!(rt; "  due: 'two-lock' or 'nonblocking'; did you mean '{meant}'?\n")?;
+    Ok(true)
 }
 
 /// The least and the greatest number that may stand in a line of this first word behind so many words.
@@ -180,7 +228,7 @@ pub(crate) fn tell_number<R: Runtime>(rt: &R, said: &[u8]) -> io::Result<bool> {
         if let Some((least, most)) = range_of(first, words)
             && is_number(word)
         {
-            let column = said.len().saturating_sub(rest.len()).saturating_add(1);
+            let column = column_of(said, rest);
             let number = word.escape_ascii();
             if is_less(word, least.as_bytes()) {
                 eprint!(rt; "  found: {number}, column {column}, is below {least}\n")?;
@@ -197,27 +245,31 @@ pub(crate) fn tell_number<R: Runtime>(rt: &R, said: &[u8]) -> io::Result<bool> {
     Ok(false)
 }
 
-/// Tells that a call ends sooner than it begins, where a line says that; whether it was told.
+/// Tells that a call ends sooner than it begins, or that one of its numbers is below 1, where a line says that; whether it was told.
 pub(crate) fn tell_span<R: Runtime>(rt: &R, said: &[u8]) -> io::Result<bool> {
     let mut rest = said;
+    let mut begun: &[u8] = b"";
     for _ in 0..said.len() {
         if rest.is_empty() {
             break;
         }
         let (word, later) = first_word(rest);
-        let (from, behind) = first_word(later);
-        let (between, last) = first_word(behind);
-        let (to, _) = first_word(last);
-        if word == b"from".as_slice()
-            && between == b"to".as_slice()
-            && is_number(from)
-            && is_less(to, from)
-        {
-            let (from, to) = (from.escape_ascii(), to.escape_ascii());
+        let (number, _) = first_word(later);
+        let is_span = word == b"from".as_slice() || word == b"to".as_slice();
+        if is_span && number == b"0".as_slice() {
+            let column = column_of(said, later);
+            eprint!(rt; "  found: 0, column {column}, is below 1\n")?;
+            return Ok(true);
+        }
+        if word == b"to".as_slice() && is_number(number) && is_less(number, begun) {
+            let (from, to) = (begun.escape_ascii(), number.escape_ascii());
             eprint!(rt;
                 "  found: 'to {to}' is below 'from {from}': a call ends no sooner than it begins\n"
             )?;
             return Ok(true);
+        }
+        if word == b"from".as_slice() {
+            begun = number;
         }
         rest = later;
     }

@@ -1,5 +1,5 @@
 //! What a text has at a line by its grammar, in words.
-use crate::starts::RECIPE_START;
+use crate::starts::{first_word, is_recipe, spoken};
 use command_line::{Command, Task};
 
 /// The lines that a schedule of version 1 begins with.
@@ -37,7 +37,7 @@ const SECOND_EVENT: &str =
 const RECIPE: [&str; 6] = [
     "'msq schedule 3'",
     "'queue two-lock' or 'queue nonblocking'",
-    "'bits D', D from 16 to 32",
+    "'bits D', D from 16 to 32; or without it 'nodes N', N from 2 to 16777214",
     "'nodes N', N from 2 to 2^D - 2",
     "'limit C', C from 1 to 2^(64 - D) - 1",
     "'actors K', K from 1 to 65535",
@@ -61,7 +61,7 @@ pub(crate) fn due_at(command: &Command, text: &[u8], line: u64) -> &'static str 
         Task::Work(_) => jobs(line),
         Task::Post(_) => mail(line),
         Task::Expand => recipe(text, line),
-        _ if text.starts_with(RECIPE_START) => recipe(text, line),
+        _ if is_recipe(text) => recipe(text, line),
         _ if text.starts_with(b"msq schedule 2\n") => schedule(&SECOND, SECOND_EVENT, line),
         _ => schedule(&FIRST, FIRST_EVENT, line),
     }
@@ -75,7 +75,7 @@ fn schedule(header: &[&'static str], event: &'static str, line: u64) -> &'static
     }
 }
 
-/// That of a recipe: the first line as it stands, and then by how many lines before this one say something.
+/// That of a recipe, by how many lines before this one say something; where none says the bits, the nodes are in their place.
 fn recipe(text: &[u8], line: u64) -> &'static str {
     let mut said = 0_u64;
     let mut number = 1_u64;
@@ -84,7 +84,11 @@ fn recipe(text: &[u8], line: u64) -> &'static str {
             break;
         }
         number = number.saturating_add(1);
-        if !(one.is_empty() || one.starts_with(b"#") || one.starts_with(b" #")) {
+        let (first, _) = first_word(spoken(one));
+        if said == 2 && first == b"nodes".as_slice() {
+            said = 3;
+        }
+        if !first.is_empty() {
             said = said.saturating_add(1);
         }
     }

@@ -28,9 +28,9 @@ use std::sync::Wait;
 use std::thread::Threads;
 use text_io::{Sink, Source};
 
-/// How many steps a search for an order takes at most, of which a page or a picture tells: as many as where the words of `place`
-/// don't say it.
-const PAGE_STEPS: u64 = 1_000_000;
+/// How many bytes the states of a search for an order take at most, of which a page or a picture tells: as many as where the words of
+/// `place` don't say it.
+const PAGE_ROOM: u64 = 1_073_741_824;
 
 /// What pages have around what they show.
 #[derive(Clone, Copy)]
@@ -77,7 +77,7 @@ pub(crate) fn show_by<'a, S: Source, W: Sink>(
         return page_by(alloc, options, frames, is_recipe, reader, writer);
     }
     if options.draws_reason {
-        show_found(alloc, reader, writer, view, PAGE_STEPS)?;
+        show_found(alloc, reader, writer, view, PAGE_ROOM)?;
         return Ok(());
     }
     if options.is_history {
@@ -105,10 +105,10 @@ fn page_by<S: Source, W: Sink>(
         (WritesRecipePage frames.now.run (S.state reader.old).left (W.state writer.old)
         (W.state writer.new)) }
     ensures history { options.is_history ≡ true → OnOk result (WritesHistoryPage frames.now.history
-        (S.state reader.old).left PAGE_STEPS (W.state writer.old) (W.state writer.new)) }
+        (S.state reader.old).left PAGE_ROOM (W.state writer.old) (W.state writer.new)) }
 {
     if options.is_history {
-        history_page(alloc, reader, writer, &frames.history, PAGE_STEPS)?;
+        history_page(alloc, reader, writer, &frames.history, PAGE_ROOM)?;
         return Ok(());
     }
     if is_recipe {
@@ -127,16 +127,16 @@ pub(crate) fn place_by<S: Source, W: Sink>(
     writer: &mut W,
 ) -> Result<Told, Refusal>
     requires { IfSome held (λ held. AreHeld (map bytes_of held.now)) }
-    //= program/place_options: At Ok `place_by`, which `msq place` calls, has searched by the steps that its options ask for, if
+    //= program/place_options: At Ok `place_by`, which `msq place` calls, has searched within the room that its options ask for, if
     //=   its answer is open, and has written the lines of a reason's operations exactly where they ask for these. What the queue
     //=   holds at the start is what it is given.
     ensures { IfOk result (λ told. PlacesBy (held_texts held.entry) (S.state reader.old).left
-        options.steps options.tells_why (W.state writer.old) (W.state writer.new) told.found) }
+        options.room options.tells_why (W.state writer.old) (W.state writer.new) told.found) }
 {
-    let steps = u64::from(options.steps);
+    let room = u64::from(options.room);
     match held {
-        Some(held) => place_holding(alloc, reader, writer, steps, options.tells_why, held),
-        None => place_text(alloc, reader, writer, steps, options.tells_why),
+        Some(held) => place_holding(alloc, reader, writer, room, options.tells_why, held),
+        None => place_text(alloc, reader, writer, room, options.tells_why),
     }
 }
 

@@ -4,7 +4,7 @@ use crate::held::{Done, faulty_list, placed, warn};
 use crate::notes::{Kept, NotedSink, NotedSource, Notes};
 use crate::options::{Frames, show_by, show_coloured, wants_colours, work_by};
 use crate::progress::Progress;
-use crate::starts::{RECIPE_START, read_start, takes_recipes};
+use crate::starts::{is_recipe, read_start, takes_recipes};
 use command_line::{Command, Task, read_words};
 use engine_faults::{ENTRIES, Ending, Fault, end_of, explain};
 use expand_engine::{expand_text, run_recipe, trace_recipe};
@@ -174,7 +174,7 @@ fn looked_at<R: Runtime + AllocGlobal + Threads + Wait + Sync, F: Read + Drop>(
         }
     }
     let manner = Manner {
-        is_recipe: start.as_slice() == RECIPE_START.as_slice(),
+        is_recipe: is_recipe(&start),
         ..manner
     };
     let source = ReaderSource::new(io::Cursor::new(start).chain(reader));

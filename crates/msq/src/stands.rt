@@ -1,13 +1,13 @@
 //! Where an actor stands whose event or act is refused, in words.
 use crate::notes::Notes;
-use crate::starts::RECIPE_START;
+use crate::starts::{first_word, is_recipe, spoken};
 use expand_engine::trace_recipe;
 use history::Refusal;
 use run_engine::trace_text;
 use std::alloc::Global;
 use std::io;
 use std::rt::Runtime;
-use text_io::{ReaderSource, Sink, line_at, split_once};
+use text_io::{LineBuffer, ReaderSource, Sink, line_at, split_once};
 
 /// How many of the last bytes of a trace are kept at least: those of where 65,535 actors stand are fewer.
 const MOST_TOLD: usize = 4_194_304;
@@ -53,6 +53,30 @@ impl Tail {
         }
         found
     }
+
+    /// The last reply that is told.
+    fn last_reply(&self) -> Option<&[u8]> {
+        let mut found = None;
+        let mut rest = self.bytes.as_slice();
+        for _ in 0..self.bytes.len() {
+            let Some((line, later)) = line_at(rest) else {
+                break;
+            };
+            let mut words = line;
+            for _ in 0..line.len() {
+                if words.is_empty() {
+                    break;
+                }
+                let (word, behind) = first_word(words);
+                if word == b"reply".as_slice() {
+                    found = Some(behind);
+                }
+                words = behind;
+            }
+            rest = later;
+        }
+        found
+    }
 }
 
 impl Sink for Tail {
@@ -74,7 +98,7 @@ fn trace_of(alloc: Global, text: &[u8]) -> Tail {
     };
     let mut reader = ReaderSource::new(io::Cursor::new(text));
     // What it is refused is known.
-    let _ = if text.starts_with(RECIPE_START) {
+    let _ = if is_recipe(text) {
         trace_recipe(alloc, &mut reader, &mut tail)
     } else {
         trace_text(alloc, &mut reader, &mut tail)
@@ -82,20 +106,53 @@ fn trace_of(alloc: Global, text: &[u8]) -> Tail {
     tail
 }
 
-/// What a line says before its comment, less the spaces around it.
-pub(crate) fn spoken(line: &[u8]) -> &[u8] {
-    let said = match split_once(line, b'#') {
-        Some((said, _)) => said,
-        None => line,
-    };
-    said.trim_ascii()
+/// Puts pieces behind bytes; whether there is memory for them.
+fn put_all(bytes: &mut Vec<u8>, pieces: &[&[u8]]) -> bool {
+    for piece in pieces {
+        if bytes.extend_from_slice(*piece).is_err() {
+            return false;
+        }
+    }
+    true
 }
 
-/// The first word, and the others.
-fn first_word(words: &[u8]) -> (&[u8], &[u8]) {
-    match split_once(words, b' ') {
-        Some((first, rest)) => (first, rest.trim_ascii()),
-        None => (words, b""),
+/// The lines of a text before this one, with as many events as there are up to this one; none where memory is refused, or a repeat
+/// goes on there.
+fn lines_before(alloc: Global, text: &[u8], line: u64) -> Option<Vec<u8>> {
+    let mut lines = Vec::new(alloc);
+    let mut rest = text;
+    let mut number = 1_u64;
+    let mut is_repeated = false;
+    for _ in 1..line {
+        let Some((said, later)) = line_at(rest) else {
+            break;
+        };
+        let (first, _) = first_word(spoken(said));
+        let is_put = if first == b"events".as_slice() {
+            let mut count = LineBuffer::new();
+            count.push_number(line.saturating_sub(number));
+            put_all(&mut lines, &[b"events ", count.as_slice(), b"\n"])
+        } else {
+            put_all(&mut lines, &[said, b"\n"])
+        };
+        if !is_put {
+            return None;
+        }
+        is_repeated = first == b"repeat".as_slice() || is_repeated && first != b"end".as_slice();
+        rest = later;
+        number = number.saturating_add(1);
+    }
+    if is_repeated { None } else { Some(lines) }
+}
+
+/// The end of the trace of a text up to this line, with so many steps of an actor there, if it can be told.
+fn trace_with(alloc: Global, text: &[u8], line: u64, actor: &[u8], steps: &[u8]) -> Option<Tail> {
+    let mut cut = lines_before(alloc, text, line)?;
+    let last: &[u8] = if is_recipe(text) { b"end\n" } else { b"" };
+    if put_all(&mut cut, &[b"steps ", actor, b" ", steps, b"\n", last]) {
+        Some(trace_of(alloc, &cut))
+    } else {
+        None
     }
 }
 
@@ -142,6 +199,19 @@ pub(crate) fn header_line<'a>(text: &'a [u8], name: &[u8]) -> Option<(u64, &'a [
     None
 }
 
+/// Tells which actors there are.
+fn tell_actors<R: Runtime>(rt: &R, text: &[u8], actor: &[u8]) -> io::Result<()> {
+    match header_line(text, b"actors") {
+        Some((number, count)) => eprint!(rt;
+            "  found: actor {}; line {number} says 'actors {}'\n  due: an actor from 1 to {}\n",
+            actor.escape_ascii(),
+            count.escape_ascii(),
+            count.escape_ascii()
+        ),
+        None => Ok(()),
+    }
+}
+
 /// Tells where the actor stands whose event on this line is refused, and what would be right.
 pub(crate) fn tell_stand<R: Runtime + AllocGlobal>(
     rt: &R,
@@ -156,18 +226,19 @@ pub(crate) fn tell_stand<R: Runtime + AllocGlobal>(
     let (verb, behind) = first_word(spoken(says));
     let (actor, named) = first_word(behind);
     if refusal == Refusal::NoSuchActor {
-        return match header_line(text, b"actors") {
-            Some((number, count)) => eprint!(rt;
-                "  found: actor {}; line {number} says 'actors {}'\n  due: an actor from 1 to {}\n",
-                actor.escape_ascii(),
-                count.escape_ascii(),
-                count.escape_ascii()
-            ),
-            None => Ok(()),
-        };
+        return tell_actors(rt, text, actor);
     }
     let tail = trace_of(rt.alloc(), text);
     let begun = last_line(text, line, b"begin", actor);
+    let alone = tail.told(actor, b"alone");
+    let ended = match (refusal, alone) {
+        (Refusal::IdleActor, Some(steps)) => trace_with(rt.alloc(), text, line, actor, steps),
+        _ => None,
+    };
+    let reply = match &ended {
+        Some(tail) => tail.last_reply(),
+        None => None,
+    };
     match tail.told(actor, b"at") {
         Some(stand) => {
             let (at, touched) = first_word(stand);
@@ -182,10 +253,10 @@ pub(crate) fn tell_stand<R: Runtime + AllocGlobal>(
                 word,
                 node,
                 holds,
-                alone: tail.told(actor, b"alone"),
+                alone,
                 begun,
             };
-            told.tell(rt, refusal)
+            told.tell(rt, refusal, reply)
         }
         None => tell_idle(rt, refusal, actor, begun),
     }
@@ -237,8 +308,8 @@ struct Stand<'a> {
 }
 
 impl Stand<'_> {
-    /// Tells what was found, and what would be right.
-    fn tell<R: Runtime>(&self, rt: &R, refusal: Refusal) -> io::Result<()> {
+    /// Tells what was found, and what would be right; of a call that ends within some steps, what it answers, where that is known.
+    fn tell<R: Runtime>(&self, rt: &R, refusal: Refusal, reply: Option<&[u8]>) -> io::Result<()> {
         let actor = self.actor.escape_ascii();
         let line = self.line.escape_ascii();
         match refusal {
@@ -259,9 +330,12 @@ impl Stand<'_> {
                 );
                 let alone = alone.escape_ascii();
                 eprint!(rt;
-                    "  found: the call of actor {actor} ends after {alone} of these {named} steps\n"
+                    "  found: the call of actor {actor} ends after {alone} of these {named} steps"
                 )?;
-                eprint!(rt; "  due: 'steps {actor} {alone}', or 'finish {actor}' in a recipe\n")
+                if let Some(reply) = reply {
+                    eprint!(rt; ", with {}", reply.escape_ascii())?;
+                }
+                eprint!(rt; "\n  due: 'steps {actor} {alone}', or 'finish {actor}' in a recipe\n")
             }
             _ => self.tell_elsewhere(rt),
         }

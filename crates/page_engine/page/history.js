@@ -19,8 +19,8 @@ const causes = {
   Twice: "the queue is shut a second time.",
   Unshut: "it was told that the queue is shut, and by its end no shut had begun.",
   Undrained: "it was told that the queue is shut and empty, and a value is there until it ends.",
-  Steps: "the search for an order used up its steps.",
-  Searched: "the search for an order found none, which is no reason.",
+  Stuck: "no order of these operations gives each what it was told.",
+  Room: "the states of the search for an order took more room than they may.",
   Unplaced: "the order that was found got no points.",
 };
 

@@ -17,7 +17,7 @@ const fault = behind.map((line) => /^fault (\d+) (\w+) line (\d+)$/.exec(line)).
 
 // A line of the given text. Bytes that a browser could take for something else are written by their numbers; what isn't UTF-8 stays so.
 function plain(text) {
-  return text.replace(/(?:%[0-9A-F]{2})+/g, (bytes) => {
+  return text.replace(/%[0-7][0-9A-F]|(?:%[89A-F][0-9A-F])+/g, (bytes) => {
     try {
       return decodeURIComponent(bytes);
     } catch {
@@ -25,6 +25,9 @@ function plain(text) {
     }
   });
 }
+
+// What a line says before its comment: its words, one space between two.
+const wordsOf = (line) => line.split("#")[0].trim().split(/\s+/).join(" ");
 
 // The begins, by the number of steps before them, and the notes: a comment on lines of its own goes with the acts after it, up to the
 // next empty line; one behind an act goes with the steps of that act; the first one is the title.
@@ -38,22 +41,22 @@ class Notes {
     this.before = [];
     this.waiting = [];
     this.isOpen = this.hasActs = this.isDone = false;
-    this.isRecipe = lines[0].startsWith("msq schedule 3");
+    this.isRecipe = wordsOf(lines[0]) === "msq schedule 3";
     this.calls = new Set();
     this.walk(lines.map((line, index) => [line, index + 1]));
   }
 
   walk(lines) {
     for (let index = 0; index < lines.length && !this.isDone; index += 1) {
-      const [line, number] = lines[index], hash = line.indexOf("#"), text = (hash < 0 ? line : line.slice(0, hash)).trim();
+      const [line, number] = lines[index], hash = line.indexOf("#"), text = wordsOf(line);
       const note = hash < 0 ? "" : line.slice(hash + 1).trim();
       if (!text) this.comment(note, hash < 0);
-      else if (/^repeat\s/.test(text)) {
-        const length = lines.slice(index + 1).findIndex(([other]) => other.split("#")[0].trim() === "end");
-        const inside = lines.slice(index + 1, index + 1 + length);
-        for (let turn = 0; turn < Number(text.split(/\s+/)[1]) && !this.isDone && inside.length; turn += 1) this.walk(inside);
+      else if (text.startsWith("repeat ")) {
+        const length = lines.slice(index + 1).findIndex(([other]) => wordsOf(other) === "end");
+        const inside = lines.slice(index + 1, index + 1 + length), times = inside.some(([other]) => wordsOf(other)) ? Number(text.split(" ")[1]) : 1;
+        for (let turn = 0; turn < times && !this.isDone; turn += 1) this.walk(inside);
         index += length + 1;
-      } else if (/^(begin|steps?|give|until|finish)\s/.test(text)) this.act(text.split(/\s+/), number, note);
+      } else if (/^(begin|steps?|give|until|finish) /.test(text)) this.act(text.split(" "), number, note);
       else this.isOpen = false;
     }
   }

@@ -1,9 +1,8 @@
 -- What is known of what was given.
-use Rattle.std.proofs.Common.{◌≡◌, ◌∙◌, ℕ, ◌≤◌, List, Option, Some, None, sym, ap, subst}
+use Rattle.std.proofs.Common.{◌≡◌, ◌∙◌, ℕ, List, Option, Some, None, sym, ap, subst, arith}
 use Rattle.std.specs.Prelude.{IfSome, option_map}
-use Rattle.engine_faults.specs.Faults.{IsEventRefusal}
 use Rattle.engine_faults.specs.declared.faults.Fault.{Fault}
-use Rattle.expand_engine.specs.Expansions.{EndsAs, StandsFor}
+use Rattle.expand_engine.specs.Expansions.{EndsAs, IsActFault, StandsFor}
 use Rattle.expand_engine.specs.Recipes.{IsRecipe}
 use Rattle.expand_engine.specs.declared.acts.Stop.{Stop as ActStop}
 use Rattle.expand_engine.specs.declared.expansions.Expansion.{Expansion}
@@ -25,9 +24,9 @@ counted_as s counted None ends = ends.whole
 counted_as s counted (Some stop) ends = ends.refusal
 
 -- at an event, in its line
-counted_at : (s : Schedule) (counted : RunExtent) (o : Option Stop) → EndsAsCounted s counted (ended_at o) → IfSome o (λ stop. IsEventRefusal stop.refusal × (7 ≤ stop.line))
+counted_at : (s : Schedule) (counted : RunExtent) (o : Option Stop) → EndsAsCounted s counted (ended_at o) → IfSome o (λ stop. IsActFault stop.refusal stop.line)
 counted_at s counted None ends = tt
-counted_at s counted (Some stop) ends = ends.kind
+counted_at s counted (Some stop) ends = (ends.kind.0, omega (arith, ends.kind.1))
 
 -- the text of a schedule was given
 pub one_schedule : (given : Given) → IsInRange given.schedule → given.text.items ≡ schedule_text given.schedule → IsExtentOf given.schedule given.extent
@@ -50,12 +49,12 @@ acted_as stop (Some at) ends =
     ap (option_map (λ (stop : ActStop). stop.refusal)) ends.1 ∙ ap (λ (f : Fault). Some f.refusal) (sym ends.2)
 
 -- at an act, on its line
-acted_at : (stop : Option ActStop) (o : Option Stop) → EndsAs stop (ended_at o) → IfSome stop (λ stop. IsEventRefusal stop.refusal × (7 ≤ stop.act.line))
-    → IfSome o (λ stop. IsEventRefusal stop.refusal × (7 ≤ stop.line))
+acted_at : (stop : Option ActStop) (o : Option Stop) → EndsAs stop (ended_at o) → IfSome stop (λ stop. IsActFault stop.refusal stop.act.line)
+    → IfSome o (λ stop. IsActFault stop.refusal stop.line)
 acted_at stop None ends fault = tt
 acted_at stop (Some at) ends fault =
-    let here = subst (λ (o : Option ActStop). IfSome o (λ stop. IsEventRefusal stop.refusal × (7 ≤ stop.act.line))) ends.1 fault in
-    subst (λ (f : Fault). IsEventRefusal f.refusal × IfSome f.line (λ line. 7 ≤ line)) (sym ends.2) here
+    let here = subst (λ (o : Option ActStop). IfSome o (λ stop. IsActFault stop.refusal stop.act.line)) ends.1 fault in
+    subst (λ (f : Fault). IfSome f.line (IsActFault f.refusal)) (sym ends.2) here
 
 -- the text of a recipe was given
 pub one_recipe : (given : Given) (sizes : Sizes) (saids : List Said) (e : Expansion) → IsRecipe given.text.items sizes saids → StandsFor sizes saids e → given.schedule ≡ e.schedule → given.extent ≡ e.extent

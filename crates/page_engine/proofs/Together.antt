@@ -1,10 +1,11 @@
 -- The content of a page, put together, and the page around it.
-use Rattle.std.proofs.Common.{◌≡◌, ◌∙◌, ◌++◌, ℕ, ◌≤◌, List, [], Option, Some, None, Result, Err, ap, inl, inr, refl, sym, subst}
+use Rattle.std.proofs.Common.{◌≡◌, ◌∙◌, ◌++◌, ℕ, List, [], Option, Some, None, Result, Err, ap, inl, inr, refl, sym, subst}
 use Rattle.std.proofs.lemmas.List.{append-nil, append_assoc}
 use Rattle.std.specs.Io.KnownBytes.{Appends}
 use Rattle.std.specs.Prelude.{IfSome, option_map}
 use Rattle.engine_faults.specs.Faults.{IsEventRefusal}
 use Rattle.engine_faults.specs.declared.faults.Fault.{Fault}
+use Rattle.expand_engine.specs.Expansions.{IsActFault}
 use Rattle.history.specs.declared.refusals.Refusal.{Refusal}
 use Rattle.history.specs.declared.refusals.Refusal.TheVariants.{Memory, Write}
 use Rattle.text_io.specs.Blocks.{GivesUp, TakesPrefix}
@@ -112,7 +113,7 @@ module _ (frame : Frame) (given : Given) (made : CanBeMade given) (content : Lis
         }
     ended_by (Some stop) some grown quiet =
         let t = stop_told stop some in
-        let kind : IsEventRefusal stop.refusal × (7 ≤ stop.line) = subst (λ (o : Option Stop). IfSome o (λ stop. IsEventRefusal stop.refusal × (7 ≤ stop.line))) some made.fault in
+        let kind : IsActFault stop.refusal stop.line = subst (λ (o : Option Stop). IfSome o (λ stop. IsActFault stop.refusal stop.line)) some made.fault in
         record {
           ok = tt;
           quiet = tt;

@@ -1,15 +1,18 @@
 -- What is told of what was given is told of a schedule, or of a recipe.
-use Rattle.std.proofs.Common.{◌≡◌, ◌∙◌, ◌+◌, ℕ, List, Option, Some, None, inl, inr, ap, sym, subst}
+use Rattle.std.proofs.Common.{◌≡◌, ◌∙◌, ◌+◌, ◌≤◌, ℕ, List, Option, Some, None, inl, inr, ap, sym, subst}
 use Rattle.std.specs.Io.KnownBytes.{Appends}
 use Rattle.std.specs.Prelude.{IfSome}
+use Rattle.engine_faults.specs.Faults.{IsEventRefusal, IsRunRefusal}
 use Rattle.engine_faults.specs.declared.faults.Fault.{Fault}
 use Rattle.expand_engine.specs.Expansions.{EndsAs, ExpansionRefused, IsReadAs}
+use Rattle.expand_engine.specs.RecipesRun.{IsTellingFault}
 use Rattle.expand_engine.specs.declared.acts.Stop.{Stop as ActStop}
 use Rattle.expand_engine.proofs.Standing.{refused_read}
 use Rattle.history.specs.declared.refusals.Refusal.{Refusal}
-use Rattle.run_engine.specs.Answers.{IsWholeOf}
+use Rattle.history.specs.declared.refusals.Refusal.TheVariants.{Memory, Write}
+use Rattle.run_engine.specs.Answers.{IsTracingRefusal, IsWholeOf}
 use Rattle.run_engine.specs.Extents.{EndsAsCounted}
-use Rattle.run_engine.specs.Runs.{RunRefused}
+use Rattle.run_engine.specs.Runs.{IsRunFault, RunRefused}
 use Rattle.schedule_text.specs.Schedules.{Schedule, header_lines}
 use Rattle.schedule_text.specs.Texts.{schedule_text}
 use Rattle.text_io.specs.Blocks.{TakesPrefix}
@@ -27,6 +30,12 @@ use Rattle.page_engine.specs.Recipes.{BeginsRecipePage, IsOneRecipe, IsStoppedRe
 pub if_line : (line : Option ℕ) (P Q : ℕ → Type 0) → ((n : ℕ) → P n → Q n) → IfSome line P → IfSome line Q
 if_line None P Q f holds = tt
 if_line (Some n) P Q f holds = f n holds
+
+-- what refuses the writing of a page as a whole refuses its run
+run_refusal : (refusal : Refusal) → IsTracingRefusal refusal → IsRunRefusal refusal
+run_refusal Memory cause = tt
+run_refusal Write cause = tt
+run_refusal _ none = absurd none
 
 -- how a run ends that stops there
 abbrev fault_given : Stop → Fault
@@ -48,6 +57,16 @@ module _ (frame : Frame) (given : Given) (bytes : Option (List ℕ)) (read : Wer
         let ends : EndsAsCounted given.schedule given.extent (ended_at (Some s.stop)) = subst (λ (o : Option Stop). EndsAsCounted given.schedule given.extent (ended_at o)) s.is one.ends in
         let at : line ≡ header_lines given.schedule.version + given.extent.made + 1 = s.here ∙ ends.line in
         subst (λ (n : ℕ). IsStopTold given.schedule n line refusal told) (sym at) s.tells
+
+    -- which is that of an event
+    event_here : (line : ℕ) (refusal : Refusal) (told : List ℕ) → IsStoppedTold given line refusal told → IsEventRefusal refusal × (7 ≤ line)
+    event_here line refusal told s =
+        let ends : EndsAsCounted given.schedule given.extent (ended_at (Some s.stop)) = subst (λ (o : Option Stop). EndsAsCounted given.schedule given.extent (ended_at o)) s.is one.ends in
+        rw (s.here, s.cause) ends.kind
+
+    pub IsRunFault-told : (refusal : Refusal) (line : Option ℕ) → IsTellingFault refusal line → IfSome line (λ line. HasPaged frame given.text.items (IsStoppedTold given line refusal) a b) → IsRunFault refusal line
+    IsRunFault-told refusal None fault paged = run_refusal refusal fault
+    IsRunFault-told refusal (Some line) fault paged = event_here line refusal paged.0 paged.1
 
     pub WritesPage-told : HasPaged frame given.text.items (IsWholeTold given) a b → WritesPage frame bytes a b
     WritesPage-told p = record {

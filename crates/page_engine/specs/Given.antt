@@ -1,7 +1,7 @@
 -- What a page is written of.
-use Rattle.std.specs.Prelude.{◌≡◌, ℕ, ◌≤◌, List, ◌++◌, Option, Some, None, Result, Ok, Err, IfSome, option_map}
-use Rattle.engine_faults.specs.Faults.{IsEventRefusal}
+use Rattle.std.specs.Prelude.{◌≡◌, ℕ, List, ◌++◌, Option, Some, None, Result, Ok, Err, IfSome, option_map}
 use Rattle.engine_faults.specs.declared.faults.Fault.{Fault}
+use Rattle.expand_engine.specs.Expansions.{IsActFault}
 use Rattle.schedule_text.specs.Texts.{schedule_text, IsInRange}
 use Rattle.run_engine.specs.Extents.{EndsAsCounted, IsExtentOf}
 use Rattle.page_engine.specs.declared.engine.Frame.{Frame}
@@ -20,7 +20,7 @@ pub record CanBeMade (given : Given) : Type 0 where
   pub in_range : IsInRange given.schedule
   pub extent : IsExtentOf given.schedule given.extent
   pub refusal : given.extent.refusal ≡ option_map (λ (stop : Stop). stop.refusal) given.stop
-  pub fault : IfSome given.stop (λ stop. IsEventRefusal stop.refusal × (7 ≤ stop.line))
+  pub fault : IfSome given.stop (λ stop. IsActFault stop.refusal stop.line)
 
 -- the text is that of the schedule, which stops as its events do
 pub record IsOne (given : Given) : Type 0 where

@@ -11,7 +11,8 @@ use Rattle.schedule_text.specs.Schedules.{header_lines}
 use Rattle.schedule_text.specs.Texts.{schedule_text}
 use Rattle.text_io.specs.Blocks.{GivesUp, TakesPrefix}
 use Rattle.text_io.specs.Devices.{SinkState}
-use Rattle.run_engine.specs.Answers.{IsTracingFault, IsWholeOf, OfSchedule}
+use Rattle.run_engine.specs.Answers.{IsWholeOf, OfSchedule}
+use Rattle.expand_engine.specs.RecipesRun.{IsTellingFault}
 use Rattle.page_engine.specs.Followed.{IsStopTold, the_followed}
 use Rattle.page_engine.specs.Given.{page_content}
 
@@ -45,7 +46,7 @@ pub record Pages (frame : Frame) (given : List ℕ) (whole : List ℕ → Type 0
   pub unwritten : IfErr result (λ fault. fault.line ≡ None → fault.refusal ≢ Write → same)
   pub stopped_at : IfErr result (λ fault. IfSome fault.line (λ line. HasPaged frame given (stopped line fault.refusal) old new))
   pub none_failed_there : IfErr result (λ fault. IfSome fault.line (λ line. new.failures ≡ old.failures))
-  pub fault : IfErr result (λ fault. IsTracingFault fault.refusal fault.line)
+  pub fault : IfErr result (λ fault. IsTellingFault fault.refusal fault.line)
 
 -- this is told of what was given, of which nothing is refused
 abbrev pub IsWholeTold : Given → List ℕ → Type 0

@@ -1,6 +1,6 @@
 //! The engine of `show --html`: from a reader's bytes to a writer's.
 ghost use Rattle.std.specs.Prelude.{◌≡◌, ◌≢◌, None, IfErr, OnOk, IfSome};
-ghost use Rattle.expand_engine.specs.Expansions.{ExpansionRefused};
+ghost use Rattle.expand_engine.specs.Expansions.{ExpansionRefused, IsRecipeFault};
 ghost use Rattle.expand_engine.specs.Expansions as recipes;
 ghost use Rattle.page_engine.specs.Given.{CanBeMade};
 ghost use Rattle.page_engine.specs.Pages.{BeginsPage, IsStoppedTold, IsWholeTold, Pages, WritesPage, WritesStoppedPage, page_around};
@@ -133,7 +133,7 @@ pub fn page_recipe<R: Source, W: Sink>(
         (R.state reader.old).left line fault.refusal (W.state writer.old) (W.state writer.new))) }
     ensures none_failed_there { IfErr result (λ fault. IfSome fault.line (λ line.
         (W.state writer.new).failures ≡ (W.state writer.old).failures)) }
-    ensures fault { IfErr result (λ fault. IsRunFault fault.refusal fault.line) }
+    ensures fault { IfErr result (λ fault. IsRecipeFault fault.refusal fault.line) }
     ensures text { IfErr result
         (λ fault. recipes.TellsFaultyLine (R.state reader.old).left fault.refusal) }
     ensures refused { IfErr result (λ fault. IfSome fault.line (λ line.

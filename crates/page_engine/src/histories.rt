@@ -14,13 +14,13 @@ use placing::place;
 use std::alloc::Global;
 use text_io::{Sink, Source};
 
-/// The text of a recorded history and, behind it, what is found of it by so many steps of a search at most, in memory.
-fn content_of(alloc: Global, given: &Given, steps: u64) -> Result<KeptText, Refusal>
+/// The text of a recorded history and, behind it, what is found of it by a search whose states take at most so many bytes, in memory.
+fn content_of(alloc: Global, given: &Given, room: u64) -> Result<KeptText, Refusal>
     ensures found { IfOk result (λ kept.
-        IsFoundOf given.now.text.items given.now.history.items steps kept.bytes.items) }
+        IsFoundOf given.now.text.items given.now.history.items room kept.bytes.items) }
     ensures only_memory { IfErr result (λ refusal. refusal ≡ Refusal.Memory) }
 {
-    let found = place(alloc, &given.history, steps)?;
+    let found = place(alloc, &given.history, room)?;
     let mut kept = KeptText::new(alloc);
     kept.put(&given.text)?;
     // A sink in memory takes nothing only where that is refused.
@@ -41,18 +41,18 @@ pub fn history_page<R: Source, W: Sink>(
     reader: &mut R,
     writer: &mut W,
     frame: &Frame<'_>,
-    steps: u64,
+    room: u64,
 ) -> Result<(), Refusal>
     //= program/history_page (ok, quiet): The page that is written of a history or a recording read is its frame's first part, that
     //=   text, byte for byte, the text that tells an answer to it, with the lines of a reason's operations, and its frame's second part.
     //= program/judge_refusals (ok, text, prefix, write, unwritten, refusal, reader)
-    ensures ok { OnOk result (WritesHistoryPage frame.now (R.state reader.old).left steps
+    ensures ok { OnOk result (WritesHistoryPage frame.now (R.state reader.old).left room
         (W.state writer.old) (W.state writer.new)) }
     ensures quiet { OnOk result ((W.state writer.new).failures ≡ (W.state writer.old).failures) }
     ensures text { IfErr result (TellsFaultOfRecord (R.state reader.old).left) }
     // Where writing fails, a prefix of that page is written.
     ensures prefix { IfErr result (λ refusal. refusal ≡ Refusal.Write
-        → BeginsHistoryPage frame.now (R.state reader.old).left steps
+        → BeginsHistoryPage frame.now (R.state reader.old).left room
         (W.state writer.old) (W.state writer.new)) }
     ensures write { IfErr result (λ refusal. refusal ≡ Refusal.Write
         → GivesUp (W.state writer.old) (W.state writer.new)) }
@@ -63,6 +63,6 @@ pub fn history_page<R: Source, W: Sink>(
     ensures reader { EndsReadingFor result (R.state reader.old) (R.state reader.new) }
 {
     let given = record_in(alloc, reader)?;
-    let content = content_of(alloc, &given, steps)?;
+    let content = content_of(alloc, &given, room)?;
     write_page(frame, content.as_slice(), writer)
 }

@@ -8,9 +8,9 @@ use Rattle.history.specs.declared.operations.Op.TheVariants.{Deq}
 use Rattle.history.specs.declared.operations.Reply.TheVariants.{Done, Value, Empty}
 use Rattle.history.specs.declared.operations.Stamped.{Stamped}
 use Rattle.placing.specs.declared.answers.Reason.{Reason}
-use Rattle.placing.specs.declared.answers.Reason.TheVariants.{Shape, Span as Spans, Reply, Sooner, Order, Full, Late, Twice, Unshut, Undrained}
+use Rattle.placing.specs.declared.answers.Reason.TheVariants.{Shape, Span as Spans, Reply, Sooner, Order, Full, Late, Twice, Unshut, Undrained, Stuck}
 use Rattle.placing.specs.Kinds.{shows_shut, is_done_shut, is_told_shut}
-use Rattle.placing.specs.Reasons.{StandsAt, IsMisshapen, EndsTooSoon, IsToldAmiss, ShowsShut, IsTooLate, IsReason}
+use Rattle.placing.specs.Reasons.{StandsAt, IsToldOther, IsMisshapen, EndsTooSoon, IsToldAmiss, ShowsShut, IsTooLate, IsReason}
 use Rattle.recording_text.specs.Recordings.{Recorded}
 use Rattle.recording_text.specs.RecordingLines.{IsReadable, IsRecordingInRange, IsInTime}
 use Rattle.recording_text.specs.Numbers.{known_in, stamped_by, history_of}
@@ -126,3 +126,5 @@ module _ (held : List (List ℕ)) (rs : List Recorded) (range : IsRecordingInRan
   reason-given (Twice place other) is = given (λ o. is_done_shut o.reply o.op ≡ true) (λ p t low e. cc) place is.operation is.stands is.shut
   reason-given (Unshut place) is = given (λ o. is_told_shut o.reply ≡ true) (λ p t low e. cc) place is.operation is.stands is.told
   reason-given (Undrained place held) is = given (λ o. o.op ≡ Deq) (λ p t low e. cc) place is.operation is.stands is.pops
+  reason-given (Stuck place others) is =
+      given (IsToldOther is.time) (λ p t low other. let e : true ≡ false = other.other (λ v. true) in cc) place is.stands.0 is.stands.1 is.stands.2

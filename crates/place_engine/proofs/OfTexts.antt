@@ -1,7 +1,7 @@
 -- A recording is one of a queue of texts exactly where its history is one of a queue.
 use Rattle.std.proofs.Common.{◌↔◌, ℕ, List, [], ◌∷◌, map, Option, Some, None, option_map, IsSome}
 use Rattle.std.specs.List.{AllByRecursion}
-use Rattle.placing.specs.Calls.{IsCall, IsOfQueue}
+use Rattle.waiting_orders.specs.Waiting.{IsCall, IsOfQueue}
 use Rattle.recording_text.specs.Recordings.{Told, Recorded}
 use Rattle.recording_text.specs.Numbers.{known_in, reply_by, stamped_by, history_of}
 use Rattle.recording_text.proofs.Known.{by_recursion, from_recursion}

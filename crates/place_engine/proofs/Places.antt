@@ -17,8 +17,8 @@ use Rattle.placing.specs.declared.answers.Held.{Held}
 use Rattle.placing.specs.declared.answers.Held.TheVariants.{Value, Left}
 use Rattle.placing.specs.declared.answers.Span.{Span}
 use Rattle.placing.specs.declared.answers.Reason.{Reason}
-use Rattle.placing.specs.declared.answers.Reason.TheVariants.{Shape, Span as Spans, Reply, Sooner, Order, Full, Late, Twice, Unshut, Undrained}
-use Rattle.placing.specs.Reasons.{StandsAt, IsOfValue, IsLeft, IsHeld, IsThere, IsReason}
+use Rattle.placing.specs.declared.answers.Reason.TheVariants.{Shape, Span as Spans, Reply, Sooner, Order, Full, Late, Twice, Unshut, Undrained, Stuck}
+use Rattle.placing.specs.Reasons.{StandsAt, IsPlace, IsOfValue, IsLeft, IsHeld, IsThere, IsReason}
 use Rattle.place_engine.specs.Given.{header_of}
 use Rattle.place_engine.specs.WhyTexts.{lines_in, lines_of_recording, places_held, places_of, IsPlaceIn}
 use Rattle.place_engine.proofs.Lines.{lines_in-line}
@@ -97,3 +97,6 @@ places-in ops (Twice place other) is =
 places-in ops (Unshut place) is = only ops place (stands-in ops place is.operation is.stands)
 places-in ops (Undrained place held) is =
     one ops place (stands-in ops place is.operation is.stands) (places_held held) (there-in ops is.from is.until held is.stays)
+places-in ops (Stuck place others) is =
+    one ops place (stands-in ops place is.stands.0 is.stands.1) others.items
+    (All-weaker (IsPlace ops) (IsPlaceIn ops) (λ other at. stands-in ops other at.operation at.stands) others.items is.others_stand)

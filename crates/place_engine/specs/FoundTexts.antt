@@ -4,9 +4,9 @@ use Rattle.std.specs.List.{flat_map}
 use Rattle.placing.specs.declared.answers.Held.{Held}
 use Rattle.placing.specs.declared.answers.Held.TheVariants.{Value, Left}
 use Rattle.placing.specs.declared.answers.Reason.{Reason}
-use Rattle.placing.specs.declared.answers.Reason.TheVariants.{Shape, Span as Spans, Reply, Sooner, Order, Full, Late, Twice, Unshut, Undrained}
+use Rattle.placing.specs.declared.answers.Reason.TheVariants.{Shape, Span as Spans, Reply, Sooner, Order, Full, Late, Twice, Unshut, Undrained, Stuck}
 use Rattle.placing.specs.declared.answers.Unknown.{Unknown}
-use Rattle.placing.specs.declared.answers.Unknown.TheVariants.{Steps, Searched, Unplaced}
+use Rattle.placing.specs.declared.answers.Unknown.TheVariants.{Room, Unplaced}
 
 -- a place, with a space before it: of the first so many, that it is held, and of the others counted behind these
 abbrev pub place_text : (count place : ℕ) → List ℕ
@@ -24,6 +24,7 @@ place_of (Late place other) = place
 place_of (Twice place other) = place
 place_of (Unshut place) = place
 place_of (Undrained place held) = place
+place_of (Stuck place others) = place
 
 -- the name of a reason
 abbrev pub cause_of : Reason → List ℕ
@@ -37,6 +38,7 @@ cause_of (Late place other) = codes "Late"
 cause_of (Twice place other) = codes "Twice"
 cause_of (Unshut place) = codes "Unshut"
 cause_of (Undrained place held) = codes "Undrained"
+cause_of (Stuck place others) = codes "Stuck"
 
 -- the places of the pushes of values of which one stays, where the first so many are held
 abbrev pub held_text : (count : ℕ) → Held → List ℕ
@@ -55,6 +57,7 @@ others_text count (Late place other) = place_text count other
 others_text count (Twice place other) = place_text count other
 others_text count (Unshut place) = []
 others_text count (Undrained place held) = held_text count held
+others_text count (Stuck place others) = flat_map (place_text count) others.items
 
 -- the beginning of the line that tells a reason
 unfoldable pub head_text : (count : ℕ) → Reason → List ℕ
@@ -67,8 +70,7 @@ no_text count reason = head_text count reason ++ others_text count reason ++ cod
 
 -- the name of why nothing was found
 abbrev pub unknown_name : Unknown → List ℕ
-unknown_name Steps = codes "Steps"
-unknown_name Searched = codes "Searched"
+unknown_name Room = codes "Room"
 unknown_name Unplaced = codes "Unplaced"
 
 -- the line that tells that nothing was found

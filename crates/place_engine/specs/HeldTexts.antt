@@ -49,29 +49,29 @@ SaysOfHolding held rs (History new) = IsOfHoldingQueue held rs × HasPointsFrom 
 SaysOfHolding held rs (Impossible reason) = IsOfHoldingQueue held rs → ⊥
 SaysOfHolding held rs (Open cause) = Unit {0}
 
--- a text is that of a recording, and the answer is one of its longer one, by a search of at most so many steps
-pub record FindsHolding (held : List (List ℕ)) (text : List ℕ) (steps : ℕ) (answer : Placed) : Type 0 where
+-- a text is that of a recording, and the answer is one of its longer one, by a search whose states take at most so many bytes
+pub record FindsHolding (held : List (List ℕ)) (text : List ℕ) (room : ℕ) (answer : Placed) : Type 0 where
   pub recording : List Recorded
   pub in_range : IsRecordingInRange recording
   pub spelled : text ≡ recording_text recording
   pub answers : IsAnswer (history_of (longer held recording)) answer
-  pub cause : HasCause (history_of (longer held recording)) steps answer
+  pub cause : HasCause (history_of (longer held recording)) room answer
 
 -- known bytes were the text of a recording, an answer is found that says what is so, and the text that tells it was written, with
 -- the lines of a reason's operations where they were asked for
-pub record TellsHolding (held : List (List ℕ)) (given : Option (List ℕ)) (steps : ℕ) (why : Bool) (old new : SinkState) (answer : Placed) : Type 0 where
+pub record TellsHolding (held : List (List ℕ)) (given : Option (List ℕ)) (room : ℕ) (why : Bool) (old new : SinkState) (answer : Placed) : Type 0 where
   pub text : List ℕ
   pub read : WereAll given text
-  pub found : FindsHolding held text steps answer
+  pub found : FindsHolding held text room answer
   pub right : SaysOfHolding held found.recording answer
   pub written : Appends old.contents new.contents (answer_text held why text answer)
 
 -- known bytes were the text of a recording, an answer is found, and a prefix of the text that tells it was written
-pub record BeginsHolding (held : List (List ℕ)) (given : Option (List ℕ)) (steps : ℕ) (why : Bool) (old new : SinkState) : Type 0 where
+pub record BeginsHolding (held : List (List ℕ)) (given : Option (List ℕ)) (room : ℕ) (why : Bool) (old new : SinkState) : Type 0 where
   pub text : List ℕ
   pub answer : Placed
   pub read : WereAll given text
-  pub found : FindsHolding held text steps answer
+  pub found : FindsHolding held text room answer
   pub begun : TakesPrefix old.contents new.contents (answer_text held why text answer)
 
 -- where known bytes are refused as a recording of a queue that holds so many texts, that is their first faulty line, or the first

@@ -10,7 +10,7 @@ use Rattle.recording_text.specs.RecordingLines.{operation_words, version_line}
 use Rattle.placing.specs.declared.answers.Held.{Held}
 use Rattle.placing.specs.declared.answers.Held.TheVariants.{Value, Left}
 use Rattle.placing.specs.declared.answers.Reason.{Reason}
-use Rattle.placing.specs.declared.answers.Reason.TheVariants.{Shape, Span as Spans, Reply, Sooner, Order, Full, Late, Twice, Unshut, Undrained}
+use Rattle.placing.specs.declared.answers.Reason.TheVariants.{Shape, Span as Spans, Reply, Sooner, Order, Full, Late, Twice, Unshut, Undrained, Stuck}
 use Rattle.placing.specs.declared.answers.Placed.{Placed}
 use Rattle.placing.specs.declared.answers.Placed.TheVariants.{History, Impossible, Open}
 use Rattle.place_engine.specs.Given.{header_of}
@@ -35,6 +35,7 @@ places_of (Late place other) = place ∷ other ∷ []
 places_of (Twice place other) = place ∷ other ∷ []
 places_of (Unshut place) = place ∷ []
 places_of (Undrained place held) = place ∷ places_held held
+places_of (Stuck place others) = place ∷ others.items
 
 -- the lines of a text: what stands between its line feeds
 abbrev pub lines_in : List ℕ → List (List ℕ)

@@ -26,9 +26,9 @@ pub struct Told {
 
 /// Finds linearization points for the recorded history whose text the reader gives, or which the recording stands for
 /// whose text it gives, and writes that history with them; or writes one line, `no` with a reason why there are none, or
-/// `open` where neither was found. Points in the text are not read. Where values are pushed more than once, or the queue is
-/// shut, it may search for an order, for at most so many steps. Behind a reason it writes the lines of the text that say its
-/// operations, each with its number, where these are asked for.
+/// `open` where neither was found. Points in the text are not read. It may search for an order, by states that take at most so
+/// many bytes. Behind a reason it writes the lines of the text that say its operations, each with its number, where these are
+/// asked for.
 ///
 /// It is refused, in this order, by `Memory`, as soon as a growth is refused; `Read`, where a call of the reader
 /// fails; `Text`, where the bytes are neither a history nor a recording; `Write`, where a call of the writer fails or
@@ -37,17 +37,17 @@ pub fn place_text<R: Source, W: Sink>(
     alloc: Global,
     reader: &mut R,
     writer: &mut W,
-    steps: u64,
+    room: u64,
     tells_why: bool,
 ) -> Result<Told, Refusal>
     //= program/place (ok, quiet): `place_text` answers points, a reason or that it is open, for the history read or the
     //=   recording's, and its text is written. With points the history is one of a queue, with a reason it isn't. It is
-    //=   open only where no operation is wrong by itself, and the search used up its steps, had nothing left to try, or
+    //=   open only where no operation is wrong by itself: the search took more room than it may, which no clause says, or
     //=   found an order by which a history of at most 2,147,483,648 operations isn't one of a queue.
     //= program/judge_refusals (ok, text, prefix, write, unwritten, refusal, reader)
     //= program/why (ok, prefix): Where they are asked for, `place_text` writes behind the line of a reason, for each operation of it,
     //=   the number of its line in the text and that line itself, byte for byte (`why_text`).
-    ensures ok { IfOk result (λ told. TellsPlaces (R.state reader.old).left steps tells_why
+    ensures ok { IfOk result (λ told. TellsPlaces (R.state reader.old).left room tells_why
         (W.state writer.old) (W.state writer.new) told.found) }
     //= program/overlap: Two lines of a recording that are told say operations of one thread that overlap, the first
     //=   before the second; where none are told, no two lines of a recording do.
@@ -57,7 +57,7 @@ pub fn place_text<R: Source, W: Sink>(
     ensures text { IfErr result (TellsFaultOfRecord (R.state reader.old).left) }
     // Where writing fails, a prefix of the text that tells an answer is written.
     ensures prefix { IfErr result (λ refusal. refusal ≡ Refusal.Write
-        → BeginsPlaces (R.state reader.old).left steps tells_why (W.state writer.old)
+        → BeginsPlaces (R.state reader.old).left room tells_why (W.state writer.old)
         (W.state writer.new)) }
     ensures write { IfErr result (λ refusal. refusal ≡ Refusal.Write
         → GivesUp (W.state writer.old) (W.state writer.new)) }
@@ -68,7 +68,7 @@ pub fn place_text<R: Source, W: Sink>(
     ensures reader { EndsReadingFor result (R.state reader.old) (R.state reader.new) }
 {
     let given = record_in(alloc, reader)?;
-    let found = place(alloc, &given.history, steps)?;
+    let found = place(alloc, &given.history, room)?;
     let overlap = overlap_of(alloc, &given.text)?;
     tell(alloc, &found, tells_why, &[], &given.text, writer)?;
     Ok(Told { found, overlap })

@@ -139,7 +139,8 @@ fn place_of(reason: &Reason) -> u64
         | Reason::Late { place, .. }
         | Reason::Twice { place, .. }
         | Reason::Unshut { place }
-        | Reason::Undrained { place, .. } => *place,
+        | Reason::Undrained { place, .. }
+        | Reason::Stuck { place, .. } => *place,
     }
 }
 
@@ -158,6 +159,7 @@ fn cause_of(reason: &Reason) -> &'static [u8]
         Reason::Twice { .. } => b"Twice",
         Reason::Unshut { .. } => b"Unshut",
         Reason::Undrained { .. } => b"Undrained",
+        Reason::Stuck { .. } => b"Stuck",
     }
 }
 
@@ -168,7 +170,9 @@ fn push_others(text: &mut Vec<u8>, reason: &Reason, count: u64) -> Result<(), Al
     match reason {
         Reason::Shape { .. } | Reason::Span { .. } | Reason::Reply { .. } | Reason::Unshut { .. } =>
             Ok(()),
-        Reason::Sooner { others, .. } => push_places(text, count, others),
+        Reason::Sooner { others, .. } | Reason::Stuck { others, .. } => {
+            push_places(text, count, others)
+        }
         Reason::Order { push, held, .. } => {
             push_place(text, count, *push)?;
             push_held(text, count, held)
@@ -248,8 +252,7 @@ fn name_of(cause: Unknown) -> &'static [u8]
     ensures short { length result.now ≤ 8 }
 {
     match cause {
-        Unknown::Steps => b"Steps",
-        Unknown::Searched => b"Searched",
+        Unknown::Room => b"Room",
         Unknown::Unplaced => b"Unplaced",
     }
 }

@@ -27,7 +27,7 @@ pub fn place_holding<R: Source, W: Sink>(
     alloc: Global,
     reader: &mut R,
     writer: &mut W,
-    steps: u64,
+    room: u64,
     tells_why: bool,
     held: &[&[u8]],
 ) -> Result<Told, Refusal>
@@ -37,7 +37,7 @@ pub fn place_holding<R: Source, W: Sink>(
     //=   written, which are within its own operations; with a reason it isn't. A refused text is told by its first faulty line
     //=   or, if it has none, by the first whose numbers leave no room for the pushes of these texts.
     ensures ok { IfOk result (λ told. TellsHolding (map bytes_of held.now) (R.state reader.old).left
-        steps tells_why (W.state writer.old) (W.state writer.new) told.found) }
+        room tells_why (W.state writer.old) (W.state writer.new) told.found) }
     //= program/overlap
     ensures overlap { IfOk result (λ told. SaysOverlap (R.state reader.old).left told.overlap) }
     ensures quiet { OnOk result ((W.state writer.new).failures ≡ (W.state writer.old).failures) }
@@ -45,7 +45,7 @@ pub fn place_holding<R: Source, W: Sink>(
     ensures text { IfErr result (TellsFaultOfHolding (length held.now) (R.state reader.old).left) }
     //= program/judge_refusals (prefix, write, unwritten, refusal, reader)
     ensures prefix { IfErr result (λ refusal. refusal ≡ Refusal.Write
-        → BeginsHolding (map bytes_of held.now) (R.state reader.old).left steps tells_why
+        → BeginsHolding (map bytes_of held.now) (R.state reader.old).left room tells_why
         (W.state writer.old) (W.state writer.new)) }
     ensures write { IfErr result (λ refusal. refusal ≡ Refusal.Write
         → GivesUp (W.state writer.old) (W.state writer.new)) }
@@ -56,18 +56,18 @@ pub fn place_holding<R: Source, W: Sink>(
     ensures reader { EndsReadingFor result (R.state reader.old) (R.state reader.new) }
 {
     let text = recording_in(alloc, reader)?;
-    let found = found_in(alloc, held, &text, steps)?;
+    let found = found_in(alloc, held, &text, room)?;
     let overlap = overlap_of(alloc, &text)?;
     tell(alloc, &found, tells_why, held, &text, writer)?;
     Ok(Told { found, overlap })
 }
 
 // What is found of the recording of a text.
-fn found_in(alloc: Global, held: &[&[u8]], text: &[u8], steps: u64) -> Result<Placed, Refusal>
+fn found_in(alloc: Global, held: &[&[u8]], text: &[u8], room: u64) -> Result<Placed, Refusal>
     requires { AreHeld (map bytes_of held.now) }
-    ensures ok { IfOk result (FindsHolding (map bytes_of held.now) text.now steps) }
+    ensures ok { IfOk result (FindsHolding (map bytes_of held.now) text.now room) }
     ensures err { IfErr result (IsFaultHolding (length held.now) text.now) }
 {
     let longer = parse_holding(alloc, held, text)?;
-    place(alloc, &longer, steps)
+    place(alloc, &longer, room)
 }

@@ -5,7 +5,7 @@ ghost use Rattle.history.specs.declared.operations.Verdict.TheVariants.{Yes};
 ghost use Rattle.history.specs.History.{verdict};
 ghost use Rattle.placing.specs.declared.answers.Reason.{Reason};
 ghost use Rattle.placing.specs.Reasons.{IsReason};
-ghost use Rattle.placing.specs.Calls.{IsOfQueue};
+ghost use Rattle.waiting_orders.specs.Waiting.{IsOfQueue};
 ghost use Rattle.placing.specs.SpreadStamps.{IsSpread};
 ghost use Rattle.recording_text.specs.Recordings.{Recorded};
 ghost use Rattle.recording_text.specs.Numbers.{history_of};

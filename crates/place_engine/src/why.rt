@@ -142,7 +142,7 @@ pub fn places_of(alloc: Global, reason: &Reason) -> Result<Vec<u64>, AllocError>
         | Reason::Span { place }
         | Reason::Reply { place }
         | Reason::Unshut { place } => places.push(*place)?,
-        Reason::Sooner { place, others } => {
+        Reason::Sooner { place, others } | Reason::Stuck { place, others } => {
             places.push(*place)?;
             places.extend_from_slice(others)?;
         }

@@ -15,7 +15,7 @@ use Rattle.history.specs.Queue.{Queue, empty, response}
 use Rattle.history.specs.History.{leaves, is_closed, AgreesWithQueue, answer}
 use Rattle.history.specs.Linearizability.{Answered, operations_of, GivesRecordedReply, IsRun}
 use Rattle.history.specs.Tallies.{is_not_refused}
-use Rattle.placing.specs.Calls.{IsCall}
+use Rattle.waiting_orders.specs.Waiting.{IsCall}
 use Rattle.placing.specs.Kinds.{Kind, is_push_in, ended_before, is_done_shut, shows_shut, is_shut_call, pushes_ended_before}
 use Rattle.placing.specs.Reasons.{StandsAt}
 use Rattle.placing.proofs.Runs.{one_if, pushed_in, after_run, after_parts, run_parts}

@@ -1,6 +1,6 @@
 -- A history with a reason isn't one of a queue.
 use Rattle.std.proofs.Common.{◌≡◌, ◌⊎◌, inl, inr, append_assoc, ℕ, ◌+◌, ◌≤◌, ◌<◌, Bool, true, false, ◌&&◌, ◌||◌, nat_le, nat_lt, Option, None, Some}
-use Rattle.std.proofs.Common.{IfSome, IsSome, List, [], ◌∷◌, ◌++◌, refl, sym, ap, ◌∙◌, subst, arith}
+use Rattle.std.proofs.Common.{All, IfSome, IsSome, List, [], ◌∷◌, ◌++◌, refl, sym, ap, ◌∙◌, subst, arith}
 use Rattle.std.specs.Prelude.{IsNone, IsSomeAnd}
 use Rattle.std.specs.List.{sum_by, AllByRecursion}
 use Rattle.std.proofs.lemmas.Bool.{leb-true, leb-false, ltb-true, ltb-false}
@@ -21,8 +21,9 @@ use Rattle.history.specs.Linearizability.{Answered, operations_of, IsPending, Gi
 use Rattle.placing.specs.declared.answers.Held.{Held}
 use Rattle.placing.specs.declared.answers.Span.{Span}
 use Rattle.placing.specs.declared.answers.Reason.{Reason}
-use Rattle.placing.specs.declared.answers.Reason.TheVariants.{Shape, Span as Spans, Reply as Replies, Sooner, Order, Full, Late, Twice, Unshut, Undrained}
-use Rattle.placing.specs.Calls.{IsCall, IsOfQueue}
+use Rattle.placing.specs.declared.answers.Reason.TheVariants.{Shape, Span as Spans, Reply as Replies, Sooner, Order, Full, Late, Twice, Unshut, Undrained, Stuck}
+use Rattle.waiting_orders.specs.Waiting.{IsCall, IsOfQueue}
+use Rattle.placing.specs.Parts.{MayBeOut}
 use Rattle.placing.specs.Kinds.{Kind, same_value, is_told_in, is_push_in, pushes_in, ended_by, pushes_begun_before}
 use Rattle.placing.specs.Reasons.{StandsAt, IsMisshapen, EndsTooSoon, may_be_told, IsToldAmiss, IsSooner, IsHeld, IsOutOfOrder, Cover, IsOpenUntil, IsFull, IsReason}
 use Rattle.placing.proofs.Runs.{one_if, taken_in, pushed_in, copies, same_itself, after_run, run_balance, run_parts, after_parts, step_taken, goes_before}
@@ -32,6 +33,8 @@ use Rattle.placing.proofs.Staying.{EndedFrom, and_false, take_begun_after, IsOrd
 use Rattle.placing.proofs.Keeping.{contained, both, held_stays}
 use Rattle.placing.proofs.Standing.{Standing, stands_in, told_not_pending, given_there, given_told, first_push}
 use Rattle.placing.proofs.BeforeShut.{given_empty, began_by_shut, all_began_by_shut}
+use Rattle.placing.proofs.Cutting.{begun_is_of_queue}
+use Rattle.placing.proofs.LeavingOut.{part_is_of_queue}
 use Rattle.placing.proofs.NotShut.{not_late, not_twice, not_unshut, not_undrained}
 
 -- ---- an operation is no call
@@ -319,3 +322,6 @@ excludes ops (Late place other) r h = not_late ops place other h r
 excludes ops (Twice place other) r h = not_twice ops place other h r
 excludes ops (Unshut place) r h = not_unshut ops place h r
 excludes ops (Undrained place held) r h = not_undrained ops place held h r
+excludes ops (Stuck place others) r h =
+    let out = subst (λ (part : List Stamped). All (MayBeOut part) r.calls) r.is_part r.out in
+    r.none (subst IsOfQueue (sym r.is_part) (part_is_of_queue r.calls out (subst IsOfQueue (sym r.begun) (begun_is_of_queue r.time ops h))))

@@ -1,3 +1,6 @@
+pub mod Cutting
+pub mod Marking
+mod LeavingOut
 mod Runs
 mod Sooner
 mod Parting
@@ -15,6 +18,3 @@ pub mod Risen
 pub mod Indices
 pub mod Pointing
 pub mod Putting
-pub mod Trying
-pub mod EdgeOrders
-mod SmallSearches

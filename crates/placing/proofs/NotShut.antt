@@ -15,7 +15,7 @@ use Rattle.history.specs.History.{AgreesWithQueue}
 use Rattle.history.specs.Linearizability.{Answered, operations_of, IsPending, GivesRecordedReply}
 use Rattle.placing.specs.declared.answers.Held.{Held}
 use Rattle.placing.specs.declared.answers.Held.TheVariants.{Value as OneValue, Left}
-use Rattle.placing.specs.Calls.{IsOfQueue}
+use Rattle.waiting_orders.specs.Waiting.{IsOfQueue}
 use Rattle.placing.specs.Kinds.{Kind, same_value, is_told_in, is_push_in, pushes_in, is_told_shut, is_done_or_empty, pushes_begun_by, left_in}
 use Rattle.placing.specs.Reasons.{StandsAt}
 use Rattle.placing.specs.Reasons.{ShowsShut, IsTooLate, IsLate, IsTwice, IsUnshut, IsTakenBehind, IsThere, IsUndrained}

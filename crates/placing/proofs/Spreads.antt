@@ -16,7 +16,7 @@ use Rattle.history.specs.History.{LiesIn, IsPlaced, AgreesWithQueue, answer, ver
 use Rattle.history.specs.Linearizability.{Answered, operations_of, IsPending, GivesRecordedReply, MayComeBefore, KeepsTime, IsRun, IsLinearizable}
 use Rattle.history.proofs.Judging.{yes_is_right}
 use Rattle.history.proofs.Linearizing.{placed_linearizes}
-use Rattle.placing.specs.Calls.{IsCall, IsOfQueue}
+use Rattle.waiting_orders.specs.Waiting.{IsCall, IsOfQueue}
 use Rattle.placing.specs.SpreadStamps.{EndsSo, IsStampedSo, IsKept, IsFirstOf, IsLastOf, IsSpread}
 use Rattle.placing.proofs.InOrder.{Orders, kept_orders, spread_orders}
 

@@ -8,7 +8,7 @@ use Rattle.history.specs.Queue.{empty}
 use Rattle.history.specs.History.{AgreesWithQueue}
 use Rattle.history.specs.Linearizability.{Answered, IsPending, GivesRecordedReply}
 use Rattle.history.specs.Tallies.{is_not_refused}
-use Rattle.placing.specs.Calls.{IsOfQueue}
+use Rattle.waiting_orders.specs.Waiting.{IsOfQueue}
 use Rattle.placing.specs.Kinds.{Kind, is_push_in}
 use Rattle.placing.specs.Reasons.{StandsAt}
 use Rattle.placing.proofs.Runs.{one_if, pushed_in, after_run, run_parts}

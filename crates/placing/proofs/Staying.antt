@@ -16,7 +16,7 @@ use Rattle.history.specs.Queue.{Queue, empty, response, unless_shut}
 use Rattle.history.specs.History.{AgreesWithQueue}
 use Rattle.history.specs.Linearizability.{Answered, operations_of, IsPending, GivesRecordedReply, KeepsTime, IsRun}
 use Rattle.history.specs.Tallies.{is_not_refused}
-use Rattle.placing.specs.Calls.{IsCall, IsOfQueue}
+use Rattle.waiting_orders.specs.Waiting.{IsCall, IsOfQueue}
 use Rattle.placing.specs.Kinds.{Kind, is_told_in, is_push_in, pushes_in, is_pending_pop, ended_before, pushes_of, pushes_ended_before, takes_begun_by, takes_begun_after, pending_by}
 use Rattle.placing.proofs.Runs.{one_if, taken_in, pushed_in, run_balance, IsGiven, all_given}
 use Rattle.placing.proofs.Sooner.{told_at_most, pushed_at_most}

@@ -4,14 +4,13 @@ use Rattle.history.specs.declared.operations.Stamped.{Stamped}
 use Rattle.history.specs.declared.operations.Verdict.TheVariants.{Yes}
 use Rattle.history.specs.History.{verdict}
 use Rattle.placing.specs.declared.answers.Unknown.{Unknown}
-use Rattle.placing.specs.declared.answers.Unknown.TheVariants.{Steps, Searched, Unplaced}
+use Rattle.placing.specs.declared.answers.Unknown.TheVariants.{Room, Unplaced}
 use Rattle.placing.specs.declared.answers.Placed.{Placed}
 use Rattle.placing.specs.declared.answers.Placed.TheVariants.{History, Impossible, Open}
 use Rattle.placing.specs.SpreadStamps.{IsSpread}
 use Rattle.placing.specs.Orders.{IsOrder}
 use Rattle.placing.specs.Reasons.{IsReason}
 use Rattle.placing.specs.Faults.{IsFaultless}
-use Rattle.placing.specs.Tries.{Found, InVain, UsedUp, Ends}
 
 -- a history with points that is judged Yes and is the given one but for stamps, or a reason; open is only one in which no
 -- operation is wrong by itself
@@ -20,16 +19,14 @@ IsAnswer ops (History new) = IsSpread ops new.items × (verdict new.items ≡ Ye
 IsAnswer ops (Impossible reason) = IsReason ops reason
 IsAnswer ops (Open cause) = All IsFaultless ops
 
--- Why neither was found, by a search that may take so many steps: it used them up, or it ended with nothing left to try, or
--- it found an order by which a history of at most 2147483648 operations isn't one of a queue.
-abbrev pub IsCause : List Stamped → (steps : ℕ) → Unknown → Type 0
-IsCause ops steps Steps = Ends ops steps UsedUp
-IsCause ops steps Searched = Ends ops steps InVain
-IsCause ops steps Unplaced =
-    (order : List ℕ) × Ends ops steps (Found order) × (length ops ≤ 2147483648 → IsOrder ops order → ⊥)
+-- Why neither was found, by a search whose states may take so many bytes: they took more, or it found an order by which a
+-- history of at most 2147483648 operations isn't one of a queue.
+abbrev pub IsCause : List Stamped → (room : ℕ) → Unknown → Type 0
+IsCause ops room Room = Unit {0}
+IsCause ops room Unplaced = (order : List ℕ) × (length ops ≤ 2147483648 → IsOrder ops order → ⊥)
 
 -- where an answer is open, it has its cause
-abbrev pub HasCause : List Stamped → (steps : ℕ) → Placed → Type 0
-HasCause ops steps (History new) = Unit {0}
-HasCause ops steps (Impossible reason) = Unit {0}
-HasCause ops steps (Open cause) = IsCause ops steps cause
+abbrev pub HasCause : List Stamped → (room : ℕ) → Placed → Type 0
+HasCause ops room (History new) = Unit {0}
+HasCause ops room (Impossible reason) = Unit {0}
+HasCause ops room (Open cause) = IsCause ops room cause

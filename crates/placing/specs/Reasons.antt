@@ -1,5 +1,5 @@
 -- Why a recorded history isn't one of a queue.
-use Rattle.std.specs.Prelude.{◌≡◌, ◌⊎◌, ℕ, ◌+◌, ◌-◌, ◌<◌, ◌≤◌, Bool, true, false, IsTrue, ◌||◌, List, [], ◌∷◌, Some, IsSome, IsNone, IsSomeAnd, All, length, slice_get}
+use Rattle.std.specs.Prelude.{◌≡◌, ◌⊎◌, ℕ, ◌+◌, ◌-◌, ◌<◌, ◌≤◌, Bool, true, false, IsTrue, ◌||◌, nat_eq, List, [], ◌∷◌, Some, IsSome, IsNone, IsSomeAnd, All, length, slice_get}
 use Rattle.history.specs.declared.operations.Op.{Op}
 use Rattle.history.specs.declared.operations.Op.TheVariants.{Enq, Deq, Shut}
 use Rattle.history.specs.declared.operations.Taken.{Taken}
@@ -7,12 +7,16 @@ use Rattle.history.specs.declared.operations.Reply.{Reply}
 use Rattle.history.specs.declared.operations.Reply.TheVariants.{Done, Value, Empty, Refused}
 use Rattle.history.specs.declared.operations.Stamped.{Stamped}
 use Rattle.history.specs.History.{may_refuse}
+use Rattle.std.specs.List.{list_any}
+use Rattle.waiting_orders.specs.Waiting.{IsOfQueue}
 use Rattle.placing.specs.declared.answers.Held.{Held}
 use Rattle.placing.specs.declared.answers.Held.TheVariants.{Value as OneValue, Left}
 use Rattle.placing.specs.declared.answers.Span.{Span}
 use Rattle.placing.specs.declared.answers.Reason.{Reason}
-use Rattle.placing.specs.declared.answers.Reason.TheVariants.{Shape, Span as Spans, Reply as Replies, Sooner, Order, Full, Late, Twice, Unshut, Undrained}
-use Rattle.placing.specs.Kinds.{same_value, is_told_in, pushes_in, is_told_shut, is_done_shut, shows_shut, is_done_or_empty, ended_before, pushes_of}
+use Rattle.placing.specs.declared.answers.Reason.TheVariants.{Shape, Span as Spans, Reply as Replies, Sooner, Order, Full, Late, Twice, Unshut, Undrained, Stuck}
+use Rattle.placing.specs.declared.marks.Marked.{Marked}
+use Rattle.placing.specs.Parts.{all_of, begun, cut, part_of, MayBeOut}
+use Rattle.placing.specs.Kinds.{Kind, same_value, is_told_in, pushes_in, is_told_shut, is_done_shut, shows_shut, is_done_or_empty, ended_before, ended_by, pushes_of}
 use Rattle.placing.specs.Kinds.{pushes_begun_by, pushes_begun_before, takes_ended_by, pending_by, left_in, shuts_begun_by}
 
 -- an operation stands at a place of a list, counted from 1
@@ -218,6 +222,45 @@ pub record IsUndrained (ops : List Stamped) (place : ℕ) (held : Held) : Type 0
 abbrev pub HasAt : List Stamped → ℕ → (Stamped → Type 0) → Type 0
 HasAt ops place Fault = (o : Stamped) × StandsAt ops place o × Fault o
 
+-- an operation was told a reply by a number, and is no push that may have had its effect
+pub record IsToldOther (time : ℕ) (o : Stamped) : Type 0 where
+  pub told : ended_by time o.last ≡ true
+  pub other : (kind : Kind) → pushes_in kind o ≡ false
+
+-- a call is an operation at its place, as it was at a number
+pub record IsCutOf (ops : List Stamped) (time : ℕ) (call : Marked) : Type 0 where
+  pub operation : Stamped
+  pub stands : StandsAt ops call.place operation
+  pub is : call.operation ≡ cut time operation
+
+-- an operation stands at a place
+pub record IsPlace (ops : List Stamped) (place : ℕ) : Type 0 where
+  pub operation : Stamped
+  pub stands : StandsAt ops place operation
+
+-- a place is this one, or one of the others
+abbrev pub IsOneOf : (place : ℕ) → (others : List ℕ) → ℕ → Type 0
+IsOneOf place others at = (at ≡ place) ⊎ (list_any (λ other. nat_eq other at) others ≡ true)
+
+-- a call that is in a part is at this place, or at one of the others
+abbrev pub IsNamed : (place : ℕ) → (others : List ℕ) → Marked → Type 0
+IsNamed place others call = call.is_in ≡ true → IsOneOf place others call.place
+
+-- This operation was told a reply by a number, and is no push that may have had its effect. Of the calls that began by then, some
+-- aren't those of a queue, each of which is this one or one of the others; the rest may be left out.
+pub record IsStuck (ops : List Stamped) (place : ℕ) (others : List ℕ) : Type 0 where
+  pub time : ℕ
+  pub calls : List Marked
+  pub part : List Stamped
+  pub stands : HasAt ops place (IsToldOther time)
+  pub others_stand : All (IsPlace ops) others
+  pub begun : all_of calls ≡ begun time ops
+  pub each : All (IsCutOf ops time) calls
+  pub named : All (IsNamed place others) calls
+  pub is_part : part ≡ part_of calls
+  pub out : All (MayBeOut part) calls
+  pub none : IsOfQueue part → ⊥
+
 -- what a reason says of a history
 abbrev pub IsReason : List Stamped → Reason → Type 0
 IsReason ops (Shape place) = HasAt ops place IsMisshapen
@@ -230,3 +273,4 @@ IsReason ops (Late place other) = IsLate ops place other
 IsReason ops (Twice place other) = IsTwice ops place other
 IsReason ops (Unshut place) = IsUnshut ops place
 IsReason ops (Undrained place held) = IsUndrained ops place held
+IsReason ops (Stuck place others) = IsStuck ops place others.items

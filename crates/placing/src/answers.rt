@@ -48,15 +48,16 @@ pub enum Reason {
     /// shut, since no push has its effect behind that: whenever and however often it was pushed, a take of it began
     /// later; or values that no pop was told, whose pushes ended, are more than the pending pops that began by then.
     Undrained { place: u64, held: Held },
+    /// It isn't a push that may have had its effect, and was told what it can't be told by its end: it and the others are
+    /// operations of a history that isn't one of a queue.
+    Stuck { place: u64, others: Vec<u64> },
 }
 
 /// Why it isn't known whether a recorded history is one of a queue.
 #[derive(Clone, Copy, Debug, PartialEq, Eq)]
 pub enum Unknown {
-    /// The search for an order used up its steps: values were pushed more than once, or the queue was shut.
-    Steps,
-    /// The search found no order, and nothing was left to try. That is no reason that could be tested.
-    Searched,
+    /// The states of the search took more room than they may.
+    Room,
     /// The order that the search found got no points that `check` judges Yes: by it a history of at most 2,147,483,648
     /// operations isn't one of a queue.
     Unplaced,

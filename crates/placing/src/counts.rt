@@ -27,6 +27,20 @@ pub(crate) fn pushes_begun_before(time: u64, value: &Taken, history: &[Stamped])
         .count()
 }
 
+// How many pushes of a value weren't refused.
+pub(crate) fn pushes_of(value: &Taken, history: &[Stamped]) -> usize
+    ensures { result ≡ kinds.pushes_of (same_value value.now) history.now }
+{
+    history.iter().filter(|o| pushes(value, o)).count()
+}
+
+// How many pops were told a value.
+pub(crate) fn takes_of(value: &Taken, history: &[Stamped]) -> usize
+    ensures { result ≡ kinds.takes_of (same_value value.now) history.now }
+{
+    history.iter().filter(|o| is_told(value, o.reply)).count()
+}
+
 // How many pops that were told a value ended by a time.
 pub(crate) fn takes_ended_by(time: u64, value: &Taken, history: &[Stamped]) -> usize
     ensures { result ≡ kinds.takes_ended_by time (same_value value.now) history.now }

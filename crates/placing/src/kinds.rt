@@ -1,5 +1,5 @@
 //! The operations of a recorded history by what they are.
-ghost use Rattle.std.specs.Prelude.{IfSome, IfNone, All};
+ghost use Rattle.std.specs.Prelude.{◌≡◌, ◌+◌, ◌<◌, ◌^◌, IfSome, IfNone, All};
 ghost use Rattle.placing.specs.Reasons.{IsReason};
 ghost use Rattle.placing.specs.Faults.{HasFault, IsFaultless};
 
@@ -41,7 +41,9 @@ pub(crate) struct ByKind {
 }
 
 /// Where an operation stands, counted from 1.
-pub(crate) fn place_of(index: usize) -> u64 {
+pub(crate) fn place_of(index: usize) -> u64
+    ensures { index + 1 < 2 ^ 64 → result ≡ index + 1 }
+{
     (index as u64).saturating_add(1)
 }
 

@@ -1,13 +1,14 @@
 //! Laws of what is answered of a recorded history, each the contract of a function that does nothing.
-ghost use Rattle.std.specs.Prelude.{◌≡◌, ◌↔◌, ℕ, ◌+◌, List};
+ghost use Rattle.std.specs.Prelude.{◌≡◌, ◌↔◌, ℕ, List, All};
 ghost use Rattle.history.specs.declared.operations.Stamped.{Stamped};
 ghost use Rattle.history.specs.declared.operations.Verdict.TheVariants.{Yes};
 ghost use Rattle.history.specs.History.{verdict};
 ghost use Rattle.placing.specs.declared.answers.Reason.{Reason};
-ghost use Rattle.placing.specs.Calls.{IsOfQueue};
+ghost use Rattle.waiting_orders.specs.Waiting.{IsOfQueue};
 ghost use Rattle.placing.specs.SpreadStamps.{IsSpread, KeepsEachOrder};
 ghost use Rattle.placing.specs.Reasons.{IsReason};
-ghost use Rattle.placing.specs.Tries.{Ending, UsedUp, Ends};
+ghost use Rattle.placing.specs.declared.marks.Marked.{Marked};
+ghost use Rattle.placing.specs.Parts.{all_of, begun, part_of, MayBeOut};
 
 /// Where a history with points is judged `Yes`, and is another one but for stamps spread alike, that one is one of a
 /// queue.
@@ -35,16 +36,13 @@ pub fn a_reason_excludes()
     ensures { (ops : List Stamped) (reason : Reason) → IsReason ops reason → ¬ IsOfQueue ops }
 {}
 
-/// With more steps a search that wasn't out of steps ends as it did: with the same order, or with nothing left to try.
-pub fn more_steps_end_alike()
-    //= judge/steps: A search that ended before its steps were used up ends so with more steps too.
-    ensures { (ops : List Stamped) (steps more : ℕ) (ending : Ending)
-        → ¬ (ending ≡ UsedUp) → Ends ops steps ending → Ends ops (steps + more) ending }
-{}
-
-/// A search ends in one way: where several operations begin or end at one number, in the order of their indices.
-pub fn a_search_ends_in_one_way()
-    //= judge/one_way: Within the same steps a search of the same operations ends in one way.
-    ensures { (ops : List Stamped) (steps : ℕ) (one other : Ending)
-        → Ends ops steps one → Ends ops steps other → one ≡ other }
+/// A history that is one of a queue was one at each number, when what ended later had been told nothing; and each part of it is
+/// one that leaves out what may be left out.
+pub fn a_part_is_of_a_queue()
+    //= judge/parts (begun, left_out): Where a recorded history is one of a queue, so is what began by a number, told nothing
+    //=   where it ended later; and so is what is left of it without all pushes and pops of some values, without pushes of
+    //=   values that no pop left was told, and without what was refused or found the queue empty.
+    ensures begun { (ops : List Stamped) (time : ℕ) → IsOfQueue ops → IsOfQueue (begun time ops) }
+    ensures left_out { (marks : List Marked) → All (MayBeOut (part_of marks)) marks
+        → IsOfQueue (all_of marks) → IsOfQueue (part_of marks) }
 {}

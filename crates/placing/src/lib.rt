@@ -2,24 +2,24 @@
 #![tactic(auto)]
 
 mod answers;
-mod backtracking;
 mod counts;
 mod cuts;
 mod held_values;
 mod kinds;
 mod known;
 pub mod laws;
-mod links;
-mod object;
+mod marks;
 mod operation_order;
 mod operations;
 mod pairs;
+mod parts;
 mod placement;
 mod reasons;
 mod shut_faults;
 mod shut_reasons;
 mod spread_stamps;
 mod stamp_room;
+mod stuck;
 mod times;
 mod value_order;
 mod value_reasons;

@@ -1,15 +1,15 @@
 //! Linearization points for a recorded history, or a reason why there are none.
-ghost use Rattle.std.specs.Prelude.{◌≡◌, ◌↔◌, ◌≤◌, IsTrue, IfOk, IfErr, IfSome, IsSome, IsSomeAnd, All, length};
+ghost use Rattle.std.specs.Prelude.{◌≡◌, ◌↔◌, ◌≤◌, ℕ, IsTrue, IfOk, IfErr, IfSome, IsSome, IsSomeAnd, All, length};
 ghost use Rattle.history.specs.declared.operations.Verdict.TheVariants.{Yes};
 ghost use Rattle.history.specs.History.{verdict};
 ghost use Rattle.placing.specs.declared.answers.Placed.TheVariants.{History};
+ghost use Rattle.waiting_orders.specs.Waiting.{IsOfQueue};
 ghost use Rattle.placing.specs.SpreadStamps.{IsSpread};
 ghost use Rattle.placing.specs.Orders.{IsOrder};
 ghost use Rattle.placing.specs.Faults.{IsFaultless};
 ghost use Rattle.placing.specs.Answers.{IsAnswer, HasCause};
 
 use crate::answers::{Placed, Reason, Unknown};
-use crate::backtracking::{SearchEnd, searched};
 use crate::cuts::{Cutting, cut};
 use crate::kinds::{ByKind, first_fault, sorted};
 use crate::known::Known;
@@ -19,11 +19,13 @@ use crate::reasons::is_reason;
 use crate::shut_faults::shut_fault;
 use crate::spread_stamps::{Spread, pointed};
 use crate::stamp_room::fitted;
+use crate::stuck::stuck;
 use crate::value_order::{Ordered, order_of, values_of};
 use crate::value_reasons::{full, out_of_order};
-use crate::without_shut::{is_run, is_shut, unshut};
+use crate::without_shut::{is_shut, unshut};
 use history::{Refusal, Stamped, Verdict, check};
 use std::alloc::{AllocError, Global};
+use waiting_orders::{Found as Searched, searched};
 
 // What is found of a history, before it is judged.
 #[derive(Drop)]
@@ -37,19 +39,18 @@ enum Found {
 /// Whether a recorded history is one of a queue. Its points are not read.
 ///
 /// The answer is a history with points that `check` judges Yes, or a reason that holds, or neither; and a reason where an
-/// operation is wrong by itself. Where each value is pushed once and nothing shuts the queue, points or a reason are found;
-/// that is tested, and not proved. For other histories an order is guessed at, and then searched for within so many steps.
-/// The call takes memory for the operations, and time `n * log n` for `n` of them; a search takes both for each of its
-/// steps, and those of one that ends are at most exponential. It doesn't wait. It is refused by `Memory` alone.
-pub fn place(alloc: Global, history: &[Stamped], steps: u64) -> Result<Placed, Refusal>
+/// operation is wrong by itself. An order is guessed at; where the guess is none, it is searched for, and a search whose states
+/// take no more than so many bytes ends with an order, or with a reason. The call takes memory for the operations, and time
+/// `n * log n` for `n` of them; a search takes both for each of its states, of which there may be exponentially many. It
+/// doesn't wait. It is refused by `Memory` alone.
+pub fn place(alloc: Global, history: &[Stamped], room: u64) -> Result<Placed, Refusal>
     //= judge/answers (answer, only_memory): A recorded history is answered with points by which it is judged Yes, its
     //=   stamps as they were or spread, by a reason that holds, or that neither was found, which is said of none with
     //=   an operation that is wrong by itself. Or Memory.
     ensures answer { IfOk result (IsAnswer history.now) }
-    //= judge/open: Open is told by a search, defined step by step: `Steps` after as many steps as were given, of which
-    //=   none ended it, `Searched` where it ended within them with nothing left to try, `Unplaced` with an order by
-    //=   which a history of at most 2,147,483,648 operations isn't one of a queue.
-    ensures cause { IfOk result (HasCause history.now steps) }
+    //= judge/open: Open is told as `Room`, where the search took more room than it may, which no clause says; or as
+    //=   `Unplaced`, with an order by which a history of at most 2,147,483,648 operations isn't one of a queue.
+    ensures cause { IfOk result (HasCause history.now room) }
     ensures only_memory { IfErr result (λ refusal. refusal ≡ Refusal.Memory) }
 {
     if let Some(fault) = first_fault(history) {
@@ -58,29 +59,54 @@ pub fn place(alloc: Global, history: &[Stamped], steps: u64) -> Result<Placed, R
     match find(alloc, history) {
         Ok(Found::Order(order)) => match placed(alloc, history, &order)? {
             Some(new) => Ok(Placed::History(new)),
-            None => sought(alloc, history, steps),
+            None => sought(alloc, history, room),
         },
-        Ok(Found::Reason(reason)) => excluded(alloc, history, reason, steps),
-        Ok(Found::Nothing) => sought(alloc, history, steps),
+        Ok(Found::Reason(reason)) => excluded(alloc, history, reason, room),
+        Ok(Found::Nothing) => sought(alloc, history, room),
         Err(_) => Err(Refusal::Memory),
     }
 }
 
-// The history with points by an order that a search finds.
-#[tactic(auto, using(crate::proofs::Trying::finds_unplaced))]
-fn sought(alloc: Global, history: &[Stamped], steps: u64) -> Result<Placed, Refusal>
+// The history with points by an order that a search finds, or the reason that there is none.
+fn sought(alloc: Global, history: &[Stamped], room: u64) -> Result<Placed, Refusal>
     requires { All IsFaultless history.now }
     ensures answer { IfOk result (IsAnswer history.now) }
-    ensures cause { IfOk result (HasCause history.now steps) }
+    ensures cause { IfOk result (HasCause history.now room) }
     ensures only_memory { IfErr result (λ refusal. refusal ≡ Refusal.Memory) }
 {
-    match searched(alloc, history, steps) {
-        Ok(SearchEnd::Order(order)) => match placed(alloc, history, &order)? {
-            Some(new) => Ok(Placed::History(new)),
-            None => Ok(Placed::Open(Unknown::Unplaced)),
-        },
-        Ok(SearchEnd::Nothing) => Ok(Placed::Open(Unknown::Searched)),
-        Ok(SearchEnd::Steps) => Ok(Placed::Open(Unknown::Steps)),
+    match searched(alloc, history, room) {
+        Ok(Searched::Order(order)) => by_order(alloc, history, &order),
+        Ok(Searched::Nothing) => at_end(alloc, history, room),
+        Ok(Searched::Room) => Ok(Placed::Open(Unknown::Room)),
+        Err(_) => Err(Refusal::Memory),
+    }
+}
+
+// The history with points by an order, where it is one.
+fn by_order(alloc: Global, history: &[Stamped], order: &[usize]) -> Result<Placed, Refusal>
+    requires { All IsFaultless history.now }
+    ensures answer { IfOk result (IsAnswer history.now) }
+    ensures cause { (room : ℕ) → IfOk result (HasCause history.now room) }
+    ensures only_memory { IfErr result (λ refusal. refusal ≡ Refusal.Memory) }
+{
+    match placed(alloc, history, order)? {
+        Some(new) => Ok(Placed::History(new)),
+        None => Ok(Placed::Open(Unknown::Unplaced)),
+    }
+}
+
+// The reason of a search that ended with nothing left to try. Of a history of pushes alone, which never comes here, an order
+// is tried.
+fn at_end(alloc: Global, history: &[Stamped], room: u64) -> Result<Placed, Refusal>
+    requires all { All IsFaultless history.now }
+    requires none { ¬ IsOfQueue history.now }
+    ensures answer { IfOk result (IsAnswer history.now) }
+    ensures cause { IfOk result (HasCause history.now room) }
+    ensures only_memory { IfErr result (λ refusal. refusal ≡ Refusal.Memory) }
+{
+    match stuck(alloc, history, room) {
+        Ok(Some(reason)) => Ok(Placed::Impossible(reason)),
+        Ok(None) => by_order(alloc, history, &[]),
         Err(_) => Err(Refusal::Memory),
     }
 }
@@ -90,16 +116,16 @@ fn excluded(
     alloc: Global,
     history: &[Stamped],
     reason: Reason,
-    steps: u64,
+    room: u64,
 ) -> Result<Placed, Refusal>
     requires { All IsFaultless history.now }
     ensures answer { IfOk result (IsAnswer history.now) }
-    ensures cause { IfOk result (HasCause history.now steps) }
+    ensures cause { IfOk result (HasCause history.now room) }
     ensures only_memory { IfErr result (λ refusal. refusal ≡ Refusal.Memory) }
 {
     match Known::of(alloc, history) {
         Ok(known) if is_reason(history, &known, &reason) => Ok(Placed::Impossible(reason)),
-        Ok(_) => sought(alloc, history, steps),
+        Ok(_) => sought(alloc, history, room),
         Err(_) => Err(Refusal::Memory),
     }
 }
@@ -205,20 +231,8 @@ fn of_open(alloc: Global, history: &[Stamped]) -> Result<Found, AllocError> {
 fn of_shut(alloc: Global, history: &[Stamped]) -> Result<Found, AllocError> {
     let unshut = unshut(alloc, history)?;
     match of_open(alloc, &unshut)? {
-        Found::Order(order) => run_or_nothing(alloc, history, order),
+        Found::Order(order) => Ok(Found::Order(order)),
         Found::Reason(_) | Found::Nothing => Ok(Found::Nothing),
-    }
-}
-
-fn run_or_nothing(
-    alloc: Global,
-    history: &[Stamped],
-    order: Vec<usize>,
-) -> Result<Found, AllocError> {
-    if is_run(alloc, history, &order)? {
-        Ok(Found::Order(order))
-    } else {
-        Ok(Found::Nothing)
     }
 }
 

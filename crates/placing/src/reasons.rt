@@ -30,6 +30,8 @@ pub(crate) fn is_reason(history: &[Stamped], known: &Known, reason: &Reason) -> 
         Reason::Twice { place, other } => is_twice(history, *place, *other),
         Reason::Unshut { place } => is_unshut(history, *place),
         Reason::Undrained { place, held } => is_undrained(history, known, *place, held),
+        // That is known from a search alone.
+        Reason::Stuck { .. } => false,
     }
 }
 

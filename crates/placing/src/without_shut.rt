@@ -1,6 +1,5 @@
 //! A history in which the queue is shut, as one in which it isn't.
 use crate::known::Known;
-use crate::object::Object;
 use crate::operations::{is_told_shut, shows_shut};
 use history::{Op, Refusal, Reply, Stamped};
 use std::alloc::{AllocError, Global};
@@ -109,36 +108,4 @@ fn unshut_operation(operation: &Stamped, is_pushed: bool, time: u64) -> Stamped 
         (Op::Shut, _) => with(operation, first, None, None),
         (Op::Enq(_) | Op::Deq, _) => with(operation, first, last, operation.reply),
     }
-}
-
-/// Whether operations in this order keep time, and the queue gives each reply, of all that were told one.
-pub(crate) fn is_run(
-    alloc: Global,
-    history: &[Stamped],
-    order: &[usize],
-) -> Result<bool, AllocError> {
-    let mut object = Object::new(alloc);
-    let mut time = 0;
-    let mut told = 0usize;
-    for index in order {
-        let Some(operation) = history.get(*index) else {
-            return Ok(false);
-        };
-        time = operation.first.max(time);
-        match object.effect_of(operation.op, operation.reply) {
-            Some(effect) if time <= operation.last.unwrap_or(time) => {
-                object.apply(operation.actor, operation.op, effect)?;
-            }
-            Some(_) | None => return Ok(false),
-        }
-        if operation.reply.is_some() {
-            told = told.saturating_add(1);
-        }
-    }
-    Ok(
-        told == history
-            .iter()
-            .filter(|operation| operation.reply.is_some())
-            .count(),
-    )
 }

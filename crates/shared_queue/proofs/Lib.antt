@@ -1,4 +1,6 @@
+pub mod ByEntries
 pub mod Dealt
+mod FurtherSeats
 pub mod MetSeats
 pub mod Shares
 pub mod Tries

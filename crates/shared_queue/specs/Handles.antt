@@ -3,11 +3,16 @@ use Rattle.carriers.specs.declared.queues.Carrier.{Ghosts}
 use Rattle.shared_queue.specs.Queues.{queue_of}
 use Rattle.shared_queue.specs.declared.sender.Sender.{Sender}
 use Rattle.shared_queue.specs.declared.receiver.Receiver.{Receiver}
+use Rattle.shared_queue.specs.declared.sides.Side.{Side}
 
 module _ {C A S : Type 0} {carrier : Ghosts C A S} where
   -- the queue of a sender
   abbrev pub sender_queue : Sender C A S carrier → C
   sender_queue h = queue_of h.queue.value
+
+  -- its side, which all senders share
+  abbrev pub sender_side : Sender C A S carrier → Side C A S carrier
+  sender_side h = h.side.value
 
   -- its seat
   abbrev pub sender_seat : Sender C A S carrier → S
@@ -16,6 +21,10 @@ module _ {C A S : Type 0} {carrier : Ghosts C A S} where
   -- the queue of a receiver
   abbrev pub receiver_queue : Receiver C A S carrier → C
   receiver_queue h = queue_of h.queue.value
+
+  -- its side, which all receivers share
+  abbrev pub receiver_side : Receiver C A S carrier → Side C A S carrier
+  receiver_side h = h.side.value
 
   -- its seat
   abbrev pub receiver_seat : Receiver C A S carrier → S

@@ -1,5 +1,4 @@
 pub mod Answers
-pub mod Causes
 pub mod Closers
 pub mod Ends
 pub mod Handles

@@ -7,10 +7,9 @@ ghost use Rattle.shared_queue.specs.Hearings.{seat_heard};
 ghost use Rattle.shared_queue.specs.Queues.{queue_of};
 ghost use Rattle.shared_queue.specs.Unshuts.{seat_unshut};
 
-use crate::deadlines::park;
+use crate::deadlines::{Deadline, park};
 use crate::queue::SharedQueue;
 use crate::shuts::Unshut;
-use blocking_queue::Deadline;
 use carriers::Carrier;
 use std::snapshot::Snapshot;
 use std::sync::Wait;

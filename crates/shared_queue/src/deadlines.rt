@@ -1,8 +1,7 @@
 //! When a call stops waiting.
-ghost use Rattle.std.specs.Prelude.{◌≡◌, IsTrue, true, false, IfSome, OnSome};
+ghost use Rattle.std.specs.Prelude.{◌≡◌, IsTrue, Bool, true, false, IfSome, OnSome};
 ghost use Rattle.shared_queue.specs.Lates.{seat_then};
 
-use blocking_queue::Deadline;
 use std::snapshot::Snapshot;
 use std::sync::Wait;
 use std::sync::atomic::AtomicU64;
@@ -28,6 +27,20 @@ pub enum InTime<T, L> {
 pub struct Unsent<T, S> {
     pub late: Late<S>,
     pub value: T,
+}
+
+/// When a call stops waiting: once a time is over, or something else is so. Who lets that become so otherwise than by time
+/// then calls `wake_all`, since a call that sleeps looks only where it is woken, or the time is over that `left` tells.
+pub trait Deadline {
+    // It comes at all.
+    ghost comes: { Self → Bool };
+
+    /// Whether it has come.
+    fn is_past(&self) -> bool
+        ensures { IsTrue result → IsTrue (comes self.now) };
+
+    /// How long a sleep may be; none where that is as long as it takes.
+    fn left(&self) -> Option<Duration>;
 }
 
 /// The call waits as long as it takes.

@@ -3,6 +3,7 @@
 #![tactic(auto)]
 
 mod bells;
+mod clones;
 mod closers;
 mod deadlines;
 mod meets;
@@ -18,7 +19,7 @@ mod shuts;
 mod sides;
 mod steps;
 
-pub use deadlines::{InTime, Late, Unsent};
+pub use deadlines::{Deadline, InTime, Late, Unsent};
 pub use new_sides::{receivers, senders};
 pub use queue::SharedQueue;
 pub use receiver::Receiver;

@@ -15,7 +15,7 @@ use std::sync::Arc;
 #[derive(Drop)]
 pub struct Receiver<C: Carrier + Drop> {
     pub(crate) queue: Arc<SharedQueue<C>, Global>,
-    side: Arc<Side<C>, Global>,
+    pub(crate) side: Arc<Side<C>, Global>,
     pub(crate) seat: C::Seat,
     ghost sits: { ∥ IsTaker C.is_seat C.permits C.known (queue_of queue.value) seat ∥₁ },
 }

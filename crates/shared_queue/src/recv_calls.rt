@@ -6,10 +6,9 @@ ghost use Rattle.shared_queue.specs.Queues.{queue_of};
 ghost use Rattle.shared_queue.specs.Answers.{ReceivedOf, RecvRefusedOf, RecvAnswersOf, Ends, EndsAfterWaitOf};
 
 use crate::TURNS;
-use crate::deadlines::{At, InTime, Late, Never};
+use crate::deadlines::{At, Deadline, InTime, Late, Never};
 use crate::queue::SharedQueue;
 use crate::steps::{Waiting, refused};
-use blocking_queue::Deadline;
 use calls::{Act, Seen, Task, advance};
 use carriers::{Carrier, ItemOf};
 use crossbeam_utils::Backoff;

@@ -3,14 +3,12 @@ ghost use Rattle.std.specs.Prelude.{◌≡◌, IsTrue, IfErr, IfOk, OnOk, Err};
 ghost use Rattle.history.specs.Seats.{MayPush};
 ghost use Rattle.carriers.specs.Answers.{PushedOf, PushRefusedOf, EndsByTryOf};
 ghost use Rattle.shared_queue.specs.Queues.{queue_of};
-ghost use Rattle.shared_queue.specs.Causes.{SendCause};
 ghost use Rattle.shared_queue.specs.Answers.{SendAnswersOf, EndsSend, Ends};
 
 use crate::TURNS;
-use crate::deadlines::{At, InTime, Never, Unsent};
+use crate::deadlines::{At, Deadline, InTime, Never, Unsent};
 use crate::queue::SharedQueue;
 use crate::steps::{Waiting, refused};
-use blocking_queue::Deadline;
 use calls::{Act, Seen, Task, advance};
 use carriers::{Carrier, Unpushed};
 use crossbeam_utils::Backoff;
@@ -36,8 +34,8 @@ impl<C: Carrier> SharedQueue<C> {
         requires seat { C.is_seat (queue_of self.now) seat.old }
         requires role { MayPush (C.permits (queue_of self.now)) (C.known seat.old).number }
         //= carriers/sent (seat, number, pushed, back, refused, refusal, caused): A `send` pushes the value, or is refused as
-        //=   a `push` is, but never for want of a node, and hands this very value back. It then has the cause of a push of 8
-        //=   turns or, where it is `Closed`, that or the cause of a shut that was refused so.
+        //=   a `push` is, but never for want of a node, with the cause of a try of 8 turns, and hands this very value
+        //=   back.
         ensures seat { C.is_seat (queue_of self.now) seat.new }
         ensures number { (C.known seat.new).number ≡ (C.known seat.old).number }
         ensures pushed { OnOk result (PushedOf (C.known seat.old) value (C.known seat.new)) }
@@ -46,7 +44,7 @@ impl<C: Carrier> SharedQueue<C> {
             (λ unpushed. PushRefusedOf (C.known seat.old) unpushed.refusal (C.known seat.new)) }
         ensures refusal { IfErr result (λ unpushed. EndsSend unpushed.refusal) }
         ensures caused { IfErr result
-            (λ unpushed. EndsByTryOf C.is_seat C.known (SendCause C.push_cause C.shut_cause)
+            (λ unpushed. EndsByTryOf C.is_seat C.known C.push_cause
             (queue_of self.now) seat.old seat.new 8 unpushed.refusal) }
     {
         match self.send_until(rt, seat, value, &Never)? {
@@ -88,7 +86,7 @@ impl<C: Carrier> SharedQueue<C> {
             (λ unpushed. PushRefusedOf (C.known seat.old) unpushed.refusal (C.known seat.new)) }
         ensures refusal { IfErr result (λ unpushed. EndsSend unpushed.refusal) }
         ensures caused { IfErr result
-            (λ unpushed. EndsByTryOf C.is_seat C.known (SendCause C.push_cause C.shut_cause)
+            (λ unpushed. EndsByTryOf C.is_seat C.known C.push_cause
             (queue_of self.now) seat.old seat.new 8 unpushed.refusal) }
     {
         self.send_until(rt, seat, value, &At::after(rt, timeout))
@@ -121,7 +119,7 @@ impl<C: Carrier> SharedQueue<C> {
             (λ unpushed. PushRefusedOf (C.known seat.old) unpushed.refusal (C.known seat.new)) }
         ensures refusal { IfErr result (λ unpushed. EndsSend unpushed.refusal) }
         ensures caused { IfErr result
-            (λ unpushed. EndsByTryOf C.is_seat C.known (SendCause C.push_cause C.shut_cause)
+            (λ unpushed. EndsByTryOf C.is_seat C.known C.push_cause
             (queue_of self.now) seat.old seat.new 8 unpushed.refusal) }
     {
         self.send_until(rt, seat, value, &At::instant(rt, deadline))
@@ -155,7 +153,7 @@ impl<C: Carrier> SharedQueue<C> {
             (λ unpushed. PushRefusedOf (C.known seat.old) unpushed.refusal (C.known seat.new)) }
         ensures refusal { IfErr result (λ unpushed. EndsSend unpushed.refusal) }
         ensures caused { IfErr result
-            (λ unpushed. EndsByTryOf C.is_seat C.known (SendCause C.push_cause C.shut_cause)
+            (λ unpushed. EndsByTryOf C.is_seat C.known C.push_cause
             (queue_of self.now) seat.old seat.new 8 unpushed.refusal) }
     {
         let mut waiting = Waiting::new(Task::Push);

@@ -2,7 +2,6 @@
 ghost use Rattle.std.specs.Prelude.{◌≡◌, IfErr, IfOk, OnOk};
 ghost use Rattle.history.specs.Answers.{StopsPush};
 ghost use Rattle.carriers.specs.Answers.{PushedOf, PushRefusedOf, EndsByTryOf};
-ghost use Rattle.shared_queue.specs.Causes.{SendCause};
 ghost use Rattle.shared_queue.specs.Answers.{SendAnswersOf, EndsSend};
 
 use crate::TURNS;
@@ -35,7 +34,7 @@ impl<C: Carrier + Drop> Sender<C> {
             (C.known (sender_seat self.new))) }
         ensures refusal { IfErr result (λ unpushed. EndsSend unpushed.refusal) }
         ensures caused { IfErr result
-            (λ unpushed. EndsByTryOf C.is_seat C.known (SendCause C.push_cause C.shut_cause)
+            (λ unpushed. EndsByTryOf C.is_seat C.known C.push_cause
             (sender_queue self.old) (sender_seat self.old) (sender_seat self.new) 8
             unpushed.refusal) }
     {
@@ -70,7 +69,7 @@ impl<C: Carrier + Drop> Sender<C> {
             (C.known (sender_seat self.new))) }
         ensures refusal { IfErr result (λ unpushed. EndsSend unpushed.refusal) }
         ensures caused { IfErr result
-            (λ unpushed. EndsByTryOf C.is_seat C.known (SendCause C.push_cause C.shut_cause)
+            (λ unpushed. EndsByTryOf C.is_seat C.known C.push_cause
             (sender_queue self.old) (sender_seat self.old) (sender_seat self.new) 8
             unpushed.refusal) }
     {
@@ -102,7 +101,7 @@ impl<C: Carrier + Drop> Sender<C> {
             (C.known (sender_seat self.new))) }
         ensures refusal { IfErr result (λ unpushed. EndsSend unpushed.refusal) }
         ensures caused { IfErr result
-            (λ unpushed. EndsByTryOf C.is_seat C.known (SendCause C.push_cause C.shut_cause)
+            (λ unpushed. EndsByTryOf C.is_seat C.known C.push_cause
             (sender_queue self.old) (sender_seat self.old) (sender_seat self.new) 8
             unpushed.refusal) }
     {

@@ -41,7 +41,7 @@ impl<C: Carrier> SharedQueue<C> {
         ensures refused { IfErr result
             (λ refusal. PushRefusedOf (C.known seat.old) refusal (C.known seat.new)) }
         ensures closed { IfErr result (λ refusal. refusal ≡ Refusal.Closed) }
-        ensures caused { IfErr result (EndsByTryOf C.is_seat C.known C.shut_cause (queue_of self.now)
+        ensures caused { IfErr result (EndsByTryOf C.is_seat C.known C.push_cause (queue_of self.now)
             seat.old seat.new 8) }
     {
         if self.is_shut.load(SeqCst) {

@@ -4,9 +4,8 @@ ghost use Rattle.shared_queue.specs.Hearings.{seat_heard};
 ghost use Rattle.shared_queue.specs.Lates.{seat_then};
 
 use crate::bells::{Heard, Words};
-use crate::deadlines::{Late, is_over};
+use crate::deadlines::{Deadline, Late, is_over};
 use crate::queue::SharedQueue;
-use blocking_queue::Deadline;
 use calls::{Access, Act, Bell, Call, Code, Phase, Seen, Task, access, advance, start};
 use history::Refusal;
 use std::sync::atomic::Ordering::SeqCst;

@@ -15,9 +15,9 @@ use Rattle.show_engine.specs.declared.frames.View.{View}
 use Rattle.show_engine.specs.Found.{BeginsFound, DrawsFound}
 use Rattle.show_engine.specs.Reasons.{found_picture}
 
-module _ {A : Type 0} (view : View) (given : Option (List ℕ)) (text : List ℕ) (ops : List Stamped) (answer : Placed) (steps : ℕ) (a b : SinkState)
-    (result : Result A Refusal) (history : IsRecordOf given text ops) (answers : IsAnswer ops answer) (cause : HasCause ops steps answer) where
-  pub draws_found : OnOk result (Appends a.contents b.contents (found_picture view text ops answer)) → OnOk result (DrawsFound view given steps a b)
+module _ {A : Type 0} (view : View) (given : Option (List ℕ)) (text : List ℕ) (ops : List Stamped) (answer : Placed) (room : ℕ) (a b : SinkState)
+    (result : Result A Refusal) (history : IsRecordOf given text ops) (answers : IsAnswer ops answer) (cause : HasCause ops room answer) where
+  pub draws_found : OnOk result (Appends a.contents b.contents (found_picture view text ops answer)) → OnOk result (DrawsFound view given room a b)
   draws_found =
       on_ok_weaker result
       (λ written. record {
@@ -32,10 +32,10 @@ module _ {A : Type 0} (view : View) (given : Option (List ℕ)) (text : List ℕ
       })
 
   pub begins_found : IfErr result (λ refusal. refusal ≡ Write → TakesPrefix a.contents b.contents (found_picture view text ops answer))
-      → IfErr result (λ refusal. refusal ≡ Write → BeginsFound view given steps a b)
+      → IfErr result (λ refusal. refusal ≡ Write → BeginsFound view given room a b)
   begins_found =
       IfErr-weaker result (λ refusal. refusal ≡ Write → TakesPrefix a.contents b.contents (found_picture view text ops answer))
-      (λ refusal. refusal ≡ Write → BeginsFound view given steps a b)
+      (λ refusal. refusal ≡ Write → BeginsFound view given room a b)
       (λ refusal begun write. record {
         text = text;
         operations = ops;

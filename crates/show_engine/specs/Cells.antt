@@ -7,7 +7,6 @@ use Rattle.history.specs.declared.refusals.Refusal.TheVariants.{NoNode, WornOut,
 use Rattle.history_text.specs.HistoryText.{reply_text}
 use Rattle.line_steps.specs.Memory.{Shared, Word, Fresh, Free, Head, Tail, Tail_lock, Head_lock, Next, Value_of}
 use Rattle.line_table.specs.declared.lines.Line.{Line}
-use Rattle.line_table.specs.declared.lines.Line.TheVariants.{N4, N5, F3, E9, E13, E17, D10, D13, A3, A5, B1, S4, S5, S6, S8}
 use Rattle.line_table.specs.Names.{name_of}
 use Rattle.step_machine.specs.declared.accesses.Contents.{Contents}
 use Rattle.step_machine.specs.declared.accesses.Contents.TheVariants.{Number, Reference, Closed, Value}
@@ -33,39 +32,24 @@ held_text (Reference node count) = codes "<" ++ decimal node ++ codes "," ++ dec
 held_text (Closed count) = codes "<shut," ++ decimal count ++ codes ">"
 held_text (Value v) = codes "(" ++ decimal v.from ++ codes "," ++ decimal v.body ++ codes ")"
 
--- whether a line's access is a compare-exchange
-abbrev pub exchanges : Line → Bool
-exchanges N4 = true
-exchanges N5 = true
-exchanges F3 = true
-exchanges E9 = true
-exchanges E13 = true
-exchanges E17 = true
-exchanges D10 = true
-exchanges D13 = true
-exchanges A3 = true
-exchanges A5 = true
-exchanges B1 = true
-exchanges S4 = true
-exchanges S5 = true
-exchanges S6 = true
-exchanges S8 = true
-exchanges _ = false
+-- what an exchange that is lost expected, if it is one
+abbrev pub lost_text : (expected : Option Contents) → List ℕ
+lost_text None = []
+lost_text (Some c) = codes " lost, not " ++ held_text c
 
--- what became of a word that held one text and holds another: it was changed; or it wasn't, and then the exchange is lost to
--- what the word holds, or the word was read
-abbrev pub change_text : Line → (found now : List ℕ) → List ℕ
-change_text l found now =
-    if bytes_eq found now then (if exchanges l then codes " lost to " else codes " ") ++ now else codes " := " ++ now
+-- what became of a word that held one text and holds another: it was changed; or it wasn't, and then it was read, or the exchange is
+-- lost that expected this
+abbrev pub change_text : (expected : Option Contents) → (found now : List ℕ) → List ℕ
+change_text expected found now = if bytes_eq found now then codes " " ++ now ++ lost_text expected else codes " := " ++ now
 
--- the access of a word at a line, by what was found there and what is there now
-abbrev pub access_text : Line → Word → (found now : Contents) → List ℕ
-access_text l x found now = name_of l ++ codes " " ++ place_text x ++ change_text l (held_text found) (held_text now)
+-- the access of a word at a line, by what it expected, what was found there and what is there now
+abbrev pub access_text : Line → Word → (expected : Option Contents) → (found now : Contents) → List ℕ
+access_text l x expected found now = name_of l ++ codes " " ++ place_text x ++ change_text expected (held_text found) (held_text now)
 
 -- the same, where so many bits hold a node, by these shared words before and those after
-abbrev pub touch_text : (bits : ℕ) → Line → Option Word → (before after : Shared) → List ℕ
-touch_text bits l None before after = []
-touch_text bits l (Some x) before after = access_text l x (contents_in bits x before) (contents_in bits x after)
+abbrev pub touch_text : (bits : ℕ) → Line → Option Word → (expected : Option Contents) → (before after : Shared) → List ℕ
+touch_text bits l None expected before after = []
+touch_text bits l (Some x) expected before after = access_text l x expected (contents_in bits x before) (contents_in bits x after)
 
 -- the name of a refusal that a queue answers, as it stands behind its number
 abbrev pub name_text : Reply → List ℕ

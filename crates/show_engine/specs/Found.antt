@@ -18,25 +18,25 @@ pub record AreRising (numbers rising : List ℕ) : Type 0 where
   pub order : IsNonDecreasing rising
   pub same : (number : ℕ) → is_among rising number ≡ is_among numbers number
 
--- known bytes were the text of a recorded history or of a recording, an answer of it, by a search of at most so many steps, says
+-- known bytes were the text of a recorded history or of a recording, an answer of it, by a search whose states take at most so many bytes, says
 -- what is so, and the picture of it was written
-pub record DrawsFound (view : View) (given : Option (List ℕ)) (steps : ℕ) (old new : SinkState) : Type 0 where
+pub record DrawsFound (view : View) (given : Option (List ℕ)) (room : ℕ) (old new : SinkState) : Type 0 where
   pub text : List ℕ
   pub operations : List Stamped
   pub answer : Placed
   pub history : IsRecordOf given text operations
   pub answers : IsAnswer operations answer
-  pub cause : HasCause operations steps answer
+  pub cause : HasCause operations room answer
   pub right : SaysOf operations answer
   pub written : Appends old.contents new.contents (found_picture view text operations answer)
 
 -- known bytes were the text of a recorded history or of a recording, and a prefix of the picture of an answer of it was written, by
--- a search of at most so many steps
-pub record BeginsFound (view : View) (given : Option (List ℕ)) (steps : ℕ) (old new : SinkState) : Type 0 where
+-- a search whose states take at most so many bytes
+pub record BeginsFound (view : View) (given : Option (List ℕ)) (room : ℕ) (old new : SinkState) : Type 0 where
   pub text : List ℕ
   pub operations : List Stamped
   pub answer : Placed
   pub history : IsRecordOf given text operations
   pub answers : IsAnswer operations answer
-  pub cause : HasCause operations steps answer
+  pub cause : HasCause operations room answer
   pub begun : TakesPrefix old.contents new.contents (found_picture view text operations answer)

@@ -8,7 +8,7 @@ use Rattle.schedule_text.specs.Schedules.{Schedule, moves_of}
 use Rattle.step_machine.specs.declared.actors.Move.{Move}
 use Rattle.step_machine.specs.declared.actors.Move.TheVariants.{Begin, Step, Give}
 use Rattle.step_machine.specs.declared.actors.Stepped.{Stepped}
-use Rattle.step_machine.specs.Accesses.{touched_by}
+use Rattle.step_machine.specs.Accesses.{expected_by, touched_by}
 use Rattle.step_machine.specs.Calls.{move_answer}
 use Rattle.step_machine.specs.Machine.{World, actor_of, mover}
 use Rattle.run_engine.specs.Runs.{opening_of}
@@ -53,7 +53,7 @@ told_row f marked bits w v m None = []
 told_row f marked bits w v (Begin me op) (Some told) = row_text f me [] (codes " " ++ call_text op) []
 told_row f marked bits w v (Step me) (Some told) =
     numbered_row f bits w v me
-    (cell_text (marked v.steps) told (λ l. touch_text bits l (touched_by w me (actor_of w me)) w.shared v.shared))
+    (cell_text (marked v.steps) told (λ l. touch_text bits l (touched_by w me (actor_of w me)) (expected_by bits w me (actor_of w me)) w.shared v.shared))
 told_row f marked bits w v (Give me) (Some told) = numbered_row f bits w v me (cell_text (marked v.steps) told gives_text)
 
 -- what a picture has of a move that led from a world to another: its row, where it is shown

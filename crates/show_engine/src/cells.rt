@@ -3,7 +3,7 @@ ghost use Rattle.std.specs.Prelude.{◌≡◌, ◌+◌, ◌≤◌, ◌++◌, cod
 ghost use Rattle.history_text.specs.HistoryText.{call_text};
 ghost use Rattle.step_machine.specs.Accesses.{word_named};
 ghost use Rattle.run_engine.specs.Stands.{at_text};
-ghost use Rattle.show_engine.specs.Cells.{access_text, answer_text, cell_text, change_text, exchanges, gives_text, held_text, mark_text, name_text, named_reply, place_text};
+ghost use Rattle.show_engine.specs.Cells.{access_text, answer_text, cell_text, change_text, gives_text, held_text, lost_text, mark_text, name_text, named_reply, place_text};
 
 use history::{Op, Refusal, Reply};
 use history_text::{push_call, push_reply};
@@ -74,46 +74,60 @@ fn held(contents: Contents) -> LineBuffer
     }
 }
 
-/// Whether a line's access is a compare-exchange.
-fn exchanges(at: Line) -> bool
-    ensures { result ≡ exchanges at }
+/// Puts at the end of a line what an exchange that is lost expected, if it is one.
+fn push_lost(line: &mut LineBuffer, expected: Option<Contents>)
+    requires { length line.old + 54 ≤ LINE_ROOM }
+    ensures text { line.new ≡ line.old ++ lost_text expected }
+    ensures short { length line.new ≤ length line.old + 54 }
 {
-    match at {
-        Line::N4 | Line::N5 | Line::F3 => true,
-        Line::E9 | Line::E13 | Line::E17 | Line::D10 | Line::D13 => true,
-        Line::A3 | Line::A5 | Line::B1 => true,
-        Line::S4 | Line::S5 | Line::S6 | Line::S8 => true,
-        _ => false,
+    if let Some(contents) = expected {
+        line.push(b" lost, not ");
+        line.push(held(contents).as_slice());
     }
 }
 
-/// Puts what became of a word at the end of a line, by what it held and what it holds.
-fn push_change(line: &mut LineBuffer, at: Line, found: &[u8], now: &[u8])
-    requires room { length line.old + 52 ≤ LINE_ROOM }
+/// Puts what became of a word at the end of a line, by what it held and what it holds, and what an exchange expected.
+fn push_change(line: &mut LineBuffer, expected: Option<Contents>, found: &[u8], now: &[u8])
+    requires room { length line.old + 98 ≤ LINE_ROOM }
     requires fits { length now.now ≤ 43 }
-    ensures text { line.new ≡ line.old ++ change_text at found.now now.now }
-    ensures short { length line.new ≤ length line.old + 52 }
+    ensures text { line.new ≡ line.old ++ change_text expected found.now now.now }
+    ensures short { length line.new ≤ length line.old + 98 }
 {
     if found != now {
         line.push(b" := ");
-    } else if exchanges(at) {
-        line.push(b" lost to ");
+        line.push(now);
     } else {
         line.push(b" ");
+        line.push(now);
+        push_lost(line, expected);
     }
-    line.push(now);
 }
 
-/// Puts the access of a word at a line, by what was found there and what is there now.
-fn push_access(line: &mut LineBuffer, at: Line, word: WordName, found: Contents, now: Contents)
-    requires { length line.old + 82 ≤ LINE_ROOM }
-    ensures text { line.new ≡ line.old ++ access_text at (word_named word) found now }
-    ensures short { length line.new ≤ length line.old + 82 }
+/// An access of a word: what it expected, if it is a compare-exchange, what it found, and what the word holds now.
+#[derive(Clone, Copy)]
+pub(crate) struct Access {
+    pub(crate) word: WordName,
+    pub(crate) expected: Option<Contents>,
+    pub(crate) found: Contents,
+    pub(crate) now: Contents,
+}
+
+/// Puts an access at a line.
+fn push_access(line: &mut LineBuffer, at: Line, access: Access)
+    requires { length line.old + 128 ≤ LINE_ROOM }
+    ensures text { line.new ≡ line.old
+        ++ access_text at (word_named access.word) access.expected access.found access.now }
+    ensures short { length line.new ≤ length line.old + 128 }
 {
     line.push(at.name().as_bytes());
     line.push(b" ");
-    push_place(line, word);
-    push_change(line, at, held(found).as_slice(), held(now).as_slice());
+    push_place(line, access.word);
+    push_change(
+        line,
+        access.expected,
+        held(access.found).as_slice(),
+        held(access.now).as_slice(),
+    );
 }
 
 /// Where an actor stands whose next step touches this word: before which line, and what the word holds.
@@ -192,20 +206,15 @@ pub(crate) fn begin_cell(op: &Op) -> LineBuffer
     cell
 }
 
-/// What a step is shown as, by what was found in the word that it touched and what is there now.
-pub(crate) fn step_cell(
-    is_marked: bool,
-    told: &Stepped,
-    word: WordName,
-    found: Contents,
-    now: Contents,
-) -> LineBuffer
-    ensures { result ≡ cell_text is_marked told.now (λ l. access_text l (word_named word) found now) }
+/// What a step is shown as, by its access.
+pub(crate) fn step_cell(is_marked: bool, told: &Stepped, access: Access) -> LineBuffer
+    ensures { result ≡ cell_text is_marked told.now
+        (λ l. access_text l (word_named access.word) access.expected access.found access.now) }
 {
     let mut cell = marked(is_marked);
     match *told {
         Stepped::Began => {}
-        Stepped::Went(at) | Stepped::Ended(at, _) => push_access(&mut cell, at, word, found, now),
+        Stepped::Went(at) | Stepped::Ended(at, _) => push_access(&mut cell, at, access),
     }
     push_answer(&mut cell, told);
     cell

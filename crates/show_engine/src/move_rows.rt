@@ -11,7 +11,7 @@ ghost use Rattle.show_engine.specs.Pictures.{drawn_text, told_row};
 ghost use Rattle.show_engine.specs.Rows.{number_text, row_text};
 ghost use Rattle.show_engine.specs.PicturesWritten.{is_among};
 
-use crate::cells::{begin_cell, give_cell, step_cell};
+use crate::cells::{Access, begin_cell, give_cell, step_cell};
 use crate::chains::{side_line, state_line};
 use crate::effects::is_among;
 use crate::frames::Frame;
@@ -100,11 +100,18 @@ fn step_row<const B: u32>(
     let Some(word) = world.touches(actor) else {
         unreachable!()
     };
+    let expected = world.expects(actor);
     let found = world.holds(word);
     let before = state_line(world);
     let told = told_step(world, actor);
     let is_marked = is_among(effects, world.steps());
-    let cell = step_cell(is_marked, &told, word, found, world.holds(word));
+    let access = Access {
+        word,
+        expected,
+        found,
+        now: world.holds(word),
+    };
+    let cell = step_cell(is_marked, &told, access);
     numbered_row(world, frame, actor, &cell, &before)
 }
 

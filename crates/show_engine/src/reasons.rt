@@ -93,20 +93,20 @@ pub fn show_found<R: Source, W: Sink>(
     reader: &mut R,
     writer: &mut W,
     view: View<'_>,
-    steps: u64,
+    room: u64,
 ) -> Result<(), Refusal>
     //= program/reason_picture (ok, quiet): `show_found` writes what `place_text` does, and behind the line of a
     //=   reason a row for each operation that the view shows from the first time of the reason's operations to their
     //=   last: whether it is one of them, its bar, and the line of the text that says it, with its number, byte for
     //=   byte.
     //= program/judge_refusals (ok, text, prefix, write, unwritten, refusal, reader)
-    ensures ok { OnOk result (DrawsFound view.entry (R.state reader.old).left steps
+    ensures ok { OnOk result (DrawsFound view.entry (R.state reader.old).left room
         (W.state writer.old) (W.state writer.new)) }
     ensures quiet { OnOk result ((W.state writer.new).failures ≡ (W.state writer.old).failures) }
     ensures text { IfErr result (TellsFaultOfRecord (R.state reader.old).left) }
     // Where writing fails, a prefix of that is written.
     ensures prefix { IfErr result (λ refusal. refusal ≡ Refusal.Write
-        → BeginsFound view.entry (R.state reader.old).left steps
+        → BeginsFound view.entry (R.state reader.old).left room
         (W.state writer.old) (W.state writer.new)) }
     ensures write { IfErr result (λ refusal. refusal ≡ Refusal.Write
         → GivesUp (W.state writer.old) (W.state writer.new)) }
@@ -117,6 +117,6 @@ pub fn show_found<R: Source, W: Sink>(
     ensures reader { EndsReadingFor result (R.state reader.old) (R.state reader.new) }
 {
     let given = record_in(alloc, reader)?;
-    let found = place(alloc, &given.history, steps)?;
+    let found = place(alloc, &given.history, room)?;
     draw_found(alloc, view, &given.text, &given.history, &found, writer)
 }

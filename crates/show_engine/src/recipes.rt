@@ -1,8 +1,8 @@
 //! From a reader's bytes of a recipe to a writer's of a picture.
 ghost use Rattle.std.specs.Prelude.{◌≡◌, ◌≢◌, ◌⊎◌, None, IfErr, OnOk, IfSome};
-ghost use Rattle.expand_engine.specs.Expansions.{CanBeMade, ExpansionRefused, TellsFaultyLine};
+ghost use Rattle.expand_engine.specs.Expansions.{CanBeMade, ExpansionRefused, IsRecipeFault, TellsFaultyLine};
 ghost use Rattle.expand_engine.specs.RecipesRun.{AnswersOf, BeginsOf, StopsOf, WritesOf};
-ghost use Rattle.run_engine.specs.Runs.{EndsReading, IsRunFault};
+ghost use Rattle.run_engine.specs.Runs.{EndsReading};
 ghost use Rattle.show_engine.specs.PicturesWritten.{the_picture};
 ghost use Rattle.text_io.specs.Blocks.{GivesUp};
 
@@ -88,7 +88,7 @@ pub fn show_recipe<R: Source, W: Sink>(
         (R.state reader.old).left line fault.refusal (W.state writer.old) (W.state writer.new))) }
     ensures none_failed_there { IfErr result (λ fault. IfSome fault.line (λ line.
         (W.state writer.new).failures ≡ (W.state writer.old).failures)) }
-    ensures fault { IfErr result (λ fault. IsRunFault fault.refusal fault.line) }
+    ensures fault { IfErr result (λ fault. IsRecipeFault fault.refusal fault.line) }
     ensures text { IfErr result (λ fault. TellsFaultyLine (R.state reader.old).left fault.refusal) }
     ensures refused { IfErr result (λ fault. IfSome fault.line (λ line.
         ExpansionRefused (R.state reader.old).left line fault.refusal)) }

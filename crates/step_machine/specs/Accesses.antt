@@ -1,6 +1,6 @@
--- The shared words by their names, what each holds as a query tells it, and which one a step touches.
+-- The shared words by their names, what each holds as a query tells it, which one a step touches, and what it expects there.
 use Rattle.std.specs.Prelude.{ℕ, Option, Some, None, if◌then◌else◌}
-use Rattle.step_machine.specs.Below.{Ref, is_shut, Line, Actor, Shared, node_at, Word, Fresh, Free, Head, Tail, Tail_lock, Head_lock, Next, Value_of, word, action}
+use Rattle.step_machine.specs.Below.{Ref, is_shut, Line, Actor, Shared, node_at, Word, Fresh, Free, Head, Tail, Tail_lock, Head_lock, Next, Value_of, Content, Action, exchange, word, action}
 use Rattle.step_machine.specs.declared.accesses.WordName.{WordName}
 use Rattle.step_machine.specs.declared.accesses.WordName.TheVariants.{Fresh as NamesFresh, Free as NamesFree, Head as NamesHead, Tail as NamesTail, TailLock}
 use Rattle.step_machine.specs.declared.accesses.WordName.TheVariants.{HeadLock, Next as NamesNext, Value as NamesValue}
@@ -43,3 +43,29 @@ touched_at w me a (Some l) = Some (word (action w.setup me a l))
 abbrev pub touched_by : World → (me : ℕ) → Option Actor → Option Word
 touched_by w me None = None
 touched_by w me (Some a) = touched_at w me a a.line
+
+-- a content of a word, as it is told where so many bits hold a node
+abbrev pub content_told : (bits : ℕ) → (x : Word) → Content x → Contents
+content_told bits Fresh n = Number n
+content_told bits Free r = reference_told bits r
+content_told bits Head r = reference_told bits r
+content_told bits Tail r = reference_told bits r
+content_told bits Tail_lock n = Number n
+content_told bits Head_lock n = Number n
+content_told bits (Next n) r = reference_told bits r
+content_told bits (Value_of n) v = Value v
+
+-- what an access expects to find, as it is told: the old content of a compare-exchange; none where it is another access
+abbrev pub expected_of : (bits : ℕ) → Action → Option Contents
+expected_of bits (exchange x old new) = Some (content_told bits x old)
+expected_of bits _ = None
+
+-- what a step of an actor before a line expects to find; none where it has no call
+abbrev pub expected_at : (bits : ℕ) → World → (me : ℕ) → Actor → Option Line → Option Contents
+expected_at bits w me a None = None
+expected_at bits w me a (Some l) = expected_of bits (action w.setup me a l)
+
+-- what an actor's next step expects to find; none where it has no call or isn't there
+abbrev pub expected_by : (bits : ℕ) → World → (me : ℕ) → Option Actor → Option Contents
+expected_by bits w me None = None
+expected_by bits w me (Some a) = expected_at bits w me a a.line

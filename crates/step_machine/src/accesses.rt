@@ -1,9 +1,10 @@
-//! The shared words by their names, what each holds, and which one a step at a line touches.
+//! The shared words by their names, what each holds, which one a step at a line touches, and what the step expects there.
 ghost use Rattle.std.specs.Prelude.{◌≡◌, ℕ};
+ghost use Rattle.counted_ref.specs.Ref.{IsSplit};
 ghost use Rattle.line_steps.specs.declared.actors.Setup.{Setup as SetupValue};
 ghost use Rattle.line_steps.specs.Lines.{action};
 ghost use Rattle.line_steps.specs.Memory.{word};
-ghost use Rattle.step_machine.specs.Accesses.{reference_told, word_named};
+ghost use Rattle.step_machine.specs.Accesses.{expected_of, reference_told, word_named};
 
 use counted_ref::CountedRefOf;
 use history::Taken;
@@ -51,11 +52,21 @@ macro_rules! name_of_row {
     (() $line:ident { $access:ident $word:ident $($new:tt)* } $then:tt) => { WordName::$word };
 }
 
-// A match of a line with the name of the word of each row.
-macro_rules! names_of_rows {
-    (($line:ident $given:tt) $($name:ident)*) => {
+// What the access of a row expects to find: the old content of a compare-exchange.
+macro_rules! old_of_row {
+    (() $line:ident { exchange Fresh ($old:expr, $new:expr) } $then:tt) => { Some(Contents::Number(u64::from($old))) };
+    (() $line:ident { exchange TailLock ($old:expr, $new:expr) } $then:tt) => { Some(Contents::Number($old)) };
+    (() $line:ident { exchange HeadLock ($old:expr, $new:expr) } $then:tt) => { Some(Contents::Number($old)) };
+    (() $line:ident { exchange Next($node:expr) ($old:expr, $new:expr) } $then:tt) => { Some(told::<B>($old)) };
+    (() $line:ident { exchange $word:ident ($old:expr, $new:expr) } $then:tt) => { Some(told::<B>($old)) };
+    (() $line:ident $access:tt $then:tt) => { None };
+}
+
+// A match of a line with what a macro makes of each row.
+macro_rules! match_of_rows {
+    (($line:ident $given:tt $each:ident) $($name:ident)*) => {
         match $line {
-            $(Line::$name => line_table!($name $given name_of_row ()),)*
+            $(Line::$name => line_table!($name $given $each ()),)*
         }
     };
 }
@@ -64,7 +75,17 @@ macro_rules! names_of_rows {
 pub(crate) fn word_at<const B: u32>(a: &ActorOf<B>, line: Line) -> WordName
     ensures { (setup : SetupValue) (me : ℕ) → word_named result ≡ word (action setup me a.now line) }
 {
-    line_table!(names_of_rows (line (setup me a found))
+    line_table!(match_of_rows (line (setup me a found) name_of_row)
+        [new_node free enqueue dequeue locked_enqueue locked_dequeue shut locked_shut])
+}
+
+/// What a step of an actor at a line expects to find: the old content of the row's compare-exchange; none where that is another access.
+#[tactic(auto, using(counted_ref::proofs::Words::span_least, counted_ref::proofs::Words::count_span_least))]
+pub(crate) fn expected_at<const B: u32>(a: &ActorOf<B>, line: Line) -> Option<Contents>
+    requires { IsSplit B }
+    ensures { (setup : SetupValue) (me : ℕ) → result ≡ expected_of B (action setup me a.now line) }
+{
+    line_table!(match_of_rows (line (setup me a found) old_of_row)
         [new_node free enqueue dequeue locked_enqueue locked_dequeue shut locked_shut])
 }
 

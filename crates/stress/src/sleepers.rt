@@ -1,13 +1,14 @@
 //! Threads that sleep for values, and pushes of a queue of which nobody sleeps.
 ghost use Rattle.std.specs.List.{All};
-ghost use Rattle.blocking_queue.specs.Queues.{queue_of};
+ghost use Rattle.shared_queue.specs.Queues.{numbers_in};
 ghost use Rattle.stress.specs.Sleepers.{CanSend, CanReceive};
 
-use blocking_queue::BlockingQueue;
+use carriers::{Bodies, Carrier, Numbers};
 use history::{Body, Fifo, Refusal};
 use line_table::Kind;
 use node_arena::{MOST_COUNT, Role};
 use nonblocking::MsQueue;
+use shared_queue::SharedQueue;
 use std::alloc::Global;
 use std::sync::Wait;
 use std::thread;
@@ -80,12 +81,12 @@ fn since<R: Clock>(rt: &R, start: Instant) -> Option<u64> {
 // Sends so many values, and then shuts the queue. A value is the time at which it is sent.
 fn send_all<R: Wait + Clock, Q: Fifo>(
     rt: &R,
-    queue: &BlockingQueue<Q>,
+    queue: &SharedQueue<Numbers<Q>>,
     mut seat: Q::Seat,
     start: Instant,
     count: u32,
 )
-    requires { CanSend Q.is_seat Q.permits Q.known (queue_of queue.now) seat }
+    requires { CanSend Q.is_seat Q.permits Q.known (numbers_in queue.now) seat }
 {
     for _ in 0..count {
         let _ = thread::sleep(rt, Duration::from_micros(PAUSE));
@@ -103,18 +104,18 @@ fn send_all<R: Wait + Clock, Q: Fifo>(
 fn receive_all<R: Wait + Clock, Q: Fifo>(
     rt: &R,
     alloc: Global,
-    queue: &BlockingQueue<Q>,
+    queue: &SharedQueue<Numbers<Q>>,
     mut seat: Q::Seat,
     start: Instant,
 ) -> Option<Vec<u64>>
-    requires { CanReceive Q.is_seat Q.permits Q.known (queue_of queue.now) seat }
+    requires { CanReceive Q.is_seat Q.permits Q.known (numbers_in queue.now) seat }
 {
     let mut times = Vec::new(alloc);
     for _ in rt.forever() {
-        let Ok(taken) = queue.recv(rt, &mut seat) else {
+        let Ok(front) = queue.recv(rt, &mut seat) else {
             break;
         };
-        let time = since(rt, start)?.wrapping_sub(taken.body.number());
+        let time = since(rt, start)?.wrapping_sub(front.value.number());
         times.push(time).ok()?;
     }
     Some(times)
@@ -124,22 +125,22 @@ fn receive_all<R: Wait + Clock, Q: Fifo>(
 fn hand_over<R: Threads + Wait + Clock + Sync, Q: Fifo + Sync>(
     rt: &R,
     alloc: Global,
-    queue: &BlockingQueue<Q>,
+    queue: &SharedQueue<Numbers<Q>>,
     giver: Q::Seat,
     taker: Q::Seat,
     count: u32,
 ) -> Option<Vec<u64>>
-    requires giver { CanSend Q.is_seat Q.permits Q.known (queue_of queue.now) giver }
-    requires taker { CanReceive Q.is_seat Q.permits Q.known (queue_of queue.now) taker }
+    requires giver { CanSend Q.is_seat Q.permits Q.known (numbers_in queue.now) giver }
+    requires taker { CanReceive Q.is_seat Q.permits Q.known (numbers_in queue.now) taker }
 {
     let start = Instant::now(rt).ok()?;
     let (times, ()) = join(
         rt,
         || -> Option<Vec<u64>>
-            requires { CanReceive Q.is_seat Q.permits Q.known (queue_of queue.now) taker }
+            requires { CanReceive Q.is_seat Q.permits Q.known (numbers_in queue.now) taker }
         { receive_all(rt, alloc, queue, taker, start) },
         || -> ()
-            requires { CanSend Q.is_seat Q.permits Q.known (queue_of queue.now) giver }
+            requires { CanSend Q.is_seat Q.permits Q.known (numbers_in queue.now) giver }
         { send_all(rt, queue, giver, start, count) },
     );
     times
@@ -149,11 +150,11 @@ fn hand_over<R: Threads + Wait + Clock + Sync, Q: Fifo + Sync>(
 // was shut instead.
 fn idles<R: Wait + Clock, Q: Fifo>(
     rt: &R,
-    queue: &BlockingQueue<Q>,
+    queue: &SharedQueue<Numbers<Q>>,
     mut seat: Q::Seat,
     time: Duration,
 ) -> u64
-    requires { Q.is_seat (queue_of queue.now) seat }
+    requires { Q.is_seat (numbers_in queue.now) seat }
 {
     if queue.may_push(&seat) {
         let _ = thread::sleep(rt, time);
@@ -167,17 +168,17 @@ fn idles<R: Wait + Clock, Q: Fifo>(
 // How many threads were told that the queue is shut, which each slept for a value by a seat of its own, for this time.
 fn idle<R: Threads + Wait + Clock + Sync, Q: Fifo + Sync>(
     rt: &R,
-    queue: &BlockingQueue<Q>,
+    queue: &SharedQueue<Numbers<Q>>,
     seats: Vec<Q::Seat>,
     time: Duration,
 ) -> Option<u64>
-    requires { All (Q.is_seat (queue_of queue.now)) seats.items }
+    requires { All (Q.is_seat (numbers_in queue.now)) seats.items }
 {
     let told = thread::map_vec(
         rt,
         seats,
         &|seat: Q::Seat| -> u64
-            requires { Q.is_seat (queue_of queue.now) seat }
+            requires { Q.is_seat (numbers_in queue.now) seat }
         { idles(rt, queue, seat, time) },
     );
     let mut all = 0u64;
@@ -212,7 +213,7 @@ fn told<R: Threads + Wait + Clock + Sync, Q: Fifo + Sync + Drop>(
 {
     if let Task::Idle = task {
         let time = Duration::from_millis(u64::from(count));
-        let told = idle(rt, &BlockingQueue::new(queue), seats, time)?;
+        let told = idle(rt, &SharedQueue::new(Numbers::new(queue)), seats, time)?;
         return vec![in alloc; told].ok();
     }
     let giver = seats.pop()?;
@@ -222,8 +223,14 @@ fn told<R: Threads + Wait + Clock + Sync, Q: Fifo + Sync + Drop>(
     }
     let time = match task {
         Task::Plain => push_all(rt, &queue, giver, count)?,
-        Task::Blocking => push_all(rt, &BlockingQueue::new(queue), giver, count)?,
-        _ => return hand_over(rt, alloc, &BlockingQueue::new(queue), giver, taker, count),
+        Task::Blocking => {
+            let queue = SharedQueue::new(Numbers::new(queue));
+            push_all(rt, &Bodies::new(queue), giver, count)?
+        }
+        _ => {
+            let queue = SharedQueue::new(Numbers::new(queue));
+            return hand_over(rt, alloc, &queue, giver, taker, count);
+        }
     };
     vec![in alloc; time].ok()
 }

@@ -7,7 +7,6 @@ use Rattle.carriers.specs.declared.items.ItemOf.{ItemOf}
 use Rattle.carriers.specs.Deeds.{did_push, did_pop}
 use Rattle.carriers.specs.Knowledge.{KnownOf}
 use Rattle.carriers.specs.Answers.{PushedOf, EndsByTryOf}
-use Rattle.shared_queue.specs.Causes.{SendCause}
 use Rattle.tasks.specs.declared.answers.Done.{Done}
 use Rattle.tasks.specs.declared.runs.Numbered.{Numbered}
 use Rattle.tasks.specs.declared.turns.End.{End}
@@ -40,22 +39,22 @@ abbrev pub ServesOne : {S U T A : Type 0} → (S → KnownOf (Numbered T)) → (
 ServesOne known known' answers p p' (Ok served) = ServesSo answers (known p.taker) (known p'.taker) (known' p.giver) (known' p'.giver) None
 ServesOne known known' answers p p' (Err (unsent, end)) = ServesSo answers (known p.taker) (known p'.taker) (known' p.giver) (known' p'.giver) unsent
 
-module _ {V U A : Type 0} (is_seat : V → U → Type 0) (known : U → KnownOf A) (push_cause shut_cause : V → U → U → ℕ → Refusal → Type 0) (queue : V) (before after : U) where
+module _ {V U A : Type 0} (is_seat : V → U → Type 0) (known : U → KnownOf A) (push_cause : V → U → U → ℕ → Refusal → Type 0) (queue : V) (before after : U) where
   -- a result couldn't be sent, and its worker ends so: it was told to stop, and a push had cause to be refused for want of a node;
   -- or the push was refused, with cause
   abbrev pub EndsSending : End → Type 0
   EndsSending Stopped = (last : U) × EndsByTryOf is_seat known push_cause queue last after 8 NoNode
-  EndsSending (Refused refusal) = EndsByTryOf is_seat known (SendCause push_cause shut_cause) queue before after 8 refusal
+  EndsSending (Refused refusal) = EndsByTryOf is_seat known push_cause queue before after 8 refusal
   EndsSending _ = ⊥
 
 -- a worker ends so: it got no task; or it couldn't send a result
 abbrev pub EndsServing : {Q S V U N A : Type 0} → (Q → S → Type 0) → (S → KnownOf N) → (pop_cause : Q → S → S → ℕ → Refusal → Type 0)
-    → (V → U → Type 0) → (U → KnownOf (Done A)) → (push_cause shut_cause : V → U → U → ℕ → Refusal → Type 0)
+    → (V → U → Type 0) → (U → KnownOf (Done A)) → (push_cause : V → U → U → ℕ → Refusal → Type 0)
     → Q → V → (before after : Post S U) → Option (Done A) → End → Type 0
-EndsServing is_seat known pop_cause is_seat' known' push_cause shut_cause queue results before after None end =
+EndsServing is_seat known pop_cause is_seat' known' push_cause queue results before after None end =
     EndsTurn is_seat known pop_cause queue before.taker after.taker end
-EndsServing is_seat known pop_cause is_seat' known' push_cause shut_cause queue results before after (Some done) end =
-    EndsSending is_seat' known' push_cause shut_cause results before.giver after.giver end
+EndsServing is_seat known pop_cause is_seat' known' push_cause queue results before after (Some done) end =
+    EndsSending is_seat' known' push_cause results before.giver after.giver end
 
 module _ {Q S V U T A : Type 0} (is_seat : Q → S → Type 0) (permits : Q → List Permit) (known : S → KnownOf (Numbered T))
     (is_seat' : V → U → Type 0) (permits' : V → List Permit) (known' : U → KnownOf (Done A)) where
@@ -74,8 +73,8 @@ module _ {Q S V U T A : Type 0} (is_seat : Q → S → Type 0) (permits : Q → 
     pub served : ServesSo answers (known was.taker) (known w.seat.taker) (known' was.giver) (known' w.seat.giver) w.done
 
   -- a worker ended by the last that it did
-  pub record EndsByLast (pop_cause : Q → S → S → ℕ → Refusal → Type 0) (push_cause shut_cause : V → U → U → ℕ → Refusal → Type 0) (queue : Q) (results : V)
+  pub record EndsByLast (pop_cause : Q → S → S → ℕ → Refusal → Type 0) (push_cause : V → U → U → ℕ → Refusal → Type 0) (queue : Q) (results : V)
       (w : Worked (Post S U) (Option (Done A))) : Type 0 where
     pub last : Post S U
     pub post : IsPost queue results last
-    pub ends : EndsServing is_seat known pop_cause is_seat' known' push_cause shut_cause queue results last w.seat w.done w.end
+    pub ends : EndsServing is_seat known pop_cause is_seat' known' push_cause queue results last w.seat w.done w.end

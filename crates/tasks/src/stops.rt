@@ -5,10 +5,9 @@ ghost use Rattle.carriers.specs.Answers.{EndsByTryOf};
 ghost use Rattle.shared_queue.specs.Queues.{queue_of};
 ghost use Rattle.tasks.specs.Offers.{EndsShutBy};
 
-use blocking_queue::Deadline;
 use carriers::Carrier;
 use history::Refusal;
-use shared_queue::SharedQueue;
+use shared_queue::{Deadline, SharedQueue};
 use std::marker::PhantomData;
 use std::snapshot::Snapshot;
 use std::sync::Wait;

@@ -39,7 +39,7 @@ fn send<R: Wait, A, D: Carrier<Item = Done<A>>>(
     ensures seat { D.is_seat (queue_of queue.now) seat.new }
     ensures number { (D.known seat.new).number ≡ (D.known seat.old).number }
     ensures sent { Sends (D.known seat.old) (D.known seat.new) done result }
-    ensures ends { IfErr result (λ u. EndsSending D.is_seat D.known D.push_cause D.shut_cause
+    ensures ends { IfErr result (λ u. EndsSending D.is_seat D.known D.push_cause
         (queue_of queue.now) seat.old seat.new u.end) }
 {
     match queue.send_until(rt, seat, done, stop) {
@@ -80,7 +80,7 @@ fn serve_one<
     ensures giver { (D.known post.new.giver).number ≡ (D.known post.old.giver).number }
     ensures served { ServesOne C.known D.known T.answers post.old post.new result }
     ensures ended { IfErr result (λ e. EndsServing C.is_seat C.known C.pop_cause D.is_seat D.known
-        D.push_cause D.shut_cause (queue_of tasks.now) (queue_of results.now) post.old post.new e.0 e.1) }
+        D.push_cause (queue_of tasks.now) (queue_of results.now) post.old post.new e.0 e.1) }
 {
     let front = match take(rt, tasks, &mut post.taker, stop) {
         Ok(front) => front,
@@ -114,7 +114,7 @@ pub(crate) fn serve<
     ensures served { IsServed C.is_seat C.permits C.known D.is_seat D.permits D.known T.answers
         (queue_of tasks.now) (queue_of results.now) post result }
     ensures ended { EndsByLast C.is_seat C.permits C.known D.is_seat D.permits D.known
-        C.pop_cause D.push_cause D.shut_cause (queue_of tasks.now) (queue_of results.now) result }
+        C.pop_cause D.push_cause (queue_of tasks.now) (queue_of results.now) result }
 {
     for _ in rt.forever() {
         match serve_one(rt, tasks, results, &mut post, stop) {

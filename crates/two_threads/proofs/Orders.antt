@@ -12,7 +12,7 @@ use Rattle.history.specs.declared.operations.Reply.TheVariants.{Value, Empty}
 use Rattle.history.specs.declared.operations.Taken.{Taken}
 use Rattle.history.specs.declared.refusals.Refusal.{Refusal}
 use Rattle.history.specs.declared.refusals.Refusal.TheVariants.{WornOut, Closed}
-use Rattle.blocking_queue.specs.Answers.{EndsSend}
+use Rattle.shared_queue.specs.Answers.{EndsSend}
 use Rattle.history.specs.Answers.{FoundShut, PushRefused, EndsShut}
 use Rattle.history.specs.Queue.{Queue, empty}
 use Rattle.history.specs.Entries.{is_shut, own_entries, Plays, Leads, LeadsToShut}
@@ -114,3 +114,10 @@ pub popped_more :
     n ≡ m → mine ≡ pops_of m vs → mine' ≡ mine ++ Pop n v ∷ [] → vs' ≡ vs ++ v ∷ [] → mine' ≡ pops_of m vs'
 popped_more n m mine mine' vs vs' v same was more items =
     more ∙ ap (λ k. mine ++ Pop k v ∷ []) same ∙ ap (λ t. t ++ Pop m v ∷ []) was ∙ sym (pops_of-push m vs v) ∙ ap (pops_of m) (sym items)
+
+-- one number more was pushed
+pub pushed_more :
+    (n m count next body : ℕ) (mine mine' : List Entry) →
+    n ≡ m → mine ≡ pushes_to m count → mine' ≡ mine ++ Push n body ∷ [] → body ≡ suc count → next ≡ suc count → mine' ≡ pushes_to m next
+pushed_more n m count next body mine mine' same was more it one =
+    more ∙ (λ i. was i ++ Push (same i) (it i) ∷ []) ∙ ap (pushes_to m) (sym one)

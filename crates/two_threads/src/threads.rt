@@ -1,11 +1,12 @@
 //! A queue of any kind, and two threads that call it.
 ghost use Rattle.std.specs.Prelude.{◌≡◌, IfOk, IfErr, OnOk};
-ghost use Rattle.blocking_queue.specs.Queues.{queue_of};
+ghost use Rattle.shared_queue.specs.Queues.{numbers_in};
 ghost use Rattle.two_threads.specs.Duos.{IsDuo, IsOnePusher, IsOnePopper};
 ghost use Rattle.two_threads.specs.Duos.{HasPushed, HasGiven, HasTaken, EndsRun, EndsTaking, values_to};
 
-use blocking_queue::BlockingQueue;
+use carriers::{Carrier, Numbers};
 use history::{Body, Fifo, Refusal, Taken};
+use shared_queue::SharedQueue;
 use std::alloc::Global;
 use std::sync::Wait;
 use std::thread::{Threads, join};
@@ -13,12 +14,12 @@ use std::thread::{Threads, join};
 // Pushes 1, 2 and so on to `most`.
 fn push_all<R: Wait, Q: Fifo>(
     rt: &R,
-    queue: &BlockingQueue<Q>,
+    queue: &SharedQueue<Numbers<Q>>,
     seat: &mut Q::Seat,
     most: u64,
 ) -> Result<(), Refusal>
-    requires { IsOnePusher Q.is_seat Q.permits Q.known (queue_of queue.now) seat.old }
-    ensures seat { Q.is_seat (queue_of queue.now) seat.new }
+    requires { IsOnePusher Q.is_seat Q.permits Q.known (numbers_in queue.now) seat.old }
+    ensures seat { Q.is_seat (numbers_in queue.now) seat.new }
     ensures number { (Q.known seat.new).number ≡ (Q.known seat.old).number }
     ensures pushed { OnOk result (HasPushed (Q.known seat.old) most (Q.known seat.new)) }
     ensures refusal { IfErr result (EndsRun most) }
@@ -27,7 +28,9 @@ fn push_all<R: Wait, Q: Fifo>(
         let Some(body) = Body::new(count + 1) else {
             return Err(Refusal::BadSize);
         };
-        queue.send(rt, seat, body)?;
+        if let Err(unpushed) = queue.send(rt, seat, body) {
+            return Err(unpushed.refusal);
+        }
     }
     Ok(())
 }
@@ -35,12 +38,12 @@ fn push_all<R: Wait, Q: Fifo>(
 // Pushes 1, 2 and so on to `most`, and then shuts the queue, also where a push was refused: so who takes ends.
 fn give<R: Wait, Q: Fifo>(
     rt: &R,
-    queue: &BlockingQueue<Q>,
+    queue: &SharedQueue<Numbers<Q>>,
     mut seat: Q::Seat,
     most: u64,
 ) -> Result<Q::Seat, Refusal>
-    requires { IsOnePusher Q.is_seat Q.permits Q.known (queue_of queue.now) seat }
-    ensures given { IfOk result (HasGiven Q.is_seat Q.known (queue_of queue.now) seat most) }
+    requires { IsOnePusher Q.is_seat Q.permits Q.known (numbers_in queue.now) seat }
+    ensures given { IfOk result (HasGiven Q.is_seat Q.known (numbers_in queue.now) seat most) }
     ensures refusal { IfErr result (EndsRun most) }
 {
     let pushed = push_all(rt, queue, &mut seat, most);
@@ -54,19 +57,19 @@ fn give<R: Wait, Q: Fifo>(
 fn pop_all<R: Wait, Q: Fifo>(
     rt: &R,
     alloc: Global,
-    queue: &BlockingQueue<Q>,
+    queue: &SharedQueue<Numbers<Q>>,
     mut seat: Q::Seat,
 ) -> Result<(Q::Seat, Vec<Taken>), Refusal>
-    requires { IsOnePopper Q.is_seat Q.permits Q.known (queue_of queue.now) seat }
+    requires { IsOnePopper Q.is_seat Q.permits Q.known (numbers_in queue.now) seat }
     ensures taken { IfOk result
-        (λ r. HasTaken Q.is_seat Q.known (queue_of queue.now) seat r.0 r.1.items) }
+        (λ r. HasTaken Q.is_seat Q.known (numbers_in queue.now) seat r.0 r.1.items) }
     ensures refusal { IfErr result EndsTaking }
 {
     let mut taken = Vec::new(alloc);
     for _ in rt.forever() {
         match queue.recv(rt, &mut seat) {
-            Ok(value) => {
-                let Ok(()) = taken.push(value) else {
+            Ok(front) => {
+                let Ok(()) = taken.push(front.into_taken()) else {
                     return Err(Refusal::Memory);
                 };
             }
@@ -81,7 +84,7 @@ fn pop_all<R: Wait, Q: Fifo>(
 fn both<R: Threads + Wait + Sync, Q: Fifo + Sync>(
     rt: &R,
     alloc: Global,
-    queue: &BlockingQueue<Q>,
+    queue: &SharedQueue<Numbers<Q>>,
     giver: Q::Seat,
     taker: Q::Seat,
     most: u64,
@@ -89,27 +92,27 @@ fn both<R: Threads + Wait + Sync, Q: Fifo + Sync>(
     Result<(Q::Seat, Vec<Taken>), Refusal>,
     Result<Q::Seat, Refusal>,
 )
-    requires giver { IsOnePusher Q.is_seat Q.permits Q.known (queue_of queue.now) giver }
-    requires taker { IsOnePopper Q.is_seat Q.permits Q.known (queue_of queue.now) taker }
+    requires giver { IsOnePusher Q.is_seat Q.permits Q.known (numbers_in queue.now) giver }
+    requires taker { IsOnePopper Q.is_seat Q.permits Q.known (numbers_in queue.now) taker }
     ensures taken { IfOk result.0
-        (λ r. HasTaken Q.is_seat Q.known (queue_of queue.now) taker r.0 r.1.items) }
+        (λ r. HasTaken Q.is_seat Q.known (numbers_in queue.now) taker r.0 r.1.items) }
     ensures untaken { IfErr result.0 EndsTaking }
     ensures given { IfOk result.1
-        (HasGiven Q.is_seat Q.known (queue_of queue.now) giver most) }
+        (HasGiven Q.is_seat Q.known (numbers_in queue.now) giver most) }
     ensures ungiven { IfErr result.1 (EndsRun most) }
 {
     join(
         rt,
         || -> Result<(Q::Seat, Vec<Taken>), Refusal>
-            requires { IsOnePopper Q.is_seat Q.permits Q.known (queue_of queue.now) taker }
+            requires { IsOnePopper Q.is_seat Q.permits Q.known (numbers_in queue.now) taker }
             ensures taken { IfOk result (λ r.
-                HasTaken Q.is_seat Q.known (queue_of queue.entry.now) taker r.0 r.1.items) }
+                HasTaken Q.is_seat Q.known (numbers_in queue.entry.now) taker r.0 r.1.items) }
             ensures refusal { IfErr result EndsTaking }
         { pop_all(rt, alloc, queue, taker) },
         || -> Result<Q::Seat, Refusal>
-            requires { IsOnePusher Q.is_seat Q.permits Q.known (queue_of queue.now) giver }
+            requires { IsOnePusher Q.is_seat Q.permits Q.known (numbers_in queue.now) giver }
             ensures given { IfOk result
-                (HasGiven Q.is_seat Q.known (queue_of queue.entry.now) giver most) }
+                (HasGiven Q.is_seat Q.known (numbers_in queue.entry.now) giver most) }
             ensures refusal { IfErr result (EndsRun most) }
         { give(rt, queue, giver, most) },
     )
@@ -136,7 +139,8 @@ pub fn run<R: Threads + Wait + Sync, Q: Fifo + Sync + Drop>(
     ensures taken { IfOk result (λ values. values.items ≡ values_to (Q.known giver).number most) }
     ensures refusal { IfErr result (EndsRun most) }
 {
-    let queue = BlockingQueue::new(queue);
+    let numbers = Numbers::new(queue);
+    let queue = SharedQueue::new(numbers);
     let (taken, given) = both(rt, alloc, &queue, giver, taker, most);
     let (mut taker, values) = taken?;
     let mut giver = given?;

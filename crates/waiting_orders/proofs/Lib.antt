@@ -2,7 +2,7 @@ mod Firsts
 mod Futures
 mod Lists
 mod Covering
-mod Picking
+pub mod Picking
 pub mod Rests
 pub mod Places
 pub mod Limits
@@ -11,3 +11,10 @@ pub mod Stepping
 pub mod Trying
 pub mod ByFirst
 pub mod Quiet
+mod Trades
+mod Traded
+mod Answering
+pub mod Alike
+pub mod Spare
+pub mod Pending
+pub mod Counts

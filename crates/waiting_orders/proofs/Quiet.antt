@@ -52,12 +52,12 @@ record Leaner (t : ℕ) (gone : List Stamped) (u v : State) : Type 0 where
   shut : v.shut ≡ u.shut
   time : v.time ≤ max u.time t
 
-more_steps : (n : ℕ) (v : State) → CanEnd n v → CanEnd (suc n) v
+pub more_steps : (n : ℕ) (v : State) → CanEnd n v → CanEnd (suc n) v
 more_steps zero v h = inl h
 more_steps (suc n) v (inl h) = inl h
 more_steps (suc n) v (inr h) = inr (h.0, h.1, more_steps n h.0 h.2)
 
-all_where : (P : Stamped → Type 0) (b : Stamped → Bool) (xs : List Stamped) → AllByRecursion (λ x. b x ≡ false) xs → AllByRecursion (λ x. Where (b x) (P x)) xs
+pub all_where : (P : Stamped → Type 0) (b : Stamped → Bool) (xs : List Stamped) → AllByRecursion (λ x. b x ≡ false) xs → AllByRecursion (λ x. Where (b x) (P x)) xs
 all_where P b [] h = tt
 all_where P b (x ∷ xs) h = (go (b x) h.0, all_where P b xs h.1)
   where
@@ -65,7 +65,7 @@ all_where P b (x ∷ xs) h = (go (b x) h.0, all_where P b xs h.1)
     go true e = absurd cc
     go false e = tt
 
-all_any : (P : Stamped → Type 0) (b : Stamped → Bool) (xs : List Stamped) → AllByRecursion P xs → AllByRecursion (λ x. Where (b x) (P x)) xs
+pub all_any : (P : Stamped → Type 0) (b : Stamped → Bool) (xs : List Stamped) → AllByRecursion P xs → AllByRecursion (λ x. Where (b x) (P x)) xs
 all_any P b [] h = tt
 all_any P b (x ∷ xs) h = (go (b x) h.0, all_any P b xs h.1)
   where
@@ -73,7 +73,7 @@ all_any P b (x ∷ xs) h = (go (b x) h.0, all_any P b xs h.1)
     go true p = p
     go false p = tt
 
-open_any : (time : ℕ) (xs : List Stamped) → AllByRecursion (λ o. o.last ≡ None) xs → AllByRecursion (IsOpenAt time) xs
+pub open_any : (time : ℕ) (xs : List Stamped) → AllByRecursion (λ o. o.last ≡ None) xs → AllByRecursion (IsOpenAt time) xs
 open_any time [] h = tt
 open_any time (x ∷ xs) h = (subst (λ last. IfSome last (λ last. time ≤ last)) (sym h.0) tt, open_any time xs h.1)
 
@@ -90,12 +90,12 @@ where_max a b c (x ∷ xs) h k = (go (c x) h.0, where_max a b c xs h.1 k.1)
     go true h = open_max a b x.last h k.0
     go false h = tt
 
-not_waits : (xs : List Stamped) → AllByRecursion (λ x. waits x ≡ true) xs → AllByRecursion (λ x. not (waits x) ≡ false) xs
+pub not_waits : (xs : List Stamped) → AllByRecursion (λ x. waits x ≡ true) xs → AllByRecursion (λ x. not (waits x) ≡ false) xs
 not_waits [] h = tt
 not_waits (x ∷ xs) h = (ap not h.0, not_waits xs h.1)
 
 -- taken out of a list of two parts
-out_of_two : (xs ys : List Stamped) (o : Stamped) (rest : List Stamped) → IsPermutation (xs ++ ys) (o ∷ rest)
+pub out_of_two : (xs ys : List Stamped) (o : Stamped) (rest : List Stamped) → IsPermutation (xs ++ ys) (o ∷ rest)
     → ((k : ℕ) × (slice_get xs k ≡ Some o) × IsPermutation rest (without k xs ++ ys)) ⊎ ((ms : List Stamped) × IsPermutation ys (o ∷ ms) × IsPermutation rest (xs ++ ms))
 out_of_two xs ys o rest is =
     let f = found_first o (xs ++ ys) rest is in
@@ -115,10 +115,10 @@ all_without_one P (suc k) (x ∷ xs) h = (h.0, all_without_one P k xs h.1)
 
 -- ---- one step of the other one
 
-le_trans : (a b c : ℕ) → a ≤ b → b ≤ c → a ≤ c
+pub le_trans : (a b c : ℕ) → a ≤ b → b ≤ c → a ≤ c
 le_trans a b c h k = omega (arith, h, k)
 
-all_filter_where : (P : Stamped → Type 0) (b : Stamped → Bool) (xs : List Stamped) → AllByRecursion (λ x. Where (b x) (P x)) xs → AllByRecursion P (filter b xs)
+pub all_filter_where : (P : Stamped → Type 0) (b : Stamped → Bool) (xs : List Stamped) → AllByRecursion (λ x. Where (b x) (P x)) xs → AllByRecursion P (filter b xs)
 all_filter_where P b [] h = tt
 all_filter_where P b (x ∷ xs) h = go (b x) h.0 (all_filter_where P b xs h.1)
   where
@@ -126,7 +126,7 @@ all_filter_where P b (x ∷ xs) h = go (b x) h.0 (all_filter_where P b xs h.1)
     go true p more = (p, more)
     go false p more = more
 
-back_off : (xs : List Stamped) (b : Stamped → Bool) → AllByRecursion (λ x. not (b x) ≡ true) xs → AllByRecursion (λ x. b x ≡ false) xs
+pub back_off : (xs : List Stamped) (b : Stamped → Bool) → AllByRecursion (λ x. not (b x) ≡ true) xs → AllByRecursion (λ x. b x ≡ false) xs
 back_off [] b h = tt
 back_off (x ∷ xs) b h = (go (b x) h.0, back_off xs b h.1)
   where

@@ -1,7 +1,10 @@
 //! Laws of a search for orders, each the contract of a function that does nothing.
-ghost use Rattle.std.specs.Prelude.{◌≡◌, ℕ, suc, List};
+ghost use Rattle.std.specs.Prelude.{◌≡◌, ◌≤◌, ℕ, suc, List};
 ghost use Rattle.history.specs.declared.operations.Stamped.{Stamped};
+ghost use Rattle.history.specs.declared.operations.Taken.{Taken};
 ghost use Rattle.waiting_orders.specs.Waiting.{IsOfQueue, State, IsStart, CanEnd, Same, AreClosed, GoesFirst};
+ghost use Rattle.waiting_orders.specs.Alike.{HasSoonerPush, HasSoonerPop, GoesAlone};
+ghost use Rattle.waiting_orders.specs.Pending.{Pops, CouldGo, IsFirstToEnd, EndsLazily, IsToldInstead, StepOfOther, told_count, push_count};
 
 /// Where a recorded history is one of a queue, its operations can be placed to the end, pushes where their values are
 /// taken.
@@ -33,4 +36,61 @@ pub fn what_changes_nothing_goes_first()
     //=   for something else than a shut, or found the queue empty, in one step of as many.
     ensures { (n number : ℕ) (o : Stamped) (s t : State) → GoesFirst number o s t
         → CanEnd (suc n) s → CanEnd n t }
+{}
+
+/// Of the pushes of a value that a pop may take now, it is enough to try the one that ends first.
+pub fn of_alike_pushes_the_one_that_ends_first()
+    //= judge/alike_pushes: Where two pushes of a value may be taken, and all that is left behind the take of the one that
+    //=   ends later can be placed to the end, so can all that is left behind the take of the other one, in as many steps.
+    ensures { (n number : ℕ) (s t : State) → HasSoonerPush number s t → CanEnd n s → CanEnd n t }
+{}
+
+/// Of the pops that were told a value and may take it now, it is enough to try the one that ends first.
+pub fn of_alike_pops_the_one_that_ends_first()
+    //= judge/alike_pops: Where two pops may take a value, and all that is left behind the one that ends later can be
+    //=   placed to the end, so can all that is left behind the other one, in as many steps, if no pop told that the
+    //=   queue is empty is in the way.
+    ensures { (n number : ℕ) (s t : State) → HasSoonerPop number s t → CanEnd n s → CanEnd n t }
+{}
+
+/// A pop goes without alternatives if no pop that was told its value ends sooner, nor a push of the value sooner than the
+/// one that it takes.
+pub fn the_first_of_its_value_goes_alone()
+    //= judge/alone: Where a pop may take a push of the value that it was told, none of the pops told the value ends
+    //=   sooner, nor one of the pushes of it, and all that is left can be placed to the end, it can be with this take
+    //=   first, in one step of as many, if no pop told that the queue is empty is in the way.
+    ensures { (n number : ℕ) (s t : State) → GoesAlone number s t → CanEnd (suc n) s → CanEnd n t }
+{}
+
+/// A pending pop may wait until it is needed: it goes only where a push is in the way of a pop that was told a reply, and
+/// then takes the value of the push that ended first of those that wait.
+pub fn a_pending_pop_waits_until_it_is_needed()
+    //= judge/pending: Where all that is left can be placed to the end, it can be with a step first that is none of a
+    //=   pending pop, or that takes the value of the push that ended first, which is in the way of a pop.
+    ensures { (n : ℕ) (p : Stamped) (s : State) → IsFirstToEnd p s
+        → CanEnd (suc n) s → EndsLazily p n s }
+{}
+
+/// Where a pending pop goes, one that began no later may go in its place.
+pub fn the_pending_pop_that_began_first_goes_first()
+    //= judge/in_turn: Where all that is left can be placed to the end behind a pending pop that took a value, it can be
+    //=   behind another one that began no later and took the value in its place.
+    ensures { (n : ℕ) (d e p : Stamped) (s t : State) → CouldGo d e p s t
+        → CanEnd n t → (u : State) × Pops d p s u × CanEnd n u }
+{}
+
+/// A pending pop is no use while a pop goes that was told the value.
+pub fn a_pop_that_was_told_the_value_goes_instead()
+    //= judge/instead: Where all that is left can be placed to the end behind a pending pop that took a value, and another
+    //=   pop had begun by then and was told the value, it can be with a step first that is none of a pending pop.
+    ensures { (n : ℕ) (o d p : Stamped) (s t : State) → IsToldInstead o d p s t
+        → CanEnd n t → (u : State) × StepOfOther s u × CanEnd n u }
+{}
+
+/// Where all that is left can be placed to the end, no value was told to more operations than pushes of it wait.
+pub fn no_value_is_told_more_often_than_it_is_pushed()
+    //= judge/enough: Where all that is left can be placed to the end, no value was told to more of the operations that
+    //=   are left than pushes of it wait.
+    ensures { (v : Taken) (n : ℕ) (s : State) → CanEnd n s
+        → told_count v s.left ≤ push_count v s.left }
 {}

@@ -11,6 +11,7 @@ mod places;
 mod queries;
 mod shuts;
 mod sizes;
+mod touches;
 mod trials;
 mod two_worlds;
 mod words;

@@ -4,6 +4,7 @@ use super::values::{Numbered, Value};
 use carriers::Carrier;
 use history::Refusal;
 use std::alloc::Global;
+use std::ops::Range;
 use std::process::Abort;
 use std::test::Fail;
 
@@ -90,7 +91,22 @@ pub fn go_in<C: Carrier<Item: Value>>(
     Ok(())
 }
 
-/// The same in a few turns.
+/// Pushes and pops each of these numbers, by seat 1 and in so many turns a call.
+pub fn go_through<C: Carrier<Item: Value>>(
+    rt: &(impl AllocGlobal + Abort),
+    queue: &C,
+    seats: &mut [C::Seat],
+    turns: u32,
+    numbers: Range<u64>,
+) -> Result<(), Fail> {
+    for number in numbers {
+        let calls = [(1, Told::Push(number)), (1, Told::Pop(1, number))];
+        go_in(rt, queue, seats, turns, &calls)?;
+    }
+    Ok(())
+}
+
+/// Makes these calls in a few turns each.
 pub fn go<C: Carrier<Item: Value>>(
     rt: &(impl AllocGlobal + Abort),
     queue: &C,

@@ -1,12 +1,15 @@
 //! Values that come back from queues that take none: such that own memory, have no size, or can't be dropped,
 //! and numbers.
-use super::calls::Told::{Back, Empty, NoPop, NoShut};
+use super::calls::Told::{Back, Empty, NoPop, NoShut, Shut};
 use super::calls::go;
 use super::comparisons::same;
+use super::queues::AMPLE;
 use super::values::Value;
 use carriers::{Carrier, Numbers, Unpushed};
 use history::{Refusal, WornWord};
-use mock_queues::{FullCarrier, FullQueue, Listed, PlannedCarrier, ShutQueue};
+use mock_queues::{FullQueue, Listed, NeverBusy, full_of_numbers};
+use node_arena::Role;
+use nonblocking::MsQueue;
 use std::process::Abort;
 use std::test::Fail;
 
@@ -44,36 +47,32 @@ fn come_back<C: Carrier<Item: Value>, R: AllocGlobal + Abort>(
 /// A queue that is full hands each value back.
 #[test]
 fn values_come_back_from_a_full_queue(rt: HostRuntime) -> Result<(), Fail> {
-    let (queue, seat) = FullQueue::new();
+    let (queue, seat) = full_of_numbers();
     come_back(&rt, &Numbers::new(queue), seat)?;
-    let (queue, seat) = FullCarrier::<String>::new();
+    let (queue, seat) = FullQueue::<String, _>::new(NeverBusy);
     come_back(&rt, &queue, seat)?;
-    let (queue, seat) = FullCarrier::<()>::new();
+    let (queue, seat) = FullQueue::<(), _>::new(NeverBusy);
     come_back(&rt, &queue, seat)
 }
 
 /// So does one that is shut.
 #[test]
 fn numbers_come_back_from_a_shut_queue(rt: HostRuntime) -> Result<(), Fail> {
-    let (queue, seat) = ShutQueue::new();
+    let (queue, mut seats) = MsQueue::new(rt.alloc(), 2, AMPLE, &[Role::Both])?;
     let closed = Refusal::Closed;
     let calls = [
+        (1, Shut),
         (1, Back(42, closed)),
         (1, NoPop(closed)),
         (1, NoShut(closed)),
     ];
-    go(
-        &rt,
-        &Numbers::new(queue),
-        &mut vec![in rt.alloc(); seat]?,
-        &calls,
-    )
+    go(&rt, &Numbers::new(queue), &mut seats, &calls)
 }
 
 /// What isn't pushed has to come back, or the program isn't one.
 #[test]
 fn tickets_come_back(rt: HostRuntime) -> Result<(), Fail> {
-    let (queue, mut seat) = FullCarrier::new();
+    let (queue, mut seat) = FullQueue::new(NeverBusy);
     let first = told(queue.try_push(&mut seat, Ticket { number: 7 }, 3));
     same(&rt, first, Some((Refusal::NoNode, 7)), "a push");
     match queue.try_pop(&mut seat, 3) {
@@ -98,8 +97,7 @@ const TRIES: [(u32, Option<Refusal>); 3] = [
 
 #[test]
 fn a_push_that_waits_hands_its_ticket_back(rt: HostRuntime) -> Result<(), Fail> {
-    let (queue, mut seat) = FullCarrier::new();
-    let queue = PlannedCarrier::new(queue, Listed::new(&TRIES));
+    let (queue, mut seat) = FullQueue::new(Listed::new(&TRIES));
     let pushed = told(queue.push(&rt, &mut seat, Ticket { number: 9 }));
     same(&rt, pushed, Some((Refusal::NoNode, 9)), "");
     Ok(())

@@ -22,57 +22,55 @@ pub struct Left {
     pub was_shut: bool,
 }
 
+/// A queue with its seats, or why there is none.
+pub type Making<Q, S> = Result<(Q, Vec<S>), Refusal>;
+
 /// A queue that is made, and closed.
 pub trait Made: Carrier<Item: Value> + Drop + Sized {
     /// A queue with room for so many values, if no seat keeps a node; with this greatest count, or last
     /// place, and a seat for each role.
-    fn made(
-        alloc: Global,
-        room: u32,
-        limit: u64,
-        roles: &[Role],
-    ) -> Result<(Self, Vec<Self::Seat>), Refusal>;
+    fn made(alloc: Global, room: u32, limit: u64, roles: &[Role]) -> Making<Self, Self::Seat>;
 
     /// What the queue leaves that is closed with these seats.
     fn leaves(self, alloc: Global, seats: Vec<Self::Seat>) -> Result<Left, Refusal>;
 }
 
-// What this rest of a queue of numbers has.
-fn left_in(mut rest: Rest) -> Left {
+// The first values of those left.
+fn first_of(left: &mut impl Iterator<Item = (u16, u64)>) -> [Option<(u16, u64)>; 4] {
     let mut first = [None; 4];
     for place in 0..4 {
-        first[place] = rest.next().map(|taken| (taken.from, taken.body.number()));
+        first[place] = left.next();
     }
+    first
+}
+
+// What this rest of a queue of numbers has.
+fn left_in(rest: Rest) -> Left {
+    let (taken, whole, was_shut) = (rest.taken(), rest.whole(), rest.was_shut());
+    let first = first_of(&mut rest.map(|taken| (taken.from, taken.body.number())));
     Left {
-        taken: rest.taken(),
+        taken,
         first,
-        whole: rest.whole(),
-        was_shut: rest.was_shut(),
+        whole,
+        was_shut,
     }
 }
 
 // The same of a queue of values.
-fn left_of<T: Numbered>(mut rest: RestOf<T>) -> Left {
-    let mut first = [None; 4];
-    for place in 0..4 {
-        first[place] = rest.next().map(|item| (item.from, item.value.number()));
-    }
+fn left_of<T: Numbered>(rest: RestOf<T>) -> Left {
+    let (taken, whole, was_shut) = (rest.taken(), rest.whole(), rest.was_shut());
+    let first = first_of(&mut rest.map(|item| (item.from, item.value.number())));
     Left {
-        taken: rest.taken(),
+        taken,
         first,
-        whole: rest.whole(),
-        was_shut: rest.was_shut(),
+        whole,
+        was_shut,
     }
 }
 
 impl<A: Algorithm<B>, const B: u32> Made for Numbers<ArenaQueueOf<A, B>> {
     // One node is always in the queue.
-    fn made(
-        alloc: Global,
-        room: u32,
-        limit: u64,
-        roles: &[Role],
-    ) -> Result<(Self, Vec<Self::Seat>), Refusal> {
+    fn made(alloc: Global, room: u32, limit: u64, roles: &[Role]) -> Making<Self, Self::Seat> {
         let (queue, seats) = ArenaQueueOf::<A, B>::new(alloc, room + 1, limit, roles)?;
         Ok((Numbers::new(queue), seats))
     }
@@ -84,12 +82,7 @@ impl<A: Algorithm<B>, const B: u32> Made for Numbers<ArenaQueueOf<A, B>> {
 }
 
 impl<T: Value, A: Algorithm<B>, const B: u32> Made for QueueOf<T, A, B> {
-    fn made(
-        alloc: Global,
-        room: u32,
-        limit: u64,
-        roles: &[Role],
-    ) -> Result<(Self, Vec<Self::Seat>), Refusal> {
+    fn made(alloc: Global, room: u32, limit: u64, roles: &[Role]) -> Making<Self, Self::Seat> {
         QueueOf::<T, A, B>::new(alloc, room + 1, limit, roles)
     }
 
@@ -116,12 +109,7 @@ pub fn ring_roles(alloc: Global, roles: &[Role]) -> Result<Vec<RingRole>, Refusa
 }
 
 impl Made for Numbers<RingQueue> {
-    fn made(
-        alloc: Global,
-        room: u32,
-        limit: u64,
-        roles: &[Role],
-    ) -> Result<(Self, Vec<Self::Seat>), Refusal> {
+    fn made(alloc: Global, room: u32, limit: u64, roles: &[Role]) -> Making<Self, Self::Seat> {
         let (queue, seats) = RingQueue::new(alloc, room, limit, &ring_roles(alloc, roles)?)?;
         Ok((Numbers::new(queue), seats))
     }
@@ -133,12 +121,7 @@ impl Made for Numbers<RingQueue> {
 }
 
 impl<T: Value> Made for RingValues<T> {
-    fn made(
-        alloc: Global,
-        room: u32,
-        limit: u64,
-        roles: &[Role],
-    ) -> Result<(Self, Vec<Self::Seat>), Refusal> {
+    fn made(alloc: Global, room: u32, limit: u64, roles: &[Role]) -> Making<Self, Self::Seat> {
         RingValues::<T>::new(alloc, room, limit, &ring_roles(alloc, roles)?)
     }
 

@@ -1,6 +1,6 @@
 //! Runs that rings alone make: their sizes, seats that lag, and slots of other seats.
 use super::calls::Told::{Back, Empty, NoPop, Pop, Push, Shut};
-use super::calls::{go, go_in, told};
+use super::calls::{go, go_in, go_through, told};
 use super::comparisons::same;
 use super::queues::{AMPLE, Made};
 use carriers::{Carrier, Numbers, Unpushed};
@@ -73,15 +73,7 @@ fn an_old_head_goes_on(rt: HostRuntime) -> Result<(), Fail> {
     let (queue, mut seats) = Ring::made(rt.alloc(), 8, AMPLE, &[Role::Both; 3])?;
     go_in(&rt, &queue, &mut seats, 1, &[(3, Empty)])?;
     go_in(&rt, &queue, &mut seats, 2, &[(2, Push(1)), (1, Pop(2, 1))])?;
-    for body in 9..23 {
-        go_in(
-            &rt,
-            &queue,
-            &mut seats,
-            2,
-            &[(1, Push(body)), (1, Pop(1, body))],
-        )?;
-    }
+    go_through(&rt, &queue, &mut seats, 2, 9..23)?;
     go_in(&rt, &queue, &mut seats, 2, &[(1, Push(23))])?;
     go_in(
         &rt,

@@ -5,7 +5,7 @@ use super::queues::AMPLE;
 use arena_queue::{Algorithm, ArenaQueue};
 use carriers::{Carrier, Numbers, Unpushed};
 use history::{Body, Fifo, Refusal};
-use mock_queues::{Listed, Planned, PlannedCarrier};
+use mock_queues::{Listed, Planned};
 use node_arena::Role;
 use nonblocking::NonBlockingAlgorithm;
 use std::process::Abort;
@@ -60,7 +60,7 @@ fn numbers_go_on<A: Algorithm<24>, R: AllocGlobal + Abort + Wait>(rt: &R) -> Res
 fn values_go_on<A: Algorithm<24>, R: AllocGlobal + Abort + Wait>(rt: &R) -> Result<(), Fail> {
     let (first, second) = bodies()?;
     let (queue, mut seats) = ArenaQueue::<A>::new(rt.alloc(), 2, AMPLE, &[Role::Both])?;
-    let queue = PlannedCarrier::new(Numbers::new(queue), Listed::new(&TRIES));
+    let queue = Numbers::new(Planned::new(queue, Listed::new(&TRIES)));
     let seat = &mut seats[0];
     same(rt, queue.push(rt, seat, first), Ok(()), "a push");
     let back = Unpushed {

@@ -1,6 +1,6 @@
 //! Runs in which a count, or the places of a ring, are used up.
 use super::calls::Told::{Back, NoPop, NoShut, Pop, Push, Shut};
-use super::calls::{Told, go, go_in};
+use super::calls::{Told, go, go_in, go_through};
 use super::comparisons::same;
 use super::queues::{Left, Made};
 use carriers::Numbers;
@@ -121,15 +121,7 @@ fn a_worn_tail_refuses_a_pop(rt: HostRuntime) -> Result<(), Fail> {
 #[test]
 fn places_are_used_up(rt: HostRuntime) -> Result<(), Fail> {
     let (queue, mut seats) = Numbers::<RingQueue>::made(rt.alloc(), 2, 10, &[Role::Both])?;
-    for body in 2..9 {
-        go_in(
-            &rt,
-            &queue,
-            &mut seats,
-            1,
-            &[(1, Push(body)), (1, Pop(1, body))],
-        )?;
-    }
+    go_through(&rt, &queue, &mut seats, 1, 2..9)?;
     go_in(&rt, &queue, &mut seats, 1, &[(1, Push(9))])?;
     go_in(&rt, &queue, &mut seats, 1, &NO_PLACE)
 }

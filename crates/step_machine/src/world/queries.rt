@@ -4,12 +4,12 @@ ghost use Rattle.history.specs.declared.refusals.Refusal.TheVariants.{Memory};
 ghost use Rattle.history.specs.History.{Placement, IsLegal};
 ghost use Rattle.history.specs.Linearizability.{IsLinearizable};
 ghost use Rattle.line_steps.specs.Memory.{Free, Head, Tail, Next, Value_of, content};
-ghost use Rattle.step_machine.specs.Accesses.{contents_in, touched_by, word_named};
+ghost use Rattle.step_machine.specs.Accesses.{contents_in, expected_by, touched_by, word_named};
 ghost use Rattle.step_machine.specs.Machine.{actor_of, IsMade, IsReached};
 ghost use Rattle.step_machine.specs.Words.{memory_words};
 ghost use Rattle.step_machine.specs.TakingEffect.{HavePlacesByItsEffects};
 
-use crate::accesses::{Contents, WordName, told, word_at};
+use crate::accesses::{Contents, WordName, expected_at, told, word_at};
 use crate::commits::actor_at;
 use crate::world::WorldOf;
 use counted_ref::CountedRefOf;
@@ -106,6 +106,30 @@ impl<const B: u32> WorldOf<B> {
         match actor_at(&self.actors, actor) {
             Some(a) => match a.line {
                 Some(line) => Some(word_at(a, line)),
+                None => None,
+            },
+            None => None,
+        }
+    }
+
+    /// What the next step of an actor expects to find, if it is a compare-exchange; none where it is another access, and where the
+    /// actor has no call or isn't there.
+    ///
+    /// ```rust
+    /// // N5 exchanges Fresh, which was 1 as N1 read it.
+    /// world.begin(1, Op::Enq(body))?;
+    /// world.step(1)?;
+    /// world.step(1)?;
+    /// assert!(world.expects(1) == Some(Contents::Number(1)) && world.expects(2).is_none());
+    /// ```
+    pub fn expects(&self, actor: u16) -> Option<Contents>
+        //= worlds/expects: A world tells what an actor's next step expects to find, if it is a compare-exchange, as the line
+        //=   table has it.
+        ensures { result ≡ expected_by B self.now actor (actor_of self.now actor) }
+    {
+        match actor_at(&self.actors, actor) {
+            Some(a) => match a.line {
+                Some(line) => expected_at(a, line),
                 None => None,
             },
             None => None,

@@ -99,7 +99,7 @@ const FOUND: [(&str, u8, &str); 11] = [
     (OVERTAKEN, 3, "no 3 Order 2 1\n"),
     (NEVER_EMPTY, 3, "no 3 Full 1 2\n"),
     (SHUT, 0, ITS_SHUT),
-    (REPEATED, 4, "open Searched\n"),
+    (REPEATED, 3, "no 4 Stuck 1 2\n"),
     (CROWDED, 0, ITS_ROOM),
 ];
 
@@ -139,7 +139,7 @@ fn writes_nothing_where_a_read_fails(rt: HostRuntime) -> Result<(), Fail> {
 const BEGUN: [(&str, &str); 3] = [
     (RECORDED, ITS_POINTS),
     (NEVER_EMPTY, "no 3 Full 1 2\n"),
-    (REPEATED, "open Searched\n"),
+    (REPEATED, "no 4 Stuck 1 2\n"),
 ];
 
 #[test]

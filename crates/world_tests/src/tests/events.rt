@@ -1,8 +1,8 @@
 //! What a test does with a world, and what it expects to see there: constants, so with bodies as numbers.
-use super::expected::{Answer, Call};
+use super::expected::{Answer, Call, Content};
 use history::Refusal;
 use line_table::Line;
-use step_machine::{Held, Place};
+use step_machine::{Held, Place, WordName};
 
 /// A move of a world.
 #[derive(Clone, Copy, Debug)]
@@ -32,6 +32,13 @@ pub enum Event {
     Give(u16),
     /// A move is made by `step_in`, which tells this.
     Told(Act, Telling),
+    /// The next step of an actor is at this line and touches this word, which it expects to hold the first content, if it is a
+    /// compare-exchange, and which holds the second one. Then it is taken.
+    Touch(u16, Line, WordName, Option<Content>, Content),
+    /// An actor has no next step: it touches no word, and expects nothing.
+    Idle(u16),
+    /// A word holds this.
+    Holds(WordName, Content),
     /// What Free, Head and Tail name.
     Free(u32, u64),
     Head(u32, u64),

@@ -1,5 +1,6 @@
 //! Operations, as a history is to show them: constants, with bodies as numbers below 2^32.
 use history::{Body, Op, Refusal, Reply, Stamped, Taken};
+use step_machine::Contents;
 
 /// A call, with the number of its body.
 #[derive(Clone, Copy, Debug)]
@@ -30,6 +31,29 @@ pub enum Word {
     Number(u64),
     /// A reference, with 16, with 24 and with 32 bits for the node.
     Reference(u64, u64, u64),
+}
+
+/// What a word holds, by its parts.
+#[derive(Clone, Copy, Debug)]
+pub enum Content {
+    /// A number that is no reference.
+    Number(u64),
+    /// The node and the count of a reference.
+    Reference(u32, u64),
+    /// The count of a closed end.
+    Closed(u64),
+    /// The actor that pushed a value, and its body.
+    Value(u16, u32),
+}
+
+/// What a world tells of a word that holds this.
+pub fn contents(content: Content) -> Contents {
+    match content {
+        Content::Number(number) => Contents::Number(number),
+        Content::Reference(node, count) => Contents::Reference(node, count),
+        Content::Closed(count) => Contents::Closed(count),
+        Content::Value(from, number) => Contents::Value(taken(from, number)),
+    }
 }
 
 /// The word as it is with so many bits for a node, which are 16, 24 or 32.

@@ -3,7 +3,7 @@ ghost use Rattle.counted_ref.specs.Ref.{IsSplit};
 
 use super::comparisons::same;
 use super::events::{Event, Telling};
-use super::expected::{Complete, Word, closed_end, reply, stamped, taken, word_in};
+use super::expected::{Complete, Word, closed_end, contents, reply, stamped, taken, word_in};
 use super::moves::{begin, give, move_of, steps};
 use super::queries::{line_of, next_of, parts, place_of, pocket_of, value_of};
 use history::{Refusal, Stamped, Verdict, check};
@@ -156,7 +156,32 @@ impl<const B: u32> TrialOf<B> {
             Event::Told(act, telling) => {
                 same(rt, step_in(world, move_of(act)), answer_of(telling), tried);
             }
+            Event::Touch(actor, ..) => {
+                self.touches(rt, event);
+                same(rt, steps(&mut self.world, actor, 1), Ok(()), tried);
+            }
+            Event::Idle(_) | Event::Holds(..) => self.touches(rt, event),
             _ => self.sees(rt, event),
+        }
+    }
+
+    // The next step of an actor, and what a word holds, are as the event says.
+    fn touches(&self, rt: &impl Abort, event: Event) {
+        let world = &self.world;
+        let tried = (self.name, event);
+        match event {
+            Event::Touch(actor, line, word, expected, held) => {
+                same(rt, line_of(world, actor), Some(line), tried);
+                same(rt, world.touches(actor), Some(word), tried);
+                same(rt, world.expects(actor), expected.map(contents), tried);
+                same(rt, world.holds(word), contents(held), tried);
+            }
+            Event::Idle(actor) => {
+                same(rt, world.touches(actor), None, tried);
+                same(rt, world.expects(actor), None, tried);
+            }
+            Event::Holds(word, held) => same(rt, world.holds(word), contents(held), tried),
+            _ => (),
         }
     }
 
@@ -183,7 +208,7 @@ impl<const B: u32> TrialOf<B> {
             Event::Value(node, from, number) => {
                 same(rt, value_of(world, node), Some(taken(from, number)), tried);
             }
-            Event::Begin(..) | Event::Steps(..) | Event::Give(_) | Event::Told(..) => (),
+            _ => (),
         }
     }
 }

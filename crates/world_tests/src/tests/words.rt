@@ -12,49 +12,38 @@ use std::test::Fail;
 
 const PUSH_AND_POP: [Event; 4] = [Begin(1, Enq(5)), Steps(1, 10), Begin(2, Deq), Steps(2, 9)];
 
+/// Words of these worlds: the null reference with the count 1, node 1 and node 2 with the count 1, and a closed end with the count 1.
+const NULL_1: Word = Reference(65_536, 16_777_216, 4_294_967_296);
+
+const NODE_1: Word = Reference(65_537, 16_777_217, 4_294_967_297);
+
+const NODE_2: Word = Reference(65_538, 16_777_218, 4_294_967_298);
+
+const CLOSED: Word = Reference(131_071, 33_554_431, 8_589_934_591);
+
+/// The values 5 and 6 of actor 1.
+const FIVE: Word = Number(281_474_976_710_661);
+
+const SIX: Word = Number(281_474_976_710_662);
+
+const ZERO: Word = Number(0);
+
+const ONE: Word = Number(1);
+
+const TWO: Word = Number(2);
+
+const THREE: Word = Number(3);
+
 const AT_FIRST: [Word; 12] = [
-    Number(1),
-    Number(0),
-    Number(1),
-    Number(1),
-    Number(0),
-    Number(0),
-    Number(0),
-    Number(0),
-    Number(0),
-    Number(0),
-    Number(0),
-    Number(0),
+    ONE, ZERO, ONE, ONE, ZERO, ZERO, ZERO, ZERO, ZERO, ZERO, ZERO, ZERO,
 ];
 
 const OF_TWO_LOCK: [Word; 12] = [
-    Number(2),
-    Reference(65_537, 16_777_217, 4_294_967_297),
-    Reference(65_538, 16_777_218, 4_294_967_298),
-    Number(2),
-    Number(0),
-    Number(0),
-    Number(0),
-    Number(0),
-    Number(0),
-    Number(281_474_976_710_661),
-    Number(0),
-    Number(0),
+    TWO, NODE_1, NODE_2, TWO, ZERO, ZERO, ZERO, ZERO, ZERO, FIVE, ZERO, ZERO,
 ];
 
 const OF_NON_BLOCKING: [Word; 12] = [
-    Number(2),
-    Reference(65_537, 16_777_217, 4_294_967_297),
-    Reference(65_538, 16_777_218, 4_294_967_298),
-    Reference(65_538, 16_777_218, 4_294_967_298),
-    Number(0),
-    Number(0),
-    Reference(65_536, 16_777_216, 4_294_967_296),
-    Number(0),
-    Number(0),
-    Number(281_474_976_710_661),
-    Number(0),
-    Number(0),
+    TWO, NODE_1, NODE_2, NODE_2, ZERO, ZERO, NULL_1, ZERO, ZERO, FIVE, ZERO, ZERO,
 ];
 
 const SHUT: [Event; 10] = [
@@ -72,18 +61,7 @@ const SHUT: [Event; 10] = [
 
 /// The closed end stands in the last `next`.
 const OF_SHUT: [Word; 12] = [
-    Number(3),
-    Reference(65_537, 16_777_217, 4_294_967_297),
-    Reference(65_538, 16_777_218, 4_294_967_298),
-    Reference(65_538, 16_777_218, 4_294_967_298),
-    Number(0),
-    Number(0),
-    Reference(65_536, 16_777_216, 4_294_967_296),
-    Number(0),
-    Reference(131_071, 33_554_431, 8_589_934_591),
-    Number(281_474_976_710_661),
-    Number(0),
-    Number(281_474_976_710_662),
+    THREE, NODE_1, NODE_2, NODE_2, ZERO, ZERO, NULL_1, ZERO, CLOSED, FIVE, ZERO, SIX,
 ];
 
 /// What is tried: what a world is made of, what it goes through, and all its words then.

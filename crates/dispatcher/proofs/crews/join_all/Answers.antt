@@ -1,6 +1,6 @@
 use Rattle.std.proofs.Common.{◌∙◌, ◌++◌, ◌∷◌, [], ap, sym, subst, length, append_assoc, arith}
 use Rattle.std.specs.List.{AllZip}
-use Rattle.blocking_queue.specs.Queues.{queue_of}
+use Rattle.shared_queue.specs.Queues.{numbers_in}
 use Rattle.dispatcher.specs.Crews.{Returned}
 use Rattle.dispatcher.proofs.Taking.{zip-push}
 use Rattle.dispatcher.proofs.crews.join_all.Goals as goal
@@ -13,13 +13,13 @@ loop-one-init g c =
     let room = c.requires.room in (
       [],
       gives,
-      subst (AllZip (Returned {X = g.row.X.Denot} g.Q.Fifo.is_seat g.Q.Fifo.known g.Q.Fifo.pop_cause (queue_of c.args.queue.now) c.args.jobs.now g.X.Excuse.cause g.G.Gate.done c.args.gate.now) []) (sym c.requires.none) tt,
+      subst (AllZip (Returned {X = g.row.X.Denot} g.Q.Fifo.is_seat g.Q.Fifo.known g.Q.Fifo.pop_cause (numbers_in c.args.queue.now) c.args.jobs.now g.X.Excuse.cause g.G.Gate.done c.args.gate.now) []) (sym c.requires.none) tt,
       omega (arith, few, none, room),
     )
 
 pub loop-one-preserved : goal.loop-one-preserved
 loop-one-preserved g c =
-    let Returns = Returned {X = g.row.X.Denot} g.Q.Fifo.is_seat g.Q.Fifo.known g.Q.Fifo.pop_cause (queue_of c.args.queue.now) c.args.jobs.now g.X.Excuse.cause g.G.Gate.done c.args.gate.now in
+    let Returns = Returned {X = g.row.X.Denot} g.Q.Fifo.is_seat g.Q.Fifo.known g.Q.Fifo.pop_cause (numbers_in c.args.queue.now) c.args.jobs.now g.X.Excuse.cause g.G.Gate.done c.args.gate.now in
     let was = c.loop-one.invariant in
     let split = c.in-Some.ensures.steps.0 in
     let one = c.in-Some.one in

@@ -1,5 +1,5 @@
 use Rattle.std.proofs.Common.{◌≡◌, ◌≤◌, subst, length, vec_capacity, rules, arith}
-use Rattle.blocking_queue.specs.Queues.{queue_of}
+use Rattle.shared_queue.specs.Queues.{numbers_in}
 use Rattle.dispatcher.specs.Submissions.{HasGiven}
 use Rattle.dispatcher.specs.Turns.{IsBack}
 use Rattle.dispatcher.specs.Crews.{IsStartedFor, Returned}
@@ -8,7 +8,7 @@ use Rattle.dispatcher.proofs.crews.run.Goals as goal
 
 pub join_all-workers-requires-clause-room : goal.join_all-workers-requires-clause-room
 join_all-workers-requires-clause-room g c κs within =
-    let Starts = IsStartedFor g.Q.Fifo.is_seat g.Q.Fifo.known g.Q.Fifo.pop_cause (queue_of c.args.queue.now) c.args.jobs.now g.X.Excuse.cause g.G.Gate.done c.args.gate.now in
+    let Starts = IsStartedFor g.Q.Fifo.is_seat g.Q.Fifo.known g.Q.Fifo.pop_cause (numbers_in c.args.queue.now) c.args.jobs.now g.X.Excuse.cause g.G.Gate.done c.args.gate.now in
     let many = zip-length Starts c.args.takers.items c.start_all-started.result.items c.start_all-started.ensures in
     let room : length c.args.takers.items ≤ vec_capacity c.reserve-else-is_err.new.self = search rules in
     omega (arith, many, room)
@@ -17,7 +17,7 @@ pub returns-clause-run : goal.returns-clause-run
 returns-clause-run g c =
     let is_seat = g.Q.Fifo.is_seat in
     let known = g.Q.Fifo.known in
-    let queue = queue_of c.args.queue.now in
+    let queue = numbers_in c.args.queue.now in
     let jobs = c.args.jobs.now in
     let cause = g.Q.Fifo.pop_cause in
     let stops = g.X.Excuse.cause in

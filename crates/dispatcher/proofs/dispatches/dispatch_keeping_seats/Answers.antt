@@ -1,5 +1,5 @@
 use Rattle.std.proofs.Common.{◌≡◌, ◌∷◌, ap, subst, sym, length, arith}
-use Rattle.blocking_queue.specs.Queues.{queue_of}
+use Rattle.shared_queue.specs.Queues.{numbers_in as queue_in}
 use Rattle.job_results.specs.Gathers.{jobs_in}
 use Rattle.dispatcher.specs.Submissions.{WasUnshut}
 use Rattle.dispatcher.specs.Turns.{IsBack}
@@ -11,8 +11,8 @@ use Rattle.dispatcher.proofs.dispatches.dispatch_keeping_seats.Goals as goal
 pub gathered-requires-clause-room : goal.gathered-requires-clause-room
 gathered-requires-clause-room g c =
     let back = c.in-Ok.ensures.run.back in
-    let stops = WasUnshut g.Q.Fifo.is_seat g.Q.Fifo.known g.Q.Fifo.shut_cause (queue_of c.args.queue.now) in
-    let many = zip-length (IsBack g.Q.Fifo.is_seat g.Q.Fifo.known g.Q.Fifo.pop_cause (queue_of c.args.queue.now) c.args.jobs.now stops (g.G.Gate.done c.args.gate.now)) c.args.takers.items c.in-Ok.run'.workers.items back in
+    let stops = WasUnshut g.Q.Fifo.is_seat g.Q.Fifo.known g.Q.Fifo.shut_cause (queue_in c.args.queue.now) in
+    let many = zip-length (IsBack g.Q.Fifo.is_seat g.Q.Fifo.known g.Q.Fifo.pop_cause (queue_in c.args.queue.now) c.args.jobs.now stops (g.G.Gate.done c.args.gate.now)) c.args.takers.items c.in-Ok.run'.workers.items back in
     let room = c.in_ok-seats.ensures.room in
     let len = c.len.ensures in
     let whole = c.args.takers.ok.0 in
@@ -22,7 +22,7 @@ pub returns-in-Ok-clause-went : goal.returns-in-Ok-clause-went
 returns-in-Ok-clause-went g c =
     let is_seat = g.Q.Fifo.is_seat in
     let known = g.Q.Fifo.known in
-    let queue = queue_of c.args.queue.now in
+    let queue = queue_in c.args.queue.now in
     let jobs = c.args.jobs.now in
     let run = c.in-Ok.run' in
     both_ok c.gathered.result (λ d. d.seats.items ≡ run.giver.seat ∷ seats_in run.workers.items) (λ d. Came (length (jobs_in c.in_ok-gather.gather)) (numbers_in run.workers.items))
@@ -36,7 +36,7 @@ pub returns-in-Ok-clause-lost : goal.returns-in-Ok-clause-lost
 returns-in-Ok-clause-lost g c =
     let is_seat = g.Q.Fifo.is_seat in
     let known = g.Q.Fifo.known in
-    let queue = queue_of c.args.queue.now in
+    let queue = queue_in c.args.queue.now in
     let jobs = c.args.jobs.now in
     let stops = WasUnshut is_seat known g.Q.Fifo.shut_cause queue in
     let gated = g.G.Gate.done c.args.gate.now in

@@ -1,7 +1,7 @@
 use Rattle.std.proofs.Common.{rules, arith, refl}
 use Rattle.mailbox.proofs.Order.{in_order}
 use Rattle.mailbox.proofs.Counting.{counted_in-none, counted_in-then, counted_in-out_of_turn}
-use Rattle.mailbox.proofs.Stopping.{all_there_open, all_there_shut, until_refused, until_out_of_turn}
+use Rattle.mailbox.proofs.Stopping.{all_there_open, all_there_shut, delivered_open, delivered_shut, until_refused, until_out_of_turn}
 use Rattle.mailbox.proofs.Delivering.{delivered_none, delivered-then_letter}
 use Rattle.mailbox.proofs.taken_letters.take_all.Goals as goal
 
@@ -24,7 +24,7 @@ last_due-requires-clause-shown g c κs within =
 pub loop-preserved : goal.loop-preserved
 loop-preserved g c =
     let took = rw c.in-Ok-Some.field-0-is at c.in-Ok-Some.ensures.answer in
-    let due = rw c.in-Some-last_due.is at (c.last_due.ensures.fits took.value.body c.in-Ok-Some.letter.text.now took.read) in
+    let due = rw c.in-Some-last_due.is at (c.last_due.ensures.fits took.front.value c.in-Ok-Some.letter.text.now took.read) in
     record {
       can = tt;
       finite = tt;
@@ -38,8 +38,14 @@ loop-preserved g c =
       order = c.in-Ok-Some.ensures.order;
     }
 
+pub returns-in-Ok-None-clause-delivered : goal.returns-in-Ok-None-clause-delivered
+returns-in-Ok-None-clause-delivered g c = delivered_open _ _ _ _ _ c.loop.invariant.delivered (rw c.in-Ok-None.field-0-is at c.in-Ok-None.ensures.answer)
+
 pub returns-in-Ok-None-clause-short : goal.returns-in-Ok-None-clause-short
 returns-in-Ok-None-clause-short g c short = all_there_open _ _ _ _ _ c.loop.invariant.delivered (rw c.in-Ok-None.field-0-is at c.in-Ok-None.ensures.answer)
+
+pub returns-in-Err-Closed-clause-delivered : goal.returns-in-Err-Closed-clause-delivered
+returns-in-Err-Closed-clause-delivered g c = delivered_shut _ _ _ _ _ c.loop.invariant.delivered (rw c.in-Err-Closed.field-0-is at c.in-Err-Closed.ensures.refused)
 
 pub returns-in-Err-Closed-clause-short : goal.returns-in-Err-Closed-clause-short
 returns-in-Err-Closed-clause-short g c short = all_there_shut _ _ _ _ _ c.loop.invariant.delivered (rw c.in-Err-Closed.field-0-is at c.in-Err-Closed.ensures.refused)

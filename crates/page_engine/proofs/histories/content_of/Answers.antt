@@ -14,7 +14,7 @@ returns-in-Ok-clause-found c =
     let given = c.args.given.now in
     let found = c.in_ok-found.found in
     let answers : IsAnswer given.history.items found = rw c.deref.ensures.value at c.in_ok-found.ensures.answer in
-    let cause : HasCause given.history.items c.args.steps found = rw c.deref.ensures.value at c.in_ok-found.ensures.cause in
+    let cause : HasCause given.history.items c.args.room found = rw c.deref.ensures.value at c.in_ok-found.ensures.cause in
     record {
       answer = found;
       answers = answers;

@@ -7,7 +7,7 @@ returns-clause-ok g c =
     let given = c.in_ok-given.given in
     let history = given.history.items in
     let answers : IsAnswer history c.in_ok-found.found = rw c.deref.ensures.value at c.in_ok-found.ensures.answer in
-    let cause : HasCause history c.args.steps c.in_ok-found.found = rw c.deref.ensures.value at c.in_ok-found.ensures.cause in
+    let cause : HasCause history c.args.room c.in_ok-found.found = rw c.deref.ensures.value at c.in_ok-found.ensures.cause in
     record {
       text = given.text.items;
       operations = history;

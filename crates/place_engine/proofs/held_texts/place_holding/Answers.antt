@@ -9,7 +9,7 @@ returns-clause-ok g c =
     let held = map bytes_of c.args.held.now in
     let text = c.in_ok-text.text.items in
     let answer = c.in_ok-found.found in
-    let found : FindsHolding held text c.args.steps answer = rw c.deref.ensures.value at c.in_ok-found.ensures.ok in
+    let found : FindsHolding held text c.args.room answer = rw c.deref.ensures.value at c.in_ok-found.ensures.ok in
     record {
       text = text;
       read = c.in_ok-text.ensures.ok;

@@ -1,13 +1,13 @@
-//! A handle whose seat is leased gives further ones, and the queue ends as the last of them is dropped.
+//! A sender whose seat is leased gives further ones, and so does a receiver; the channel ends as the last of a side is dropped.
 use super::sides::{AMPLE, Opened, ReceivesInTime};
 use super::stories::{EACH, PAUSE, hands_over, millis};
 use crate::tests::values::Numbered;
-use blocking_queue::BlockingQueue;
+use carriers::Numbers;
 use history::{Body, Fifo, Refusal};
 use node_arena::Role;
 use nonblocking::MsQueue;
-use queue_handles::{Handle, deal_side};
-use seat_pool::{Part, SeatPool};
+use seat_pool::{Lease, Part, SeatPool};
+use shared_queue::{Receiver, Sender, SharedQueue, receivers, senders};
 use std::alloc::Global;
 use std::process::Abort;
 use std::sync::{Arc, Wait};
@@ -28,13 +28,12 @@ const EIGHT: [Role; 8] = [
     Role::Taker,
 ];
 
-// A handle of a new side of this queue.
-fn one_handle<Q: Fifo + Send + Sync + Drop>(
+// The seats of a new side of this pool: one of this part, and its closer.
+fn side<Q: Fifo + Send + Sync + Drop>(
     alloc: Global,
     pool: &SeatPool<Q>,
-    queue: &Arc<BlockingQueue<SeatPool<Q>>, Global>,
     part: Part,
-) -> Result<Handle<SeatPool<Q>>, Refusal> {
+) -> Result<(Lease<Q>, Vec<Lease<Q>>), Refusal> {
     let (Some(closer), Some(seat)) = (pool.lease(Part::Giver), pool.lease(part)) else {
         return Err(Refusal::BadSize);
     };
@@ -42,8 +41,7 @@ fn one_handle<Q: Fifo + Send + Sync + Drop>(
     if seats.push(seat).is_err() {
         return Err(Refusal::Memory);
     }
-    let mut handles = deal_side(alloc, queue, closer, seats)?;
-    handles.pop().ok_or(Refusal::BadSize)
+    Ok((closer, seats))
 }
 
 // The first sender and the first receiver of a queue whose seats are leased.
@@ -51,16 +49,20 @@ fn opened<Q: Fifo + Send + Sync + Drop>(
     alloc: Global,
     queue: Q,
     seats: Vec<Q::Seat>,
-) -> Result<(Handle<SeatPool<Q>>, Handle<SeatPool<Q>>), Refusal> {
+) -> Result<(Sender<Numbers<SeatPool<Q>>>, Receiver<Numbers<SeatPool<Q>>>), Refusal> {
     let pool = SeatPool::new(alloc, queue, seats)?;
     let Some(shared) = pool.share() else {
         return Err(Refusal::Memory);
     };
-    let Ok(queue) = Arc::new(alloc, BlockingQueue::new(shared)) else {
+    let Ok(queue) = Arc::new(alloc, SharedQueue::new(Numbers::new(shared))) else {
         return Err(Refusal::Memory);
     };
-    let sender = one_handle(alloc, &pool, &queue, Part::Giver)?;
-    let receiver = one_handle(alloc, &pool, &queue, Part::Taker)?;
+    let (closer, seats) = side(alloc, &pool, Part::Giver)?;
+    let mut senders = senders(alloc, &queue, closer, seats)?;
+    let (closer, seats) = side(alloc, &pool, Part::Taker)?;
+    let mut receivers = receivers(alloc, &queue, closer, seats)?;
+    let sender = senders.pop().ok_or(Refusal::BadSize)?;
+    let receiver = receivers.pop().ok_or(Refusal::BadSize)?;
     Ok((sender, receiver))
 }
 
@@ -89,13 +91,13 @@ fn ends_by_the_last_clone<R: Abort + Wait + Clock, Q: Fifo<Seat: Sync> + Send + 
     let Some(mut other) = sender.try_clone() else {
         return Err(Refusal::BadSize.into());
     };
-    assert_eq!(rt; (sender.handles(), receiver.handles()), (2, 1));
+    assert_eq!(rt; (sender.count(), receiver.count()), (2, 1));
     sender.send(rt, one)?;
     other.send(rt, two)?;
     let (first, second) = (receiver.recv(rt)?, receiver.recv(rt)?);
     assert!(rt; first.from != second.from, "a clone has a seat of its own");
     drop(sender);
-    assert_eq!(rt; other.handles(), 1);
+    assert_eq!(rt; other.count(), 1);
     assert_eq!(rt; next_body(rt, &mut receiver), Ok(None), "a clone is left");
     other.send(rt, one)?;
     drop(other);
@@ -125,7 +127,7 @@ fn runs_out_of_seats<R: Abort, Q: Fifo + Send + Sync + Drop>(
         sender.try_clone().is_none(),
         "each seat that pushes is leased"
     );
-    assert_eq!(rt; sender.handles(), 3, "what isn't cloned doesn't count");
+    assert_eq!(rt; sender.count(), 3, "what isn't cloned doesn't count");
     drop(a);
     assert!(rt;
         sender.try_clone().is_some(),
@@ -142,7 +144,7 @@ fn ends_on_threads<
     let (Some(other), Some(second)) = (sender.try_clone(), receiver.try_clone()) else {
         return Err(Refusal::BadSize.into());
     };
-    assert_eq!(rt; (sender.handles(), receiver.handles()), (2, 2));
+    assert_eq!(rt; (sender.count(), receiver.count()), (2, 2));
     let opened = Opened {
         senders: (sender, other),
         receivers: (receiver, second),

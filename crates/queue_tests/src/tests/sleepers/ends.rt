@@ -8,7 +8,7 @@ use std::test::Fail;
 use two_lock::TwoLockQueue;
 use value_queue::{MsValueQueue, TwoLockValueQueue};
 
-// Tells a story of the handles of each queue of so many nodes: those of numbers, and those of texts.
+// Tells a story of the senders and receivers of each queue of so many nodes: those of numbers, and those of texts.
 macro_rules! over_each {
     ($story:ident, $rt:expr, $nodes:expr) => {{
         let alloc = $rt.alloc();

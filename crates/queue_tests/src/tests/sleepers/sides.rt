@@ -1,10 +1,8 @@
-//! What sends values, and what receives them: handles of queues of numbers, and those of queues of values.
+//! What sends values, and what receives them.
 use crate::tests::values::Numbered;
-use blocking_queue::{BlockingQueue, InTime as NumberInTime};
-use carriers::{Carrier, ItemOf, Unpushed};
-use history::{Body, Fifo, Refusal, Taken};
+use carriers::{Carrier, ItemOf, Numbers, Unpushed};
+use history::{Fifo, Refusal};
 use node_arena::Role;
-use queue_handles::{Handle, deal_side};
 use shared_queue::{InTime, Late, Receiver, Sender, SharedQueue, Unsent, receivers, senders};
 use std::alloc::Global;
 use std::sync::{Arc, Wait};
@@ -110,106 +108,6 @@ pub fn deadline(clock: &impl Clock, time: Duration) -> Option<Instant> {
     match Instant::now(clock) {
         Ok(now) => now.checked_add(time),
         Err(_) => None,
-    }
-}
-
-// What came of a number.
-fn number_sent(answer: Result<(), Refusal>, body: Body) -> Fate<Body> {
-    match answer {
-        Ok(()) => Fate::Sent,
-        Err(refusal) => Fate::Back(refusal, body),
-    }
-}
-
-// The same in time.
-fn number_sent_in<S: Drop>(answer: Result<NumberInTime<(), S>, Refusal>, body: Body) -> Fate<Body> {
-    match answer {
-        Ok(NumberInTime::Done(())) => Fate::Sent,
-        Ok(NumberInTime::Late(_)) => Fate::Back(Refusal::NoNode, body),
-        Err(refusal) => Fate::Back(refusal, body),
-    }
-}
-
-// A number that was taken.
-fn number_got(taken: Taken) -> Option<(u16, Body)> {
-    Some((taken.from, taken.body))
-}
-
-// The same in time.
-fn number_got_in<S: Drop>(answer: Result<NumberInTime<Taken, S>, Refusal>) -> Got<Body> {
-    match answer? {
-        NumberInTime::Done(taken) => Ok(number_got(taken)),
-        NumberInTime::Late(_) => Ok(None),
-    }
-}
-
-impl<Q: Fifo<Seat: Sync> + Send + Sync + Drop> Sends for Handle<Q> {
-    type Value = Body;
-
-    type Rest = ();
-
-    fn send<R: Wait>(&mut self, rt: &R, body: Body) -> Fate<Body> {
-        number_sent(Handle::send(self, rt, body), body)
-    }
-
-    fn leave(self) {
-        drop(self);
-    }
-
-    fn end<R: Wait>(_rt: &R, _one: (), _other: ()) {}
-}
-
-impl<Q: Fifo<Seat: Sync> + Send + Sync + Drop> SendsInTime for Handle<Q> {
-    fn count(&self) -> usize {
-        self.handles()
-    }
-
-    fn try_send(&mut self, body: Body) -> Fate<Body> {
-        number_sent(Handle::try_send(self, body), body)
-    }
-
-    fn send_in<R: Wait + Clock>(&mut self, rt: &R, body: Body, time: Duration) -> Fate<Body> {
-        number_sent_in(self.send_timeout(rt, body, time), body)
-    }
-
-    fn send_until<R: Wait + Clock>(&mut self, rt: &R, body: Body, time: Duration) -> Fate<Body> {
-        match deadline(rt, time) {
-            Some(deadline) => number_sent_in(self.send_deadline(rt, body, deadline), body),
-            None => Fate::Back(Refusal::Busy, body),
-        }
-    }
-}
-
-impl<Q: Fifo<Seat: Sync> + Send + Sync + Drop> Receives for Handle<Q> {
-    type Value = Body;
-
-    fn recv_or_end<R: Wait>(&mut self, rt: &R) -> Got<Body> {
-        Ok(Handle::recv_or_end(self, rt)?.and_then(number_got))
-    }
-}
-
-impl<Q: Fifo<Seat: Sync> + Send + Sync + Drop> ReceivesInTime for Handle<Q> {
-    fn count(&self) -> usize {
-        self.handles()
-    }
-
-    fn recv<R: Wait>(&mut self, rt: &R) -> Got<Body> {
-        Handle::recv(self, rt).map(number_got)
-    }
-
-    fn try_recv(&mut self) -> Got<Body> {
-        Ok(Handle::try_recv(self)?.and_then(number_got))
-    }
-
-    fn recv_in<R: Wait + Clock>(&mut self, rt: &R, time: Duration) -> Got<Body> {
-        number_got_in(self.recv_timeout(rt, time))
-    }
-
-    fn recv_until<R: Wait + Clock>(&mut self, rt: &R, time: Duration) -> Got<Body> {
-        match deadline(rt, time) {
-            Some(deadline) => number_got_in(self.recv_deadline(rt, deadline)),
-            None => Ok(None),
-        }
     }
 }
 
@@ -321,22 +219,6 @@ pub trait Rests: Drop {
     fn next<R: Wait>(&mut self, rt: &R) -> Option<u64>;
 }
 
-/// A queue of numbers, and a seat that takes what is left.
-#[derive(Drop)]
-pub struct RestOfNumbers<Q: Fifo + Drop> {
-    queue: Arc<BlockingQueue<Q>, Global>,
-    seat: Q::Seat,
-}
-
-impl<Q: Fifo + Drop> Rests for RestOfNumbers<Q> {
-    fn next<R: Wait>(&mut self, rt: &R) -> Option<u64> {
-        match self.queue.pop(rt, &mut self.seat) {
-            Ok(Some(taken)) => Some(taken.body.number()),
-            _ => None,
-        }
-    }
-}
-
 /// A queue of values, and a seat that takes what is left.
 #[derive(Drop)]
 pub struct RestOfValues<C: Carrier + Drop> {
@@ -380,26 +262,15 @@ fn both<H: Drop>(mut handles: Vec<H>) -> Result<(H, H), Refusal> {
     }
 }
 
-/// The handles of a queue of numbers with seven seats.
+/// The senders and receivers of a queue of numbers with seven seats.
 pub fn numbers<Q: Fifo + Drop>(
     alloc: Global,
-    (queue, mut seats): (Q, Vec<Q::Seat>),
-) -> Result<Opened<Handle<Q>, Handle<Q>, RestOfNumbers<Q>>, Refusal> {
-    let queue = Arc::new(alloc, BlockingQueue::new(queue)).map_err(|_| Refusal::Memory)?;
-    let (two, closer) = side_seats(alloc, &mut seats)?;
-    let senders = both(deal_side(alloc, &queue, closer, two)?)?;
-    let (two, closer) = side_seats(alloc, &mut seats)?;
-    let receivers = both(deal_side(alloc, &queue, closer, two)?)?;
-    let seat = seats.pop().ok_or(Refusal::BadSize)?;
-    let rest = RestOfNumbers { queue, seat };
-    Ok(Opened {
-        senders,
-        receivers,
-        rest,
-    })
+    (queue, seats): (Q, Vec<Q::Seat>),
+) -> Result<Opened<Sender<Numbers<Q>>, Receiver<Numbers<Q>>, RestOfValues<Numbers<Q>>>, Refusal> {
+    values(alloc, (Numbers::new(queue), seats))
 }
 
-/// The handles of a queue of values with seven seats.
+/// The senders and receivers of a queue of values with seven seats.
 pub fn values<C: Carrier + Drop>(
     alloc: Global,
     (queue, mut seats): (C, Vec<C::Seat>),

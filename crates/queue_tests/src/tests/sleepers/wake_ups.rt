@@ -4,10 +4,11 @@ use super::sides::AMPLE;
 use super::stories::{EARLY, LONG, millis, now, pause, took};
 use crate::tests::comparisons::same;
 use arena_queue::{Algorithm, ArenaQueue};
-use blocking_queue::{BlockingQueue, InTime};
-use history::{Body, Fifo, Refusal, WornWord};
+use carriers::{Carrier, Numbers};
+use history::{Body, Refusal, WornWord};
 use node_arena::{Role, Seat};
 use nonblocking::NonBlockingAlgorithm;
+use shared_queue::{InTime, SharedQueue};
 use std::process::Abort;
 use std::sync::Wait;
 use std::test::Fail;
@@ -15,7 +16,7 @@ use std::thread::{Threads, join};
 use std::time::Clock;
 use two_lock::TwoLockAlgorithm;
 
-type Sleeping<A> = BlockingQueue<ArenaQueue<A>>;
+type Sleeping<A> = SharedQueue<Numbers<ArenaQueue<A>>>;
 
 /// Two that sleep, and one that wakes them.
 const THREE: [Role; 3] = [Role::Both; 3];
@@ -40,8 +41,11 @@ fn sends_late<R: Wait + Clock, A: Algorithm<24>>(
     body: Body,
 ) -> (Result<bool, Refusal>, u64) {
     let start = now(rt);
-    let answer = queue.send_timeout(rt, &mut seat, body, millis(LONG));
-    let sent = answer.map(|sent| matches!(sent, InTime::Done(())));
+    let sent = match queue.send_timeout(rt, &mut seat, body, millis(LONG)) {
+        Ok(InTime::Done(())) => Ok(true),
+        Ok(InTime::Late(_unsent)) => Ok(false),
+        Err(unpushed) => Err(unpushed.refusal),
+    };
     (sent, took(rt, start))
 }
 
@@ -49,7 +53,7 @@ fn shut_wakes<R: AllocGlobal + Abort + Threads + Wait + Clock + Sync, A: Algorit
     rt: &R,
 ) -> Result<(), Fail> {
     let (queue, mut seats) = ArenaQueue::<A>::new(rt.alloc(), 8, AMPLE, &THREE)?;
-    let queue = &BlockingQueue::new(queue);
+    let queue = &SharedQueue::new(Numbers::new(queue));
     let (Some(a), Some(b), Some(mut c)) = (seats.pop(), seats.pop(), seats.pop()) else {
         return Err(Refusal::BadSize.into());
     };
@@ -113,7 +117,7 @@ fn wakes_both<R: AllocGlobal + Abort + Threads + Wait + Clock + Sync, A: Algorit
     wanted: Result<bool, Refusal>,
 ) -> Result<(), Fail> {
     let (queue, mut seats) = ArenaQueue::<A>::new(rt.alloc(), nodes, limit, &THREE)?;
-    let queue = &BlockingQueue::new(queue);
+    let queue = &SharedQueue::new(Numbers::new(queue));
     let body = Body::new(7).ok_or(Refusal::BadSize)?;
     let (Some(a), Some(b), Some(mut c)) = (seats.pop(), seats.pop(), seats.pop()) else {
         return Err(Refusal::BadSize.into());

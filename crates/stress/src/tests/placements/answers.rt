@@ -6,10 +6,10 @@ use std::alloc::{AllocError, Global};
 use std::test::Fail;
 use text_io::Script;
 
-/// The history with points, or a line that tells the reason, or that there is neither, by a search of so many steps.
-pub fn answer(alloc: Global, text: &[u8], steps: u64) -> Result<String, Fail> {
+/// The history with points, or a line that tells the reason, or that there is neither, by a search of so much room.
+pub fn answer(alloc: Global, text: &[u8], room: u64) -> Result<String, Fail> {
     let history = parse_history(alloc, text)?;
-    match place(alloc, &history, steps)? {
+    match place(alloc, &history, room)? {
         Placed::History(new) => printed(alloc, &new),
         Placed::Impossible(reason) => Ok(told(alloc, &reason)?),
         Placed::Open(cause) => Ok(format!(in alloc; "open {cause:?}")?),
@@ -46,6 +46,10 @@ fn told(alloc: Global, reason: &Reason) -> Result<String, AllocError> {
         Reason::Late { place, other } => write!(line, "no {place} Late {other}")?,
         Reason::Twice { place, other } => write!(line, "no {place} Twice {other}")?,
         Reason::Unshut { place } => write!(line, "no {place} Unshut")?,
+        Reason::Stuck { place, others } => {
+            write!(line, "no {place} Stuck")?;
+            push_places(&mut line, others)?;
+        }
         Reason::Undrained { place, held } => {
             write!(line, "no {place} Undrained")?;
             push_held(&mut line, held)?;

@@ -95,7 +95,7 @@ fn takes_effect(queue: &mut VecDeque<Taken>, op: Op, actor: u16) -> Result<Reply
 fn places_long_runs(rt: HostRuntime) -> Result<(), Fail> {
     for (actors, operations) in [(2, 1_000), (8, 1_000), (8, 100_000)] {
         let history = long_run(rt.alloc(), &mut Chance::new(5), actors, operations)?;
-        let is_placed = matches!(place(rt.alloc(), &history, 1_000)?, Placed::History(_));
+        let is_placed = matches!(place(rt.alloc(), &history, 1 << 30)?, Placed::History(_));
         same(&rt, is_placed, true, operations);
     }
     Ok(())

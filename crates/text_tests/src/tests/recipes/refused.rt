@@ -22,18 +22,22 @@ finish 1
 end
 ";
 
-const TEXTS: [(&str, &str, u64, TextCause); 21] = [
+const TEXTS: [(&str, &str, u64, TextCause); 25] = [
     ("msq schedule 3", "msq schedule 1", 1, TextCause::Form),
-    ("msq schedule 3", "msq schedule 3  #", 1, TextCause::Form),
+    ("msq schedule 3", "msq schedule\r 3", 1, TextCause::Form),
     ("msq schedule 3", "#\nmsq schedule 3", 1, TextCause::Form),
     ("bits 24", "bits 15", 3, TextCause::Range),
-    ("bits 24\n", "", 3, TextCause::Form),
+    ("bits 24\n", "# 24\nlimit 100\n", 4, TextCause::Form),
+    ("bits 24\nnodes 3", "nodes 16777215", 3, TextCause::Range),
+    ("bits 24\nnodes 3", "nodes 3\nbits 24", 4, TextCause::Form),
     ("nodes 3", "nodes 16777215", 4, TextCause::Range),
     ("actors 2", "actors 2\nevents 8", 7, TextCause::Form),
     ("until 1 A4", "until 1 A8", 8, TextCause::Form),
     ("until 1 A4", "until 0 A4", 8, TextCause::Range),
     ("until 1 A4", "until 1 # A4", 8, TextCause::Form),
-    ("until 1 A4", "until 1 A4  # one space", 8, TextCause::Form),
+    ("until 1 A4", "until 1 A4\r # no end", 8, TextCause::Form),
+    ("until 1 A4", "until 1A4", 8, TextCause::Form),
+    ("until 1 A4", "un\ttil 1 A4", 8, TextCause::Form),
     ("finish 1", "finish 1 A4", 14, TextCause::Form),
     ("finish 1", "finish 65536", 14, TextCause::Range),
     ("repeat 2", "repeat 0", 11, TextCause::Range),

@@ -22,6 +22,23 @@ finish 2
 end # here
 ";
 
+// The same with spaces and tabs where they say nothing, ends of lines of two bytes, and no bits.
+const SPACED: &str = " msq\tschedule  3 \t# one\r
+queue\t two-lock# two words\r
+ \t \r
+\tnodes 3\t
+limit   100
+\r
+    actors\t2 #
+  begin 1 enq 5    # ten steps
+\tfinish\t1\r
+begin 2 deq \t
+until 2 B5# steps 2 9
+until 2 B5 \r
+finish  2 # \t
+ end\r
+";
+
 pub(crate) const COMMENTED_SCHEDULE: &str = "msq schedule 1
 queue two-lock
 nodes 3
@@ -125,6 +142,7 @@ events 0
 fn writes_the_schedule_of_a_recipe(rt: HostRuntime) -> Result<(), Fail> {
     for (text, schedule) in [
         (COMMENTED, COMMENTED_SCHEDULE),
+        (SPACED, COMMENTED_SCHEDULE),
         (REPEATED, REPEATED_SCHEDULE),
         (SHUT, SHUT_SCHEDULE),
         (SPLIT, SPLIT_SCHEDULE),

@@ -7,10 +7,11 @@ use super::plans::{Rule, Trouble};
 use super::queues::{KINDS, non_blocking_of, non_blocking_with, two_lock_of};
 use super::seats::dispatched;
 use crate::tests::comparisons::same;
-use blocking_queue::BlockingQueue;
+use carriers::Numbers;
 use history::{Close, Refusal};
 use line_table::Kind;
 use mock_queues::Planned;
+use shared_queue::SharedQueue;
 use std::alloc::Global;
 use std::sync::Wait;
 use std::sync::atomic::{AtomicU64, Ordering};
@@ -60,9 +61,13 @@ fn end_over<R: Threads + Wait + Sync, Q: Close + Sync + Drop>(
     requires asked { AsksAny Q.asks queue }
 {
     let ends = AtomicU64::new(0);
-    let planned = BlockingQueue::new(Planned::new(queue, Trouble::new(rule, &ends)));
+    let planned = Planned::new(queue, Trouble::new(rule, &ends));
+    let planned = SharedQueue::new(Numbers::new(planned));
     let results = dispatched(rt, alloc, &planned, seats, None, count, &Open);
-    let (mut rest, _end) = planned.into_inner().close(alloc, Vec::new(alloc))?;
+    let (mut rest, _end) = planned
+        .into_inner()
+        .into_queue()
+        .close(alloc, Vec::new(alloc))?;
     Ok(End {
         results,
         ends: ends.load(Ordering::SeqCst),

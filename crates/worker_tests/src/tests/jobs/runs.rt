@@ -6,11 +6,12 @@ use super::plans::{Rule, Trouble};
 use super::queues::{KINDS, non_blocking_of, two_lock_of};
 use super::seats::dispatched;
 use crate::tests::comparisons::same;
-use blocking_queue::BlockingQueue;
+use carriers::Numbers;
 use dispatcher::Gate;
 use history::{Body, Fifo, Refusal};
 use line_table::Kind;
 use mock_queues::Planned;
+use shared_queue::SharedQueue;
 use std::alloc::Global;
 use std::sync::Wait;
 use std::sync::atomic::AtomicU64;
@@ -54,12 +55,13 @@ fn done_over<R: Threads + Wait + Sync, Q: Fifo + Sync + Drop, G: Gate + Sync>(
     let Load { count, early, .. } = load;
     match load.rule {
         None => {
-            let queue = BlockingQueue::new(queue);
+            let queue = SharedQueue::new(Numbers::new(queue));
             dispatched(rt, alloc, &queue, seats, early, count, gate)
         }
         Some(rule) => {
             let ends = AtomicU64::new(0);
-            let planned = BlockingQueue::new(Planned::new(queue, Trouble::new(rule, &ends)));
+            let planned = Planned::new(queue, Trouble::new(rule, &ends));
+            let planned = SharedQueue::new(Numbers::new(planned));
             dispatched(rt, alloc, &planned, seats, early, count, gate)
         }
     }

@@ -7,11 +7,12 @@ use super::plans::{Rule, Trouble};
 use super::queues::{KINDS, non_blocking_of, two_lock_of};
 use super::seats::{giver_of, sums, takers_of};
 use crate::tests::comparisons::same;
-use blocking_queue::BlockingQueue;
+use carriers::Numbers;
 use dispatcher::{End, Given, JobsRun, run_jobs};
 use history::{Close, Refusal, WornWord};
 use line_table::Kind;
 use mock_queues::Planned;
+use shared_queue::SharedQueue;
 use std::alloc::Global;
 use std::sync::Wait;
 use std::sync::atomic::AtomicU64;
@@ -47,7 +48,8 @@ fn told_over<R: Threads + Wait + Sync, Q: Close + Sync + Drop>(
 {
     let jobs = sums(alloc, count)?;
     let ends = AtomicU64::new(0);
-    let planned = BlockingQueue::new(Planned::new(queue, Trouble::new(rule, &ends)));
+    let planned = Planned::new(queue, Trouble::new(rule, &ends));
+    let planned = SharedQueue::new(Numbers::new(planned));
     let giver = giver_of(&planned, &mut seats)?;
     let takers = takers_of(alloc, &planned, seats)?;
     let JobsRun { giver, workers } = match run_jobs(
@@ -81,7 +83,7 @@ fn told_over<R: Threads + Wait + Sync, Q: Close + Sync + Drop>(
         results += worker.results.len();
         seats.push(worker.seat).or(Err(Refusal::Memory))?;
     }
-    let (mut rest, _end) = planned.into_inner().close(alloc, seats)?;
+    let (mut rest, _end) = planned.into_inner().into_queue().close(alloc, seats)?;
     let whole = rest.whole();
     let mut left = 0;
     while rest.next().is_some() {

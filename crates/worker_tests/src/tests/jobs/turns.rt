@@ -3,12 +3,12 @@ ghost use Rattle.std.specs.List.{All};
 
 use super::gates::Open;
 use super::queues::{non_blocking_of, two_lock_of};
-use super::seats::{giver_of, sums, taker_of};
+use super::seats::sums;
 use crate::tests::comparisons::same;
 use dispatcher::{Worked, work_one};
 use history::{Body, Fifo, Refusal, WornWord};
 use job_results::{Job, JobResult};
-use mock_queues::{FullQueue, Listed, Planned, ShutQueue};
+use mock_queues::{Listed, Planned, full_of_numbers};
 use std::alloc::Global;
 use std::process::Abort;
 use std::test::Fail;
@@ -79,8 +79,9 @@ fn takes_one_value_a_turn<Q: Fifo>(
     requires { All (Q.is_seat queue.now) seats.items }
 {
     let jobs = sums(alloc, 2)?;
-    let mut giver = giver_of(queue, &mut seats)?;
-    let mut taker = taker_of(queue, &mut seats)?;
+    let (Some(mut giver), Some(mut taker)) = (seats.pop(), seats.pop()) else {
+        return Err(Refusal::BadSize.into());
+    };
     let mut out = Vec::new(alloc);
     let turns = [
         (2, Ok(Worked::Did(2))),
@@ -139,8 +140,12 @@ fn turns_are_pops<Q: Fifo + Drop>(
 /// A worker's turn is one pop, in just the turns handed in, and is refused as it is; also where the queue was shut.
 #[test]
 fn a_workers_turn_is_one_pop_in_these_turns(rt: HostRuntime) -> Result<(), Fail> {
-    let (queue, seat) = FullQueue::new();
+    let (queue, seat) = full_of_numbers();
     turns_are_pops(&rt, rt.alloc(), queue, seat, Worked::Empty)?;
-    let (queue, seat) = ShutQueue::new();
-    turns_are_pops(&rt, rt.alloc(), queue, seat, Worked::Stop)
+    let (queue, mut seats) = two_lock_of(rt.alloc(), 16, 1)?;
+    let (Some(mut giver), Some(taker)) = (seats.pop(), seats.pop()) else {
+        return Err(Refusal::BadSize.into());
+    };
+    shut(&queue, &mut giver)?;
+    turns_are_pops(&rt, rt.alloc(), queue, taker, Worked::Stop)
 }

@@ -29,35 +29,34 @@ const LOADS: [(u16, usize, usize); 6] = [
 /// The greatest count of all.
 pub const GREATEST_COUNT: u64 = 1_099_511_627_775;
 
+// A run over each queue of seven nodes, with two senders.
+macro_rules! over_both {
+    ($rt:ident, $run:ident) => {{
+        let (queue, seats, receiver) = mail_queue::<TwoLockAlgorithm>($rt.alloc(), 7, 100, 2)?;
+        $run(&$rt, $rt.alloc(), queue, seats, receiver)?;
+        let (queue, seats, receiver) = mail_queue::<NonBlockingAlgorithm>($rt.alloc(), 7, 100, 2)?;
+        $run(&$rt, $rt.alloc(), queue, seats, receiver)?;
+        Ok(())
+    }};
+}
+
 /// Three letters of two senders come in the order in which they were sent; then there is none.
 #[test]
 fn in_the_order_sent(rt: HostRuntime) -> Result<(), Fail> {
-    let (queue, seats, receiver) = mail_queue::<TwoLockAlgorithm>(rt.alloc(), 7, 100, 2)?;
-    letters_come_in_the_order_sent(&rt, rt.alloc(), queue, seats, receiver)?;
-    let (queue, seats, receiver) = mail_queue::<NonBlockingAlgorithm>(rt.alloc(), 7, 100, 2)?;
-    letters_come_in_the_order_sent(&rt, rt.alloc(), queue, seats, receiver)?;
-    Ok(())
+    over_both!(rt, letters_come_in_the_order_sent)
 }
 
 /// After a shut nothing is sent; what was sent before is taken, in order, and then each take finds the queue
 /// shut.
 #[test]
 fn what_was_sent_is_taken_after_a_shut(rt: HostRuntime) -> Result<(), Fail> {
-    let (queue, seats, receiver) = mail_queue::<TwoLockAlgorithm>(rt.alloc(), 7, 100, 2)?;
-    a_shut_ends_an_office(&rt, rt.alloc(), queue, seats, receiver)?;
-    let (queue, seats, receiver) = mail_queue::<NonBlockingAlgorithm>(rt.alloc(), 7, 100, 2)?;
-    a_shut_ends_an_office(&rt, rt.alloc(), queue, seats, receiver)?;
-    Ok(())
+    over_both!(rt, a_shut_ends_an_office)
 }
 
 /// A body that is no letter's index is lost, and then each take is.
 #[test]
 fn lost_from_then_on(rt: HostRuntime) -> Result<(), Fail> {
-    let (queue, seats, receiver) = mail_queue::<TwoLockAlgorithm>(rt.alloc(), 7, 100, 2)?;
-    a_loss_is_told_from_then_on(&rt, rt.alloc(), queue, seats, receiver)?;
-    let (queue, seats, receiver) = mail_queue::<NonBlockingAlgorithm>(rt.alloc(), 7, 100, 2)?;
-    a_loss_is_told_from_then_on(&rt, rt.alloc(), queue, seats, receiver)?;
-    Ok(())
+    over_both!(rt, a_loss_is_told_from_then_on)
 }
 
 /// Posts the letters of so many senders, on 4,006 nodes: how many came, where each sender's came in order,

@@ -81,6 +81,23 @@ pub fn sends<R: Wait, Q: Fifo + Drop>(
     }
 }
 
+/// Sends a letter, and waits while others are in the way, or there is no node for it.
+pub fn sends_at_last<R: Wait, Q: Fifo + Drop>(
+    rt: &R,
+    alloc: Global,
+    office: &Office<Q>,
+    sender: &mut Sender<Q>,
+    text: &str,
+) -> Result<(), Refusal>
+    requires { IsSender Q.is_seat Q.permits Q.known office.now sender.old }
+    ensures { IsSender Q.is_seat Q.permits Q.known office.now sender.new }
+{
+    match String::from_str(alloc, text) {
+        Ok(text) => sender.send(rt, office, text),
+        Err(_) => Err(Refusal::Memory),
+    }
+}
+
 /// The letter that is taken in a few turns is of this sender, and has this text.
 pub fn takes<Q: Fifo + Drop>(
     rt: &impl Abort,
@@ -156,11 +173,8 @@ fn loses<R: Wait + Abort, Q: Fifo + Drop>(
     requires senders { All (IsSender Q.is_seat Q.permits Q.known office.now) senders.old.items }
     requires receiver { IsReceiver Q.is_seat Q.permits Q.known office.now receiver.old }
 {
-    let Ok(hello) = String::from_str(alloc, "hello") else {
-        return Err(Refusal::Memory);
-    };
     let mut sender = last(office, senders)?;
-    sender.send(rt, office, hello)?;
+    sends_at_last(rt, alloc, office, &mut sender, "hello")?;
     let first = receiver.try_take(office, TURNS).err();
     let second = receiver.take(rt, office).err();
     let lost = Some(Refusal::Lost);

@@ -1,4 +1,5 @@
 //! Sends, takes and shuts on a queue with no room, whose calls go by a list.
+ghost use Rattle.std.specs.Prelude.{IfOk};
 ghost use Rattle.mailbox.specs.Openings.{CanSend, CanReceive};
 ghost use Rattle.mailbox.specs.Offices.{IsSender, IsReceiver};
 
@@ -6,7 +7,7 @@ use super::letters::{last, parts, sends};
 use crate::tests::comparisons::same;
 use history::{Fifo, Refusal, WornWord};
 use mailbox::{Office, Receiver, Sender};
-use mock_queues::{FullQueue, Listed, Planned};
+use mock_queues::{Listed, Planned, full_of_numbers};
 use std::alloc::Global;
 use std::process::Abort;
 use std::sync::Wait;
@@ -49,28 +50,39 @@ const SHUTS: [Call; 7] = [
     (1, None),
 ];
 
-// Sends a letter by each push of the list, over a queue that goes by it and has no room: each send is refused as its push.
-fn sends_by_the_list<R: Wait + Abort, Q: Fifo + Drop>(
-    rt: &R,
+// An office over this queue with its one sender, by this seat.
+fn opened<Q: Fifo + Drop>(
     alloc: Global,
     queue: Q,
     seat: Q::Seat,
     receiver: Q::Seat,
-) -> Result<(), Refusal>
+) -> Result<(Office<Q>, Sender<Q>), Refusal>
     requires sender { CanSend Q.is_seat Q.permits Q.known queue seat }
     requires receiver { CanReceive Q.is_seat Q.permits Q.known queue receiver }
+    ensures { IfOk result (λ r. IsSender Q.is_seat Q.permits Q.known r.0 r.1) }
 {
     let mut seats = Vec::new(alloc);
     let Ok(()) = seats.push(seat) else {
         return Err(Refusal::Memory);
     };
     let (office, mut senders, _) = Office::new(alloc, queue, seats, receiver)?;
-    let mut sender = last(&office, &mut senders)?;
+    let sender = last(&office, &mut senders)?;
+    Ok((office, sender))
+}
+
+// Sends a letter by each push of the list, over a queue that goes by it and has no room: each send is refused as its push.
+fn sends_by_the_list<R: Wait + Abort, Q: Fifo + Drop>(
+    rt: &R,
+    alloc: Global,
+    office: &Office<Q>,
+    mut sender: Sender<Q>,
+)
+    requires { IsSender Q.is_seat Q.permits Q.known office.now sender }
+{
     for (turns, refusal) in &PUSHES {
-        let sent = sends(rt, alloc, &office, &mut sender, "hello", *turns);
+        let sent = sends(rt, alloc, office, &mut sender, "hello", *turns);
         same(rt, sent, Err(refusal.unwrap_or(Refusal::NoNode)), turns);
     }
-    Ok(())
 }
 
 // What is taken in so many turns, 1 or more: its sender and its text. Else `BadSize`.
@@ -126,44 +138,31 @@ fn shuts<Q: Fifo + Drop>(
 
 // Shuts the office by each shut of the list, over a queue that goes by it and is never shut: each is refused as that of the
 // queue, whose own are refused by a worn Tail.
-fn shuts_by_the_list<Q: Fifo + Drop>(
-    rt: &impl Abort,
-    alloc: Global,
-    queue: Q,
-    seat: Q::Seat,
-    receiver: Q::Seat,
-) -> Result<(), Refusal>
-    requires sender { CanSend Q.is_seat Q.permits Q.known queue seat }
-    requires receiver { CanReceive Q.is_seat Q.permits Q.known queue receiver }
+fn shuts_by_the_list<Q: Fifo + Drop>(rt: &impl Abort, office: &Office<Q>, mut sender: Sender<Q>)
+    requires { IsSender Q.is_seat Q.permits Q.known office.now sender }
 {
-    let mut seats = Vec::new(alloc);
-    let Ok(()) = seats.push(seat) else {
-        return Err(Refusal::Memory);
-    };
-    let (office, mut senders, _) = Office::new(alloc, queue, seats, receiver)?;
-    let mut sender = last(&office, &mut senders)?;
     let own = Refusal::WornOut(WornWord::Tail);
     for (turns, refusal) in &SHUTS {
-        let shut = shuts(&office, &mut sender, *turns);
+        let shut = shuts(office, &mut sender, *turns);
         same(rt, shut, Err(refusal.unwrap_or(own)), turns);
     }
-    Ok(())
 }
 
 /// A send is one push, in just the turns handed in, and is refused as it is: by `Busy` where that was, and not else.
 #[test]
 fn a_send_is_one_push_in_these_turns(rt: HostRuntime) -> Result<(), Fail> {
-    let (queue, seat) = FullQueue::new();
-    let (_, other) = FullQueue::new();
+    let (queue, seat) = full_of_numbers();
+    let (_, other) = full_of_numbers();
     let queue = Planned::new(queue, Listed::new(&PUSHES));
-    sends_by_the_list(&rt, rt.alloc(), queue, seat, other)?;
+    let (office, sender) = opened(rt.alloc(), queue, seat, other)?;
+    sends_by_the_list(&rt, rt.alloc(), &office, sender);
     Ok(())
 }
 
 /// A take is one pop, in just the turns handed in, and is refused as it is.
 #[test]
 fn a_take_is_one_pop_in_these_turns(rt: HostRuntime) -> Result<(), Fail> {
-    let (queue, seat) = FullQueue::new();
+    let (queue, seat) = full_of_numbers();
     let queue = Planned::new(queue, Listed::new(&POPS));
     takes_by_the_list(&rt, rt.alloc(), queue, seat)?;
     Ok(())
@@ -172,9 +171,10 @@ fn a_take_is_one_pop_in_these_turns(rt: HostRuntime) -> Result<(), Fail> {
 /// A shut is one shut of the queue, in just these turns, and is refused as it is.
 #[test]
 fn a_shut_is_one_shut_in_these_turns(rt: HostRuntime) -> Result<(), Fail> {
-    let (queue, seat) = FullQueue::new();
-    let (_, other) = FullQueue::new();
+    let (queue, seat) = full_of_numbers();
+    let (_, other) = full_of_numbers();
     let queue = Planned::new(queue, Listed::new(&SHUTS));
-    shuts_by_the_list(&rt, rt.alloc(), queue, seat, other)?;
+    let (office, sender) = opened(rt.alloc(), queue, seat, other)?;
+    shuts_by_the_list(&rt, &office, sender);
     Ok(())
 }

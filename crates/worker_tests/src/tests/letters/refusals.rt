@@ -8,10 +8,10 @@ use super::losses::{
 use super::plans::{Late, Trouble, WornHead, WornTail};
 use super::shut_offices::a_worn_tail_refuses_the_shut_of_an_office;
 use crate::tests::comparisons::same;
-use crate::{Load, posted};
+use crate::{Came, Load, posted};
 use history::{Refusal, WornWord};
 use mail_engine::mail_queue;
-use mock_queues::Planned;
+use mock_queues::{Plan, Planned};
 use nonblocking::NonBlockingAlgorithm;
 use std::alloc::Global;
 use std::rt::Clock;
@@ -72,23 +72,33 @@ fn the_receivers_refusal_comes_first(rt: HostRuntime) -> Result<(), Fail> {
     Ok(())
 }
 
+// Posts so many letters of each of so many senders over a queue of so many nodes that goes by this plan.
+fn planned<R: Threads + Wait + Clock + Sync, P: Plan + Sync + Drop>(
+    rt: &R,
+    alloc: Global,
+    (nodes, senders): (u32, u16),
+    plan: P,
+    count: usize,
+) -> Result<Came, Refusal> {
+    let (queue, seats, receiver) = mail_queue::<TwoLockAlgorithm>(
+        alloc,
+        nodes,
+        GREATEST_COUNT,
+        senders,
+    )?;
+    let load = Load {
+        first: count,
+        others: count,
+    };
+    posted(rt, alloc, Planned::new(queue, plan), seats, receiver, load)
+}
+
 /// A letter that is sent just after a take found none comes: whether its sender had ended is looked at before
 /// the take. A mutant, by hand: a `post` that asks only after the take whether all senders had ended fails
 /// here.
 #[test]
 fn a_letter_comes_that_is_sent_after_a_take_found_none(rt: HostRuntime) -> Result<(), Fail> {
-    let (queue, seats, receiver) = mail_queue::<TwoLockAlgorithm>(
-        rt.alloc(),
-        4,
-        GREATEST_COUNT,
-        1,
-    )?;
-    let queue = Planned::new(queue, Late::new());
-    let load = Load {
-        first: 1,
-        others: 1,
-    };
-    let came = posted(&rt, rt.alloc(), queue, seats, receiver, load)?;
+    let came = planned(&rt, rt.alloc(), (4, 1), Late::new(), 1)?;
     same(&rt, came.in_order, Some(1), "");
     Ok(())
 }
@@ -99,18 +109,7 @@ fn a_letter_comes_that_is_sent_after_a_take_found_none(rt: HostRuntime) -> Resul
 /// nobody where its shut is refused.
 #[test]
 fn a_post_ends_where_its_shut_is_refused(rt: HostRuntime) -> Result<(), Fail> {
-    let (queue, seats, receiver) = mail_queue::<TwoLockAlgorithm>(
-        rt.alloc(),
-        6,
-        GREATEST_COUNT,
-        2,
-    )?;
-    let queue = Planned::new(queue, WornTail::new());
-    let load = Load {
-        first: 2,
-        others: 2,
-    };
-    let found = posted(&rt, rt.alloc(), queue, seats, receiver, load).err();
+    let found = planned(&rt, rt.alloc(), (6, 2), WornTail::new(), 2).err();
     same(&rt, found, Some(Refusal::WornOut(WornWord::Tail)), "");
     Ok(())
 }
@@ -120,18 +119,7 @@ fn a_post_ends_where_its_shut_is_refused(rt: HostRuntime) -> Result<(), Fail> {
 /// nobody then.
 #[test]
 fn a_post_ends_where_its_receiver_is_refused(rt: HostRuntime) -> Result<(), Fail> {
-    let (queue, seats, receiver) = mail_queue::<TwoLockAlgorithm>(
-        rt.alloc(),
-        6,
-        GREATEST_COUNT,
-        2,
-    )?;
-    let queue = Planned::new(queue, WornHead);
-    let load = Load {
-        first: 20,
-        others: 20,
-    };
-    let found = posted(&rt, rt.alloc(), queue, seats, receiver, load).err();
+    let found = planned(&rt, rt.alloc(), (6, 2), WornHead, 20).err();
     same(&rt, found, Some(Refusal::WornOut(WornWord::Head)), "");
     Ok(())
 }

@@ -3,7 +3,7 @@ ghost use Rattle.std.specs.List.{All};
 ghost use Rattle.mailbox.specs.Openings.{CanSend, CanReceive};
 ghost use Rattle.mailbox.specs.Offices.{IsSender, IsReceiver};
 
-use super::letters::{TURNS, last, sends, takes};
+use super::letters::{TURNS, last, sends, sends_at_last, takes};
 use crate::tests::comparisons::same;
 use history::{Fifo, Refusal, WornWord};
 use mailbox::{Office, Receiver, Sender};
@@ -13,22 +13,6 @@ use std::sync::Wait;
 
 /// The queue is shut.
 const CLOSED: Result<(), Refusal> = Err(Refusal::Closed);
-
-// Sends a letter, and waits while others are in the way.
-fn sends_late<R: Wait, Q: Fifo + Drop>(
-    rt: &R,
-    alloc: Global,
-    office: &Office<Q>,
-    sender: &mut Sender<Q>,
-) -> Result<(), Refusal>
-    requires { IsSender Q.is_seat Q.permits Q.known office.now sender.old }
-    ensures { IsSender Q.is_seat Q.permits Q.known office.now sender.new }
-{
-    match String::from_str(alloc, "late") {
-        Ok(text) => sender.send(rt, office, text),
-        Err(_) => Err(Refusal::Memory),
-    }
-}
 
 // A letter of each of two senders, and then a shut: no send and no further shut is done, by either sender.
 fn sends_two_and_shuts<R: Wait + Abort, Q: Fifo + Drop>(
@@ -45,7 +29,7 @@ fn sends_two_and_shuts<R: Wait + Abort, Q: Fifo + Drop>(
     sends(rt, alloc, office, &mut second, "hi", TURNS)?;
     first.try_shut(office, TURNS)?;
     let late = sends(rt, alloc, office, &mut first, "late", TURNS);
-    let later = sends_late(rt, alloc, office, &mut second);
+    let later = sends_at_last(rt, alloc, office, &mut second, "late");
     same(rt, (late, later), (CLOSED, CLOSED), "sends");
     let again = first.try_shut(office, TURNS);
     let other = second.shut(rt, office);

@@ -3,7 +3,7 @@ ghost use Rattle.std.specs.List.{All};
 ghost use Rattle.mailbox.specs.Openings.{CanSend, CanReceive};
 ghost use Rattle.mailbox.specs.Offices.{IsSender, IsReceiver};
 
-use super::letters::{last, parts};
+use super::letters::{last, parts, sends_at_last};
 use crate::tests::comparisons::same;
 use history::{Fifo, Refusal};
 use mailbox::{Office, Receiver, Sender};
@@ -28,23 +28,6 @@ fn pause(clock: &impl Clock) {
     let _ = thread::sleep(clock, Duration::from_millis(PAUSE));
 }
 
-// Sends a letter as soon as there is a node for it.
-fn sends_one<R: Wait, Q: Fifo + Drop>(
-    rt: &R,
-    alloc: Global,
-    office: &Office<Q>,
-    sender: &mut Sender<Q>,
-    text: &str,
-) -> Result<(), Refusal>
-    requires { IsSender Q.is_seat Q.permits Q.known office.now sender.old }
-    ensures { IsSender Q.is_seat Q.permits Q.known office.now sender.new }
-{
-    match String::from_str(alloc, text) {
-        Ok(text) => sender.send(rt, office, text),
-        Err(_) => Err(Refusal::Memory),
-    }
-}
-
 // Sends a letter, and then shuts the office, each time once the other thread sleeps.
 fn sends_late<R: Wait + Clock, Q: Fifo + Drop>(
     rt: &R,
@@ -55,7 +38,7 @@ fn sends_late<R: Wait + Clock, Q: Fifo + Drop>(
     requires { IsSender Q.is_seat Q.permits Q.known office.now sender }
 {
     pause(rt);
-    sends_one(rt, alloc, office, &mut sender, "hello")?;
+    sends_at_last(rt, alloc, office, &mut sender, "hello")?;
     pause(rt);
     sender.shut(rt, office)
 }
@@ -69,8 +52,8 @@ fn sends_two<R: Wait, Q: Fifo + Drop>(
 ) -> Result<(), Refusal>
     requires { IsSender Q.is_seat Q.permits Q.known office.now sender }
 {
-    sends_one(rt, alloc, office, &mut sender, "hello")?;
-    sends_one(rt, alloc, office, &mut sender, "again")
+    sends_at_last(rt, alloc, office, &mut sender, "hello")?;
+    sends_at_last(rt, alloc, office, &mut sender, "again")
 }
 
 // Receives two letters, the first one at once or late.

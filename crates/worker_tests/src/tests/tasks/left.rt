@@ -3,7 +3,7 @@ use super::counted_tasks::{Counting, Third, calls, others, tasks, wanted};
 use crate::tests::comparisons::same;
 use arena_queue::Algorithm;
 use history::Refusal;
-use mock_queues::FullCarrier;
+use mock_queues::{FullQueue, NeverBusy};
 use node_arena::MOST_COUNT;
 use nonblocking::NonBlockingAlgorithm;
 use shared_queue::SharedQueue;
@@ -140,7 +140,7 @@ fn what_is_left_comes_back(rt: HostRuntime) -> Result<(), Fail> {
 /// A worker that finds the queue empty, after it was told that no task comes any more, ends.
 #[test]
 fn a_stopped_worker_ends(rt: HostRuntime) -> Result<(), Fail> {
-    let (queue, seat) = FullCarrier::<Numbered<Counting>>::new();
+    let (queue, seat) = FullQueue::<Numbered<Counting>, _>::new(NeverBusy);
     let stop = Stop::<AnyReason>::new();
     stop.tell();
     let worked = work(&rt, rt.alloc(), &SharedQueue::new(queue), seat, &stop);

@@ -4,8 +4,8 @@ use Rattle.mailbox.proofs.receiver.Receiver.take.Goals as goal
 pub returns-then-has_lost-clause-order : goal.returns-then-has_lost-clause-order
 returns-then-has_lost-clause-order g c = in_order _ _ (g.met.Q.Fifo.sound _ _ c.requires.office.seat) c.requires.office.only
 
-pub returns-in_err-value-clause-order : goal.returns-in_err-value-clause-order
-returns-in_err-value-clause-order g c = in_order-after _ (g.Q.Fifo.known c.args.self.now.seat) _ c.pop.ensures.number c.requires.office.only (g.met.Q.Fifo.sound _ _ c.pop.ensures.seat)
+pub returns-in_err-front-clause-order : goal.returns-in_err-front-clause-order
+returns-in_err-front-clause-order g c = in_order-after _ (g.Q.Fifo.known c.args.self.now.seat) _ c.pop.ensures.number c.requires.office.only (g.met.Q.Fifo.sound _ _ c.pop.ensures.seat)
 
 pub returns-in_default-clause-order : goal.returns-in_default-clause-order
 returns-in_default-clause-order g c = in_order-after _ (g.Q.Fifo.known c.args.self.now.seat) _ c.pop.ensures.number c.requires.office.only (g.met.Q.Fifo.sound _ _ c.pop.ensures.seat)

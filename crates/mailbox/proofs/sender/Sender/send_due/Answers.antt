@@ -1,19 +1,16 @@
 use Rattle.std.proofs.Common.{subst}
-use Rattle.history.specs.Answers.{SeesMore}
-use Rattle.history.proofs.Learning.{sees_then}
+use Rattle.carriers.specs.Answers.{SeesMoreOf}
+use Rattle.carriers.specs.DeedsOfNumbers.{known_by_deeds}
+use Rattle.carriers.proofs.Learning.{sees_then}
 use Rattle.mailbox.proofs.sender.Sender.send_due.Goals as goal
-use Rattle.mailbox.proofs.sender.Sender.send_due.Goals.{in-Done, in-Late}
 
-pub returns-clause-caused : goal.returns-clause-caused
-returns-clause-caused g c = elim c.match-branch-3.branch [
-  | in-Done w ↦ rw w.result-is tt
-  | in-Late w ↦
-      let late = rw w.in-Late.is at c.in_ok-send_until.ensures.answer in
-      let e = late.2 in
-      rw w.result-is (record {
-        last = e.last;
-        seat = e.seat;
-        more = subst (λ s. SeesMore (g.Q.Fifo.known s) (g.Q.Fifo.known e.last)) c.store.ensures.seat (sees_then _ _ _ late.0 e.more);
-        caused = e.caused;
-      })
-]
+pub returns-in-Ok-Late-clause-caused : goal.returns-in-Ok-Late-clause-caused
+returns-in-Ok-Late-clause-caused g c =
+    let late = rw c.in-Ok-Late.field-0-is at c.in-Ok-Late.ensures.answer in
+    let e = late.3 in
+    record {
+      last = e.last;
+      seat = e.seat;
+      more = subst (λ s. SeesMoreOf (known_by_deeds (g.Q.Fifo.known s)) (known_by_deeds (g.Q.Fifo.known e.last))) c.store.ensures.seat (sees_then _ _ _ late.1 e.more);
+      caused = e.caused;
+    }

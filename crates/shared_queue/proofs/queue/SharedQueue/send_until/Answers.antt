@@ -1,4 +1,4 @@
-use Rattle.std.proofs.Common.{◌∙◌, inl, inr, rules, subst, sym}
+use Rattle.std.proofs.Common.{◌∙◌, rules, subst, sym}
 use Rattle.carriers.specs.Answers.{SeesMoreOf}
 use Rattle.carriers.proofs.Learning.{sees_itself, sees_then, push_refused_then}
 use Rattle.shared_queue.specs.Lates.{seat_then}
@@ -9,8 +9,7 @@ use Rattle.shared_queue.proofs.queue.SharedQueue.send_until.Goals as goal
 pub returns-in-Err-clause-caused : goal.returns-in-Err-clause-caused
 returns-in-Err-clause-caused g c =
     let e = c.in-Err.ensures.caused in
-    let caused = subst (g.C.Carrier.shut_cause (queue_of c.args.self.now) e.last c.look_for_shut.new.seat 8) c.in-Err.ensures.closed e.caused in
-    record { last = e.last; seat = e.seat; more = sees_then _ _ _ c.loop.invariant.more e.more; caused = inr (c.in-Err.ensures.closed, caused) }
+    record { last = e.last; seat = e.seat; more = sees_then _ _ _ c.loop.invariant.more e.more; caused = e.caused }
 
 pub sleep_full-requires-clause-looked : goal.sleep_full-requires-clause-looked
 sleep_full-requires-clause-looked g c κs within =
@@ -124,5 +123,5 @@ returns-in_default g c =
       back = c.in-Err-try_push.ensures.back ∙ c.loop.invariant.value;
       refused = push_refused_then _ _ _ c.in-Err-try_push.unpushed.refusal seen c.in-Err-try_push.ensures.refused;
       refusal = search rules;
-      caused = record { last = c.look_for_shut.new.seat; seat = c.in-Ok.ensures.seat; more = seen; caused = inl c.in-Err-try_push.ensures.caused };
+      caused = record { last = c.look_for_shut.new.seat; seat = c.in-Ok.ensures.seat; more = seen; caused = c.in-Err-try_push.ensures.caused };
     }

@@ -1,3 +1,0 @@
-pub mod HandleClones
-pub mod Shares
-pub mod Tries

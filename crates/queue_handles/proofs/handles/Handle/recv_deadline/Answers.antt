@@ -1,6 +1,0 @@
--- The seat is its queue's by its type.
-use Rattle.queue_handles.proofs.Shares.{sits_in}
-use Rattle.queue_handles.proofs.handles.Handle.recv_deadline.Goals as goal
-
-pub recv_deadline-requires-clause-seat : goal.recv_deadline-requires-clause-seat
-recv_deadline-requires-clause-seat g c κs within = sits_in g.met.Q.Fifo.seat_prop c.deref.result.now c.args.self.now c.deref.ensures

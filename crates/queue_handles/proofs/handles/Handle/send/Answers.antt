@@ -1,6 +1,0 @@
--- The seat is its queue's by its type.
-use Rattle.queue_handles.proofs.Shares.{sits_in}
-use Rattle.queue_handles.proofs.handles.Handle.send.Goals as goal
-
-pub send-requires-clause-seat : goal.send-requires-clause-seat
-send-requires-clause-seat g c κs within = sits_in g.met.Q.Fifo.seat_prop c.deref.result.now c.args.self.now c.deref.ensures
