@@ -27,9 +27,9 @@
 #include <stdint.h>
 
 #define MSQ_VERSION_MAJOR 0
-#define MSQ_VERSION_MINOR 4
+#define MSQ_VERSION_MINOR 5
 #define MSQ_VERSION_PATCH 0
-#define MSQ_VERSION "0.4.0"
+#define MSQ_VERSION "0.5.0"
 
 /* Bodies are below this number. */
 #define MSQ_BODIES ((uint64_t)1 << 48)

@@ -22,7 +22,7 @@ import re
 
 PAGE = "docs/CLAIMS.md"
 SECTION = re.compile(r"^##+ (.*)\n((?:(?!##|<!--).*\n)*)<!-- promises: (\w+)", re.MULTILINE)
-LIST = re.compile(r"^(<!-- promises: (\w+)(?:: (\w+(?:, \w+)*))? -->)\n\n?(?:- .*\n)*", re.MULTILINE)
+LIST = re.compile(r"^(<!-- promises: (\w+)(?:: (\w+(?:, \w+)*))? -->)\n(?:\n(?:- .*\n)+)?", re.MULTILINE)
 MARK = re.compile(r" *//= (\w+)/(\w+)(?: \((\*|\w+(?:, \w+)+)\))?(?:: (.+))?")
 LINES = re.compile(r"^ *//=.*\n", re.MULTILINE)
 FURTHER = re.compile(r" *//=   (.+)")
@@ -240,11 +240,11 @@ def item(marks):
 
 
 def shown(marks, list_of):
-    """A list of the page: the promises that it names, and what prints all of its section."""
+    """A list of the page: the promises that it names."""
     section, names = list_of[2], list_of[3].split(", ") if list_of[3] else []
     of = promises(marks, section)
     items = "".join(item(of[it]) for it in names if it in of)
-    return f"{list_of[1]}\n\n{items}- All: `tools/promises {section}`\n"
+    return f"{list_of[1]}\n" + (f"\n{items}" if items else "")
 
 
 def printed(marks, text):

@@ -152,7 +152,7 @@ static void ask(const struct way *way, uint32_t kind, uint64_t number, bool shut
 static void *push_late(void *given) {
     const struct way *way = ((struct request *)given)->way;
     union any_queue *queue = &((struct request *)given)->reply;
-    const struct timespec rest = {0, 20 * MILLISECOND};
+    const struct timespec rest = {0, 200 * MILLISECOND};
     nanosleep(&rest, NULL);
     expect("a late push", way->push(queue, 7), MSQ_OK);
     (void)way->shut(queue);

@@ -97,7 +97,7 @@ template <class T> void conditions_mean_what_they_say(msq::kind kind) {
 template <class T> void a_late_pop_is_no_close(msq::kind kind) {
     msq::queue<T> queue(4, kind, 2);
     std::thread giver([&] {
-        std::this_thread::sleep_for(std::chrono::milliseconds(20));
+        std::this_thread::sleep_for(std::chrono::milliseconds(200));
         queue.push(value_of<T>(7));
         queue.close();
     });

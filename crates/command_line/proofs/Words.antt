@@ -1,5 +1,5 @@
 -- What clap's reading of the words says of the file and the task.
-use Rattle.std.proofs.Common.{◌≡◌, ◌==◌, ℕ, List, [], ◌∷◌, length, map, Option, Some, None, Bool, true, false, not, ◌&&◌, refl, inl, inr, ap, codes, option_map, Bor}
+use Rattle.std.proofs.Common.{◌≡◌, ◌==◌, ℕ, List, [], ◌∷◌, length, map, Option, Some, None, Bool, true, false, not, ◌&&◌, refl, inl, inr, ap, ◌∙◌, codes, option_map, Bor}
 use Rattle.std.specs.Prelude.{unwrap_or}
 use Rattle.std.specs.Prelude.{Result, Ok, Err}
 use Rattle.std.specs.Str.Parse.{ParsesUnsigned}
@@ -9,7 +9,9 @@ use Rattle.line_table.specs.declared.kinds.QueueKind.TheVariants.{Linked}
 use Rattle.clap.specs.Words.{App, Row, Text, fault_of, first_of, is_simple, is_simple_and_free, subcommand_of}
 use Rattle.clap.proofs.OnLiterals.{clap_on_literals}
 use Rattle.command_line.specs.declared.commands.Colours.TheVariants.{Auto}
-use Rattle.command_line.specs.Commands.{colours_by, colours_named, command_line_app, faults_in, file_met, held_met, kind_by, kind_named, met_in, SaysFlag, SaysNumberIn, TextRow}
+use Rattle.command_line.specs.declared.commands.Task.{Task}
+use Rattle.command_line.specs.declared.commands.Task.TheVariants.{Run, Expand, Trace, Show, Check, Place, Work, Post, Explain}
+use Rattle.command_line.specs.Commands.{colours_by, colours_named, command_line_app, faults_in, file_met, held_met, is_met, is_show, kind_by, kind_named, met_in, GoesForward, IsTask, SaysFlag, SaysNumberIn, TextRow}
 
 module _ (queues whens : TextRow) where
   -- no words meet no command
@@ -94,3 +96,19 @@ SaysNumberIn-read bits gives parses (Some t) (Some n) other none value = inl (pa
 pub SaysFlag-read : (o : Option Text) (flag : Bool) → (o ≡ None → flag ≡ false) → (o ≡ Some (codes "true") → flag ≡ true) → (o ≡ Some (codes "false") → flag ≡ false) → SaysFlag o flag
 SaysFlag-read None flag none set unset = none refl
 SaysFlag-read (Some text) flag none set unset = (λ e. set (ap (λ (t : Text). Some t) e), λ e. unset (ap (λ (t : Text). Some t) e))
+
+-- a task that draws nothing shows no steps
+forward-other : (task : Task) → is_show task ≡ false → GoesForward task
+forward-other Run e = tt
+forward-other Expand e = tt
+forward-other Trace e = tt
+forward-other (Show view) e = absurd cc
+forward-other Check e = tt
+forward-other (Place placing) e = tt
+forward-other (Work crew) e = tt
+forward-other (Post kind) e = tt
+forward-other Explain e = tt
+
+-- nor does the one that no words ask for
+pub forward-nil : (queues whens : TextRow) (task : Task) → IsTask (met_in queues whens []) task → GoesForward task
+forward-nil queues whens task asked = forward-other task (asked.show ∙ ap (is_met (codes "show")) (met_in-nil queues whens))

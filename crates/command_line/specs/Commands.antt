@@ -1,5 +1,5 @@
 -- What the words after the program's name ask for.
-use Rattle.std.specs.Prelude.{◌≡◌, ◌⊎◌, ℕ, ◌<◌, ◌-◌, ◌^◌, Bool, true, false, nat_eq, if◌then◌else◌, List, [], ◌∷◌, codes, map, Option, Some, None, option_map, string_bytes, unwrap_or}
+use Rattle.std.specs.Prelude.{◌≡◌, ◌⊎◌, ℕ, ◌<◌, ◌≤◌, ◌-◌, ◌^◌, Bool, true, false, nat_eq, if◌then◌else◌, List, [], ◌∷◌, codes, map, Option, Some, None, option_map, string_bytes, unwrap_or}
 use Rattle.std.specs.Borrow.{Bor}
 use Rattle.std.specs.Cmp.Lexicographic.{pointwise}
 use Rattle.std.specs.Str.Parse.{IsNumeral, digits_value, without_leading_plus}
@@ -84,11 +84,11 @@ held_rule = record (new_rule (codes "HOLDS")) { long = Some (codes "holds") }
 abbrev pub file_app : Text → App
 file_app name = with_rule (with_rule (new_app name) file_rule) (flag_rule (codes "EXPLAIN") (codes "explain"))
 
--- the required argument in the place of a FILE, for which help has a name of its own
+-- the argument in the place of a FILE that may be left out, and for which help has a name of its own
 abbrev pub refusal_rule : Rule
-refusal_rule = record file_rule { value_names = 1 }
+refusal_rule = record (new_rule (codes "FILE")) { value_names = 1 }
 
--- the command `explain`, with a refusal in the place of a FILE
+-- the command `explain`, with or without a refusal in the place of a FILE
 abbrev pub explain_app : App
 explain_app = with_rule (new_app (codes "explain")) refusal_rule
 
@@ -283,6 +283,15 @@ pub record IsAskedSomewhere (words : List Text) (command : Command) : Type 0 whe
   pub named : AreQueues queues
   pub timed : AreWhens whens
   pub asked : IsAsked queues whens words command
+
+-- the steps that a task shows go forward: the last one is no lower than the first, or 0, which stands for a hundred steps
+abbrev pub GoesForward : Task → Type 0
+GoesForward (Show view) = (view.to ≡ 0) ⊎ (view.from ≤ view.to)
+GoesForward _ = Unit {0}
+
+-- words ask for a command whose steps don't go forward
+abbrev pub AskBackward : List Text → Type 0
+AskBackward words = (command : Command) × IsAskedSomewhere words command × (¬ GoesForward command.task)
 
 -- words are a command line, wherever the names of queues and of times lie
 abbrev pub AreTaken : List Text → Type 0

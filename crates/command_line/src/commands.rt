@@ -1,12 +1,12 @@
 //! The words after the program's name.
-ghost use Rattle.std.specs.Prelude.{◌≡◌, [], IfErr, IfOk, Some, map, option_map, string_bytes, codes, true, false};
+ghost use Rattle.std.specs.Prelude.{◌≡◌, ◌⊎◌, [], IfErr, IfOk, Some, map, option_map, string_bytes, codes, true, false};
 ghost use Rattle.clap.specs.Words.{App, HasKind, Rule, app_of, first_of, found_of, kind_of, one_of, rows_of, rule_of, subcommand_rows_of, takes, with_rule, with_subcommand};
 ghost use Rattle.command_line.specs.Commands.{bare_app, command_line_app, explain_app, faults_in, file_app, file_met, held_met, flag_rule, kind_named, number_rule};
-ghost use Rattle.command_line.specs.Commands.{run_app, AreQueues, AreTaken, IsAsked, IsAskedSomewhere};
+ghost use Rattle.command_line.specs.Commands.{run_app, AreQueues, AreTaken, AskBackward, GoesForward, IsAsked, IsAskedSomewhere};
 ghost use Rattle.command_line.specs.Commands.{IsCrewOf, IsStatusOf, IsTask, IsViewOf, SaysFlag, SaysNumber};
 
 use crate::helps;
-use crate::messages::told;
+use crate::messages::{steps_backward, told, told_backward};
 use crate::options::{Placing, crew_in, explains_in, flag_in, kind_in, placing_in, view_in};
 use crate::places::{held_in, place_command};
 use crate::queue_commands::{post_command, work_command};
@@ -18,7 +18,7 @@ use line_table::QueueKind;
 use std::alloc::{AllocError, Global};
 
 /// The version, which the header, the crate for cargo and CHANGELOG.md tell too.
-const VERSION: &str = "0.4.0";
+const VERSION: &str = "0.5.0";
 
 /// The names of the queues.
 static QUEUES: [&str; 3] = ["two-lock", "nonblocking", "ring"];
@@ -112,18 +112,27 @@ pub struct Command {
 pub fn read_words(alloc: Global, words: &[String]) -> Result<Command, (u8, String)>
     //= program/words (asked, passes, none): The words name the task, its file and its options as clap's definitions
     //=   say (`IsAsked`); no words are `run -`. They are taken only where clap finds no fault; words that are a
-    //=   command line (`AreTaken`), and none, are refused with status 1 alone, that of refused memory.
+    //=   command line (`AreTaken`), and none, are refused with status 1 alone, that of refused memory, but for those
+    //=   that ask for a last step below the first.
     ensures asked { IfOk result (IsAskedSomewhere (map string_bytes words.now)) }
-    // Words that are a command line, and no words, are refused only where memory is.
-    ensures passes { IfErr result (λ e. AreTaken (map string_bytes words.now) → e.0 ≡ 1) }
+    // Words that are a command line, and no words, are refused only where memory is, or where steps go backward.
+    ensures passes { IfErr result (λ e. AreTaken (map string_bytes words.now)
+        → (e.0 ≡ 1) ⊎ ((e.0 ≡ 2) × AskBackward (map string_bytes words.now))) }
     ensures none { words.now ≡ [] → IfErr result (λ e. e.0 ≡ 1) }
+    //= program/forward: A last step below the first, 0 apart, is refused: the steps of a command that is answered go
+    //=   forward.
+    ensures forward { IfOk result (λ command. GoesForward command.task) }
     //= program/word_status (status, memory): Refused words have the status of something that clap finds in them, 0 for
-    //=   help and the version, else 2; or 1, with no text, where memory is refused.
-    ensures status { IfErr result (λ e. IsStatusOf (map string_bytes words.now) e.0) }
+    //=   help and the version, else 2; or 2 where their steps go backward; or 1, with no text, where memory is refused.
+    ensures status { IfErr result (λ e. IsStatusOf (map string_bytes words.now) e.0
+        ⊎ ((e.0 ≡ 2) × AskBackward (map string_bytes words.now))) }
     ensures memory { IfErr result (λ e. e.0 ≡ 1 → string_bytes e.1 ≡ []) }
 {
     match asked(alloc, QUEUES.as_slice(), WHENS.as_slice(), words) {
-        Ok(command) => Ok(command),
+        Ok(command) => match steps_backward(command.task) {
+            Some((first, last)) => Err(told_backward(alloc, first, last)),
+            None => Ok(command),
+        },
         Err(error) => Err(told(alloc, &error)),
     }
 }
@@ -168,10 +177,9 @@ pub(crate) fn with_arg<'a>(
 fn explain_command<'a>(alloc: Global) -> Result<clap::Command<'a>, AllocError>
     ensures { IfOk result (λ command. app_of command ≡ explain_app) }
 {
-    let refusal = Arg::new(alloc, "FILE")
-        .value_name("REFUSAL")
-        .help("The refusal's number, 1 to 16, or its name, spelled as NoNode")
-        .required(true);
+    let refusal = Arg::new(alloc, "FILE").value_name("REFUSAL").help(
+        "The refusal's number, 1 to 16, or its name, spelled as NoNode; without it all of them are listed",
+    );
     clap::Command::new(alloc, "explain")
         .about("Tells of a refusal, by its number or its name, why it is and what to do")
         .after_help(helps::EXPLAIN)

@@ -74,7 +74,8 @@ pub(crate) const POST: &str = "Example:
 The texts: docs/FORMATS.md, Mail and Letters";
 
 /// That of `explain`.
-pub(crate) const EXPLAIN: &str = "Example:
+pub(crate) const EXPLAIN: &str = "Examples:
+  msq explain
   msq explain NoNode
 
-docs/FAULTS.md has all refusals";
+docs/FAULTS.md has the table";

@@ -28,7 +28,7 @@ pub(crate) fn show_command<'a>(
     let from = number_option(alloc, "FROM", "from", (1, u64::MAX), "1");
     let command = with_arg(command, from, "The first step that is shown, 1 to 2^64 - 1");
     let to = number_option(alloc, "TO", "to", (0, u64::MAX), "0");
-    let help = "The last step that is shown; 0 for a hundred steps; if it is below FROM, none is";
+    let help = "The last step that is shown, FROM or a later one; 0 for a hundred steps";
     let command = with_arg(command, to, help);
     let actor = number_option(alloc, "ACTOR", "actor", (0, 65_535), "0");
     let help = "The one actor that is shown; 0 for as many as have room";

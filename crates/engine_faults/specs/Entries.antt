@@ -1,5 +1,5 @@
 -- What a table tells of a refusal that is named.
-use Rattle.std.specs.Prelude.{◌≡◌, ◌⊎◌, ℕ, List, Bool, true, false, Result, All, Contains, IfOk, OnOk}
+use Rattle.std.specs.Prelude.{◌≡◌, ◌⊎◌, ℕ, List, ◌++◌, codes, Bool, true, false, Result, All, Contains, IfOk, OnOk}
 use Rattle.history.specs.declared.refusals.Refusal.{Refusal}
 use Rattle.text_io.specs.Blocks.{Writes}
 use Rattle.text_io.specs.Devices.{SinkState}
@@ -20,3 +20,7 @@ abbrev pub Explains : List Entry → List ℕ → SinkState → SinkState → Re
 Explains entries word old new result =
     ((entry : Entry) × IsEntryOf entries word entry × Writes old new entry.text.now result × IfOk result (λ found. found ≡ true))
     ⊎ (All (λ entry. ¬ IsCalled word entry) entries × OnOk result (new ≡ old) × IfOk result (λ found. found ≡ false))
+
+-- the line that names an entry: its number, a space and its name
+abbrev pub title : Entry → List ℕ
+title entry = entry.number.now ++ (codes " " ++ (entry.name.now ++ codes "\n"))

@@ -40,7 +40,7 @@ what to do: free memory, or take a smaller input; a queue that was to be closed 
         name: "BadSize",
         text: "5 BadSize
 cause: a size is out of its range (nodes or values, greatest count or limit, seats, actors, workers, jobs, letters), or all 2^64 - 1 step numbers are used
-what to do: take sizes in the ranges (docs/FORMATS.md), those of work in its own (docs/FORMATS.md)
+what to do: give work at least 3 nodes more than workers; a queue of nodes takes 2 to 2^D - 2 of them, 16,777,214 with 24 bits, a limit from 1 to 2^(64-D) - 1, and 1 to 65,535 seats. Ranges (docs/FORMATS.md) has them all
 ",
     },
     Entry {
@@ -79,8 +79,8 @@ what to do: take one from 1 to the number in the line actors
         number: "10",
         name: "Text",
         text: "10 Text
-cause: the bytes aren't a text in their grammar: the faults of a text (docs/FORMATS.md)
-what to do: mend the line named. After End see whether the last line has its line feed, and after End and Extra whether the number in the header is right
+cause: the bytes aren't the text that is due: at the line named they end too soon (End), have another form (Form), have a number or a text out of its range (Range), or go on behind the last line (Extra). There are examples (docs/FORMATS.md) of each
+what to do: mend the line named. At Form in line 1 see whether the command reads such a text: msq --help says which reads what. After End see whether the last line has its line feed, and after End and Extra whether the number in the header is right
 ",
     },
     Entry {

@@ -11,4 +11,4 @@ mod lookups;
 pub use endings::{Ending, end_of};
 pub use entries::ENTRIES;
 pub use faults::Fault;
-pub use lookups::{Entry, entry_named, explain};
+pub use lookups::{Entry, entry_named, explain, list};

@@ -1,9 +1,11 @@
 //! Finds what is told of a refusal, and writes it.
-ghost use Rattle.std.specs.Prelude.{◌≡◌, All, IfNone, IfSome};
-ghost use Rattle.engine_faults.specs.Entries.{Explains, IsCalled, IsEntryOf};
+ghost use Rattle.std.specs.Prelude.{◌≡◌, ◌++◌, All, IfNone, IfSome};
+ghost use Rattle.std.specs.List.{flat_map};
+ghost use Rattle.text_io.specs.Blocks.{Puts, Writes};
+ghost use Rattle.engine_faults.specs.Entries.{Explains, IsCalled, IsEntryOf, title};
 
 use history::Refusal;
-use text_io::{Sink, send};
+use text_io::{Block, Sink, send};
 
 /// What is told of a refusal.
 #[derive(Clone, Copy, Debug)]
@@ -46,4 +48,31 @@ pub fn explain<W: Sink>(entries: &[Entry], word: &str, writer: &mut W) -> Result
     };
     send(entry.text.as_bytes(), writer)?;
     Ok(true)
+}
+
+/// Writes a line for each entry, with its number and its name, in the order of the table.
+///
+/// It is refused by `Write` where a call of the writer fails or takes nothing. It takes no memory; whether it waits is up to the
+/// writer.
+pub fn list<W: Sink>(entries: &[Entry], writer: &mut W) -> Result<(), Refusal>
+    //= program/list: `list`, which `msq explain` without a refusal calls, writes a line for each entry of a table, in its order,
+    //=   with its number, a space and its name, exactly, or a prefix of these lines at `Write`, which is then its one
+    //=   refusal.
+    ensures { Writes (W.state writer.old) (W.state writer.new) (flat_map title entries.now) result }
+{
+    let mut block = Block::new();
+    for entry in entries {
+        put_title(&mut block, writer, entry)?;
+    }
+    block.finish(writer)
+}
+
+// Puts the line of an entry. It may be longer than a `LineBuffer`, so it goes in parts.
+fn put_title<W: Sink>(block: &mut Block, writer: &mut W, entry: &Entry) -> Result<(), Refusal>
+    ensures { Puts (W.state writer.old) (W.state writer.new) (block.old ++ title entry.now) block.new result }
+{
+    block.put(writer, entry.number.as_bytes())?;
+    block.put(writer, b" ")?;
+    block.put(writer, entry.name.as_bytes())?;
+    block.put(writer, b"\n")
 }

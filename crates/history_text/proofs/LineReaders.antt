@@ -1,14 +1,10 @@
 -- What the readers of lines rest on.
-use Rattle.std.proofs.Common.{◌≡◌, ℕ, List, [], ◌∷◌, sym, ap, ◌∙◌}
+use Rattle.std.proofs.Common.{ℕ, List, sym, ap, ◌∙◌}
 use Rattle.text_io.specs.Lines.{spaced, words_of}
 use Rattle.text_io.proofs.Splits.{spaced-words_of}
 use Rattle.history.specs.declared.operations.Stamped.{Stamped}
-use Rattle.history_text.specs.HistoryReading.{AreOfOperation, AreOfCount, SaysOperation, SaysCount}
-use Rattle.history_text.proofs.NoSpaces.{ink-operation, ink-count, words_of-ink}
-
--- what follows the first of two words
-pub second_of_two : (words : List (List ℕ)) (a b c : List ℕ) (later : List (List ℕ)) → words ≡ a ∷ later → words ≡ b ∷ c ∷ [] → later ≡ c ∷ []
-second_of_two words a b c later first both = cc
+use Rattle.history_text.specs.HistoryReading.{AreOfOperation, SaysOperation}
+use Rattle.history_text.proofs.NoSpaces.{ink-operation, words_of-ink}
 
 -- a line of the words of an operation says it
 pub SaysOperation-from_words : (says : List ℕ) (o : Stamped) → AreOfOperation (words_of says) o → SaysOperation says o
@@ -17,10 +13,3 @@ SaysOperation-from_words says o there = (there.0, sym (spaced-words_of says) ∙
 -- and the other way round
 pub AreOfOperation-said : (says : List ℕ) (o : Stamped) → SaysOperation says o → AreOfOperation (words_of says) o
 AreOfOperation-said says o said = (said.0, ap words_of said.1 ∙ words_of-ink _ _ (ink-operation o said.0))
-
--- the same of the first line
-pub SaysCount-from_words : (says : List ℕ) (count : ℕ) → AreOfCount (words_of says) count → SaysCount says count
-SaysCount-from_words says count there = sym (spaced-words_of says) ∙ ap spaced there
-
-pub AreOfCount-said : (says : List ℕ) (count : ℕ) → SaysCount says count → AreOfCount (words_of says) count
-AreOfCount-said says count said = ap words_of said ∙ words_of-ink _ _ (ink-count count)

@@ -1,12 +1,12 @@
 -- Each text is of one history at most, and its lines tell what they say.
-use Rattle.std.proofs.Common.{◌≡◌, ◌≢◌, ℕ, List, [], ◌∷◌, ◌++◌, length, Option, Some, None, true, false, refl, sym, ap, ◌∙◌, arith, subst, codes, inl, get_or, ◌==◌}
-use Rattle.std.proofs.lemmas.Bool.{eq-eqb}
+use Rattle.std.proofs.Common.{◌≡◌, ◌≢◌, ℕ, List, [], ◌∷◌, ◌++◌, length, Option, Some, None, true, false, refl, sym, ap, ◌∙◌, arith, subst, codes, inl, ◌==◌}
 use Rattle.std.proofs.lemmas.List.Elements.{All-head}
 use Rattle.history.specs.declared.text_causes.TextCause.{TextCause}
 use Rattle.text_io.specs.Lines.{HasNo, words_of}
 use Rattle.text_io.specs.Numerals.{numeral}
 use Rattle.text_io.specs.Listings.{IsSoundListing}
 use Rattle.text_io.proofs.Numerals.{numeral_injective, HasNo-numeral}
+use Rattle.text_io.proofs.FirstWords.{first_byte, apart}
 use Rattle.text_io.proofs.Listings.{one_listing, listing-no_fault, listing-not_neither}
 use Rattle.history.specs.declared.refusals.WornWord.{WornWord}
 use Rattle.history.specs.declared.refusals.WornWord.TheVariants.{Free, Next, Tail, Head}
@@ -28,17 +28,6 @@ use Rattle.history_text.proofs.Texts.{IsListing-history, history-spelled, range-
 -- a number is no dash
 dash_no_number : (n : ℕ) → codes "-" ≢ numeral n
 dash_no_number n e = All-head (λ b. b ≢ 45) 45 [] (subst (HasNo 45) (sym e) (HasNo-numeral 45 n (inl (omega arith)))) refl
-
--- the first byte of the first word
-abbrev pub first_byte : List (List ℕ) → ℕ
-first_byte words = get_or (get_or words 0 []) 0 0
-
--- words that begin with other bytes are others
-pub apart : (ws vs : List (List ℕ)) → (first_byte ws == first_byte vs) ≡ false → ws ≢ vs
-apart ws vs other same =
-    let one : (first_byte ws == first_byte vs) ≡ true = eq-eqb (first_byte ws) (first_byte vs) (ap first_byte same) in
-    let both : true ≡ false = sym one ∙ other in
-    absurd cc
 
 -- one word that begins with another byte is another one
 other_word : (w v : List ℕ) → (first_byte (w ∷ []) == first_byte (v ∷ [])) ≡ false → w ≢ v

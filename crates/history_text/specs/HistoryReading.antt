@@ -9,7 +9,7 @@ use Rattle.history.specs.declared.operations.Reply.{Reply}
 use Rattle.history.specs.declared.operations.Reply.TheVariants.{Refused}
 use Rattle.history.specs.declared.operations.Stamped.{Stamped}
 use Rattle.history.specs.WornWords.{word_text}
-use Rattle.history_text.specs.HistoryLines.{count_words, step_word, value_words, refusal_words, reply_words, operation_words, history_listing, IsQueueReply}
+use Rattle.history_text.specs.HistoryLines.{step_word, value_words, refusal_words, reply_words, operation_words, history_listing, IsQueueReply}
 
 -- a word and the number behind it
 abbrev pub labelled_number : List ℕ → ℕ → List (List ℕ)
@@ -42,10 +42,6 @@ AreOfOperation words o = IsQueueReply o.reply × (words ≡ operation_words o)
 -- a line says an operation
 abbrev pub SaysOperation : List ℕ → Stamped → Type 0
 SaysOperation says o = SaysItem history_listing says o
-
--- these are the words of the first line
-abbrev pub AreOfCount : List (List ℕ) → ℕ → Type 0
-AreOfCount words count = words ≡ count_words count
 
 -- a line says how many operations there are
 abbrev pub SaysCount : List ℕ → ℕ → Type 0

@@ -5,11 +5,11 @@ ghost use Rattle.text_io.specs.LineReadings.{ReadsBack, Reads, ReadsWords, Reads
 ghost use Rattle.history_text.specs.HistoryLines.{call_words, IsActor, IsBody, IsStep, IsCallInRange};
 ghost use Rattle.history_text.specs.HistoryLines.{IsStepInRange, IsReplyInRange, IsOperationInRange, IsCount};
 ghost use Rattle.history_text.specs.HistoryReading.{labelled_number, labelled_step};
-ghost use Rattle.history_text.specs.HistoryReading.{AreOfOperation, SaysOperation, AreOfCount, SaysCount};
+ghost use Rattle.history_text.specs.HistoryReading.{AreOfOperation, SaysOperation, SaysCount};
 
 use crate::replies::reply_of;
 use history::{Body, MOST_ACTOR, MOST_BODY, Op, Reply, Stamped};
-use text_io::{TextCause, Words, number_in};
+use text_io::{TextCause, Words, counted, kept_or_range, number_in};
 
 const MOST_OPERATIONS: u64 = 1_000_000;
 
@@ -17,15 +17,7 @@ const MOST_OPERATIONS: u64 = 1_000_000;
 pub fn count_of(line: &[u8]) -> Result<u64, TextCause>
     ensures { ReadsLine (SaysCount line.now) IsCount result }
 {
-    count_in(Words::of(line))?.ok_or(TextCause::Range)
-}
-
-fn count_in(mut words: Words) -> Result<Option<u64>, TextCause>
-    ensures { Reads (AreOfCount words.entry) IsCount result }
-{
-    let count = labelled(&mut words, b"history", 0, MOST_OPERATIONS)?;
-    words.expect_end()?;
-    Ok(count)
+    counted(line, b"history", MOST_OPERATIONS)
 }
 
 /// The operation that a line says.
@@ -34,7 +26,7 @@ pub fn operation_of(line: &[u8]) -> Result<Stamped, TextCause>
 {
     // The check of the result stops unless these types are named here.
     let _: (Option<Op>, Option<Reply>) = (None, None);
-    parts_of(Words::of(line))?.ok_or(TextCause::Range)
+    kept_or_range(parts_of(Words::of(line)))
 }
 
 fn parts_of(mut words: Words) -> Result<Option<Stamped>, TextCause>

@@ -1,18 +1,16 @@
 -- The lines of jobs and their words.
-use Rattle.std.proofs.Common.{◌≡◌, ◌≢◌, ℕ, List, [], ◌∷◌, ◌++◌, Option, Some, None, true, false, ◌==◌, get_or, refl, sym, ap, subst, ◌∙◌, arith, codes, append_assoc, inl}
-use Rattle.std.specs.Option.{option_zip, ok_or}
-use Rattle.std.proofs.lemmas.Bool.{eq-eqb}
+use Rattle.std.proofs.Common.{◌≡◌, ◌≢◌, ℕ, List, [], ◌∷◌, ◌++◌, Option, Some, None, false, ◌==◌, refl, sym, ap, subst, ◌∙◌, arith, codes, append_assoc, inl}
+use Rattle.std.specs.Option.{option_zip}
 use Rattle.std.proofs.lemmas.List.Elements.{All-nil, All-cons}
-use Rattle.history.specs.declared.text_causes.TextCause.TheVariants.{Range}
 use Rattle.text_io.specs.Lines.{HasNo, spaced, words_of}
 use Rattle.text_io.specs.Numerals.{numeral}
 use Rattle.text_io.specs.Printable.{IsPrintable}
 use Rattle.text_io.specs.LineReadings.{ReadsBack}
 use Rattle.text_io.proofs.Numerals.{HasNo-numeral}
+use Rattle.text_io.proofs.FirstWords.{first_byte, apart}
 use Rattle.text_io.proofs.Splits.{HasNo-tested, words_of_more, words_of_some, spaced-words_of, words_of-spaced}
-use Rattle.job_results.specs.declared.lines.ReadJob.{ReadJob}
-use Rattle.job_results.specs.JobTexts.{SaidJob, Add, Mul, Div, Len, two_numbers, job_line, IsJobInRange, IsNumber}
-use Rattle.job_results.specs.JobReading.{job_words, AreTwo, AreBoth, AreOfJob, AreOfCount, SaysJob, SaysCount, KeepsJob, ReadsJob}
+use Rattle.job_results.specs.JobTexts.{SaidJob, Add, Mul, Div, Len, two_numbers, job_line, IsNumber}
+use Rattle.job_results.specs.JobReading.{job_words, AreTwo, AreBoth, AreOfJob, SaysJob}
 
 -- a number has no space
 no_space-numeral : (n : ℕ) → HasNo 32 (numeral n)
@@ -24,11 +22,6 @@ three_words word a b none =
     words_of-spaced word (numeral a ∷ numeral b ∷ [])
     (All-cons (HasNo 32) word (numeral a ∷ numeral b ∷ []) none
     (All-cons (HasNo 32) (numeral a) (numeral b ∷ []) (no_space-numeral a) (All-cons (HasNo 32) (numeral b) [] (no_space-numeral b) (All-nil (HasNo 32)))))
-
--- a word, and one number behind it
-two_words : (word : List ℕ) (n : ℕ) → HasNo 32 word → words_of (spaced (word ∷ numeral n ∷ [])) ≡ word ∷ numeral n ∷ []
-two_words word n none =
-    words_of-spaced word (numeral n ∷ []) (All-cons (HasNo 32) word (numeral n ∷ []) none (All-cons (HasNo 32) (numeral n) [] (no_space-numeral n) (All-nil (HasNo 32))))
 
 -- a word before others
 spaced-more : (word : List ℕ) (words : List (List ℕ)) → words ≢ [] → spaced (word ∷ words) ≡ word ++ 32 ∷ spaced words
@@ -62,34 +55,12 @@ SaysJob-from_words says job there = (there.0, sym (spaced-words_of says) ∙ ap 
 pub AreOfJob-said : (says : List ℕ) (job : SaidJob) → SaysJob says job → AreOfJob (words_of says) job
 AreOfJob-said says job said = (said.0, ap words_of said.1 ∙ words_of-job job)
 
--- the same of the first line
-pub SaysCount-from_words : (says : List ℕ) (count : ℕ) → AreOfCount (words_of says) count → SaysCount says count
-SaysCount-from_words says count there = sym (spaced-words_of says) ∙ ap spaced there
-
-pub AreOfCount-said : (says : List ℕ) (count : ℕ) → SaysCount says count → AreOfCount (words_of says) count
-AreOfCount-said says count said = ap words_of said ∙ two_words (codes "jobs") count (HasNo-tested 32 (codes "jobs") refl)
-
--- what follows the first of two words
-pub second_of_two : (words : List (List ℕ)) (a b c : List ℕ) (later : List (List ℕ)) → words ≡ a ∷ later → words ≡ b ∷ c ∷ [] → later ≡ c ∷ []
-second_of_two words a b c later first both = cc
-
 -- two numbers are kept together where both are in range
 pub keeps_two : (two : ℕ × ℕ) (a b : Option ℕ) → ReadsBack IsNumber two.0 a → ReadsBack IsNumber two.1 b
     → ReadsBack AreBoth two (option_zip a b)
 keeps_two two None b none b' = λ range. none range.0
 keeps_two two (Some x) None a none = λ range. none range.1
 keeps_two two (Some x) (Some y) a b = ((λ i. (a.0 i, b.0 i)), (a.1, b.1))
-
--- the first byte of the first word
-abbrev first_byte : List (List ℕ) → ℕ
-first_byte words = get_or (get_or words 0 []) 0 0
-
--- words that begin with other bytes are others
-pub apart : (ws vs : List (List ℕ)) → (first_byte ws == first_byte vs) ≡ false → ws ≢ vs
-apart ws vs other same =
-    let one : (first_byte ws == first_byte vs) ≡ true = eq-eqb (first_byte ws) (first_byte vs) (ap first_byte same) in
-    let both : true ≡ false = sym one ∙ other in
-    absurd cc
 
 -- words behind the first one that are no two numbers are no job's, unless the first one is that of a text
 pub no_numbers : (words : List (List ℕ)) (word : List ℕ) (later : List (List ℕ)) → words ≡ word ∷ later → word ≢ codes "len"
@@ -112,9 +83,3 @@ no_text words text split none (Len other) there =
 -- the words of numbers are not that of a text
 pub not_len : (word other : List ℕ) → word ≡ other → (first_byte (other ∷ []) == 108) ≡ false → word ≢ codes "len"
 not_len word other is differs len = apart (other ∷ []) (codes "len" ∷ []) differs (ap (λ (word : List ℕ). word ∷ []) (sym is ∙ len))
-
--- the job of a line by what was kept of it
-pub ReadsJob-kept : (says : List ℕ) (job : SaidJob) → AreOfJob (words_of says) job → (kept : Option ReadJob) → KeepsJob job kept → ReadsJob says (ok_or kept Range)
-ReadsJob-kept says job there None out = (job, SaysJob-from_words says job there, out)
-ReadsJob-kept says job there (Some read) kept =
-    (subst (SaysJob says) (sym kept.0) (SaysJob-from_words says job there), subst IsJobInRange (sym kept.0) kept.1)

@@ -10,7 +10,8 @@ use Rattle.text_io.proofs.Splits.{HasNo-tested, spaced-words_of}
 use Rattle.text_io.proofs.Listings.{one_listing, listing-not_neither}
 use Rattle.job_results.specs.JobTexts.{SaidJob, Add, Mul, Div, Len, two_numbers, job_line, count_line, jobs_text, jobs_listing, IsJob, IsCount, AreJobsInRange, HasFirstFault}
 use Rattle.job_results.specs.JobReading.{job_words}
-use Rattle.job_results.proofs.JobLines.{words_of-job, apart}
+use Rattle.text_io.proofs.FirstWords.{apart}
+use Rattle.job_results.proofs.JobLines.{words_of-job}
 
 -- a number has no line feed
 no_feed-numeral : (n : ℕ) → HasNo 10 (numeral n)

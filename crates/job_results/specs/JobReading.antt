@@ -39,10 +39,6 @@ AreBoth two = AreNumbers two.0 two.1
 abbrev pub AreOfJob : List (List ℕ) → SaidJob → Type 0
 AreOfJob words job = IsJob job × (words ≡ job_words job)
 
--- these are the words of the first line
-abbrev pub AreOfCount : List (List ℕ) → ℕ → Type 0
-AreOfCount words count = words ≡ codes "jobs" ∷ numeral count ∷ []
-
 -- a line says a job
 abbrev pub SaysJob : List ℕ → SaidJob → Type 0
 SaysJob says job = SaysItem jobs_listing says job

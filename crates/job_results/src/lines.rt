@@ -2,12 +2,12 @@
 ghost use Rattle.std.specs.Prelude.{◌≡◌, ℕ, List, IfOk, IfErr};
 ghost use Rattle.text_io.specs.LineReadings.{Reads, ReadsBack, ReadsLine};
 ghost use Rattle.job_results.specs.JobTexts.{Add, Mul, Div, Len, said_job, IsCount};
-ghost use Rattle.job_results.specs.JobReading.{said_of, AreTwo, AreBoth, AreOfCount, SaysCount};
+ghost use Rattle.job_results.specs.JobReading.{said_of, AreTwo, AreBoth, SaysCount};
 ghost use Rattle.job_results.specs.JobReading.{KeepsText, KeepsJob, ReadsWordsOfJob, ReadsJob};
 
 use crate::jobs::Job;
 use std::alloc::Global;
-use text_io::{ItemError, TextCause, Words, printable_in};
+use text_io::{ItemError, TextCause, Words, counted, kept_or_range, printable_in};
 
 const MOST_JOBS: u64 = 1_000_000;
 
@@ -26,23 +26,14 @@ pub enum ReadJob<'a> {
 pub fn count_of(line: &[u8]) -> Result<u64, TextCause>
     ensures { ReadsLine (SaysCount line.now) IsCount result }
 {
-    count_in(Words::of(line))?.ok_or(TextCause::Range)
-}
-
-fn count_in(mut words: Words) -> Result<Option<u64>, TextCause>
-    ensures { Reads (AreOfCount words.entry) IsCount result }
-{
-    words.expect_word(b"jobs")?;
-    let count = words.number(0, MOST_JOBS)?;
-    words.expect_end()?;
-    Ok(count)
+    counted(line, b"jobs", MOST_JOBS)
 }
 
 /// The job that a line says.
 pub fn job_of(line: &[u8]) -> Result<ReadJob<'_>, TextCause>
     ensures { ReadsJob line.now result }
 {
-    parts_of(Words::of(line))?.ok_or(TextCause::Range)
+    kept_or_range(parts_of(Words::of(line)))
 }
 
 fn parts_of(mut words: Words) -> Result<Option<ReadJob>, TextCause>

@@ -3,17 +3,21 @@ ghost use Rattle.msq.specs.Causes.{IsNumberOf};
 
 use crate::finds::{tell_count, tell_number, tell_queue, tell_span, tell_word};
 use crate::forms::due_at;
+use crate::kinds::{has_no_points, tell_kind};
 use crate::notes::Notes;
 use crate::stands::{header_line, tell_stand};
 use crate::starts::{is_recipe, spoken};
 use command_line::{Command, Task};
-use engine_faults::{ENTRIES, Fault, entry_named};
+use engine_faults::{ENTRIES, Ending, Fault, entry_named};
 use history::{Refusal, TextCause};
 use std::io;
 use std::rt::Runtime;
 
 /// How many bytes of a line are shown.
 const SHOWN: usize = 100;
+
+/// What is found where a text has no byte.
+const EMPTY: &str = "the text is empty; msq --help tells which command reads which text";
 
 /// Tells on standard error what a fault is about, a line each.
 pub(crate) fn tell_cause<R: Runtime + AllocGlobal>(
@@ -25,17 +29,11 @@ pub(crate) fn tell_cause<R: Runtime + AllocGlobal>(
     match fault.refusal {
         Refusal::Text(line, cause) => {
             tell_line(rt, command, notes, line)?;
-            let told = tell_found(rt, command, notes, line, cause)?;
-            if !told {
-                eprint!(rt; "  found: {}\n", found(cause))?;
-            }
-            if cause != TextCause::Extra && !(told && cause == TextCause::Form) {
-                let due = due_at(command, notes.text.as_slice(), line);
-                eprint!(rt; "  due: {due}\n")?;
-            }
+            tell_text(rt, command, notes, line, cause)?;
         }
         Refusal::Read => tell_reason(rt, name_of(command), &notes.unread)?,
         Refusal::Write => tell_reason(rt, "standard output", &notes.unwritten)?,
+        Refusal::BadSize => tell_sizes(rt, command)?,
         _ => {
             if let Some(line) = fault.line {
                 tell_line(rt, command, notes, line)?;
@@ -50,6 +48,57 @@ pub(crate) fn tell_cause<R: Runtime + AllocGlobal>(
         eprint!(rt; "  {line}\n")?;
     }
     Ok(())
+}
+
+/// Tells what a line of a text has that isn't due, and what is due there.
+fn tell_text<R: Runtime>(
+    rt: &R,
+    command: &Command,
+    notes: &Notes,
+    line: u64,
+    cause: TextCause,
+) -> io::Result<()> {
+    let text = notes.text.as_slice();
+    let is_other = line == 1 && cause == TextCause::Form && tell_kind(rt, command, text)?;
+    let told = is_other || tell_found(rt, command, notes, line, cause)?;
+    if !told {
+        let is_empty = line == 1 && cause == TextCause::End && text.is_empty();
+        let found = if is_empty { EMPTY } else { found(cause) };
+        eprint!(rt; "  found: {found}\n")?;
+    }
+    if is_other || cause != TextCause::Extra && !(told && cause == TextCause::Form) {
+        eprint!(rt; "  due: {}\n", due_at(command, text, line))?;
+    }
+    Ok(())
+}
+
+/// Tells which sizes of `work` are out of their range.
+fn tell_sizes<R: Runtime>(rt: &R, command: &Command) -> io::Result<()> {
+    let Task::Work(crew) = command.task else {
+        return Ok(());
+    };
+    let (nodes, workers) = (crew.nodes, crew.workers);
+    eprint!(rt; "  found: --nodes {nodes} with --workers {workers}\n")?;
+    eprint!(rt;
+        "  due: --nodes from {} to 16777214\n",
+        workers.saturating_add(3)
+    )
+}
+
+/// Tells on standard error of a no that `check` said of a history none of whose operations has a point.
+pub(crate) fn tell_no<R: Runtime>(
+    rt: &R,
+    command: &Command,
+    ending: Ending,
+    notes: &Notes,
+) -> io::Result<()> {
+    match command.task {
+        Task::Check if ending == Ending::No && has_no_points(notes.text.as_slice()) => {
+            eprint!(rt; "  found: no operation of this history has a point\n")?;
+            eprint!(rt; "  due: points; msq place finds them, or a reason why there are none\n")
+        }
+        _ => Ok(()),
+    }
 }
 
 /// Tells what a line of a schedule, a recipe or a recording has that isn't due; whether it was told.

@@ -5,12 +5,14 @@ mod causes;
 mod finds;
 mod forms;
 mod held;
+mod kinds;
 mod notes;
 mod options;
 mod program;
 mod progress;
 mod stands;
 mod starts;
+mod tips;
 
 use program::Terminals;
 use std::io::IsTerminal;

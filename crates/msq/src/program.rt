@@ -1,12 +1,13 @@
 //! The program: its words, its files and its exit status.
-use crate::causes::tell_cause;
+use crate::causes::{tell_cause, tell_no};
 use crate::held::{Done, faulty_list, placed, warn};
 use crate::notes::{Kept, NotedSink, NotedSource, Notes};
 use crate::options::{Frames, show_by, show_coloured, wants_colours, work_by};
 use crate::progress::Progress;
 use crate::starts::{is_recipe, read_start, takes_recipes};
+use crate::tips::tell_takers;
 use command_line::{Command, Task, read_words};
-use engine_faults::{ENTRIES, Ending, Fault, end_of, explain};
+use engine_faults::{ENTRIES, Ending, Fault, end_of, explain, list};
 use expand_engine::{expand_text, run_recipe, trace_recipe};
 use history::Refusal;
 use mail_engine::post_text;
@@ -61,7 +62,11 @@ pub fn run_program<R: Runtime + AllocGlobal + Threads + Wait + Sync>(
         },
         Err((0, text)) => shown(rt, text.as_str()),
         Err((1, _)) => ended(rt, Err(Fault::from(Refusal::Memory))),
-        Err((_, text)) => refused(rt, text.as_str()),
+        Err((_, text)) => {
+            let status = refused(rt, text.as_str());
+            tell_takers(rt, &words);
+            status
+        }
     }
 }
 
@@ -111,9 +116,12 @@ fn obeyed<R: Runtime + AllocGlobal + Threads + Wait + Sync>(
         warn(rt, lines);
     }
     let status = ended(rt, outcome.map(|done| done.ending));
-    if explains && let Err(fault) = outcome {
-        // Where standard error fails too, the status alone tells of the fault.
-        let _ = tell_cause(rt, command, &fault, &notes);
+    if explains {
+        // Where standard error fails too, the status alone tells of the fault, and of a no the verdict.
+        let _ = match outcome {
+            Err(fault) => tell_cause(rt, command, &fault, &notes),
+            Ok(done) => tell_no(rt, command, done.ending, &notes),
+        };
     }
     status
 }
@@ -332,13 +340,19 @@ fn ended<R: Runtime>(rt: &R, outcome: Result<Ending, Fault>) -> u8 {
     end_of(outcome, &mut WriterSink::new(Stderr { rt }))
 }
 
-/// The status of the explanation of a refusal, which is written to standard output.
+/// The status of the explanation of a refusal, or of the list of all where none is named, which is written to standard output.
 fn explained<R: Runtime>(rt: &R, word: &str) -> u8 {
-    match explain(&ENTRIES, word, &mut WriterSink::new(io::writer(rt))) {
+    let mut writer = WriterSink::new(io::writer(rt));
+    let answer = if word == "-" {
+        list(&ENTRIES, &mut writer).map(|()| true)
+    } else {
+        explain(&ENTRIES, word, &mut writer)
+    };
+    match answer {
         Ok(true) => 0,
         Ok(false) => {
             let _ = eprint!(rt;
-                "error: '{}' is no refusal; docs/FAULTS.md has their numbers, 1 to 16, and names\n",
+                "error: '{}' is no refusal: msq explain lists their numbers and names\n",
                 word.escape_debug()
             );
             2

@@ -58,7 +58,7 @@ pub(crate) fn is_recipe(text: &[u8]) -> bool {
 pub(crate) fn takes_recipes(command: &Command) -> bool {
     match command.task {
         Task::Run | Task::Trace => true,
-        Task::Show(options) => !options.is_history && !options.draws_reason,
+        Task::Show(options) => !options.is_history && (options.is_page || !options.draws_reason),
         _ => false,
     }
 }

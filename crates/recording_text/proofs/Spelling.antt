@@ -1,6 +1,5 @@
 -- The lines of recordings and their words.
-use Rattle.std.proofs.Common.{◌≡◌, ◌≢◌, ℕ, ◌≤◌, List, [], ◌∷◌, ◌++◌, All, Option, Some, None, false, refl, sym, ap, ◌∙◌, subst, codes, ⊎_elim}
-use Rattle.std.specs.Option.{ok_or}
+use Rattle.std.proofs.Common.{◌≡◌, ◌≢◌, ℕ, ◌≤◌, List, [], ◌∷◌, ◌++◌, All, Option, Some, None, false, refl, sym, ap, ◌∙◌, codes, ⊎_elim}
 use Rattle.std.proofs.lemmas.Bool.{cases_lt, agree_below_at}
 use Rattle.std.proofs.lemmas.List.Elements.{All-nil, All-append, All-weaker}
 use Rattle.history.specs.declared.text_causes.TextCause.{TextCause}
@@ -13,13 +12,13 @@ use Rattle.text_io.proofs.Numerals.{numeral_injective}
 use Rattle.text_io.proofs.Splits.{spaced-words_of}
 use Rattle.history_text.specs.HistoryLines.{step_word}
 use Rattle.history_text.proofs.NoSpaces.{IsInk, ink-tested, ink-numeral, more, one, ink-step, ink-labelled, words_of-ink, HasNo-spaced}
-use Rattle.history_text.proofs.OneReading.{apart, one-step}
-use Rattle.recording_text.specs.declared.lines.ReadOperation.{ReadOperation}
+use Rattle.text_io.proofs.FirstWords.{apart}
+use Rattle.history_text.proofs.OneReading.{one-step}
 use Rattle.recording_text.specs.Recordings.{Call, Push, Pop, Shut, Told, Done, Value, Empty, Refused, Closed, Recorded}
 use Rattle.recording_text.specs.RecordingLines.{is_text_byte, IsTextByte, IsText, IsTextCall, IsTextTold, IsSayable, IsOperationInRange}
 use Rattle.recording_text.specs.RecordingLines.{RecordingLine, Version, Count, Operation, RecordingDue, VersionDue, CountDue, Operations, MaySay}
 use Rattle.recording_text.specs.RecordingLines.{call_words, told_words, span_words, operation_words, line_words, recording_grammar}
-use Rattle.recording_text.specs.RecordingReading.{said_of, KeepsAs, AreOfOperation, SaysOperation, ReadsOperation, AreOfCount, SaysCount, IsCount}
+use Rattle.recording_text.specs.RecordingReading.{AreOfOperation, SaysOperation, SaysCount, IsCount}
 
 -- the bytes of a text are such ones
 ink-byte : (b : ℕ) → IsTextByte b → 45 ≤ b
@@ -64,20 +63,6 @@ SaysOperation-from_words says r there = (there.0, sym (spaced-words_of says) ∙
 
 pub AreOfOperation-said : (says : List ℕ) (r : Recorded) → SaysOperation says r → AreOfOperation (words_of says) r
 AreOfOperation-said says r said = (said.0, ap words_of said.1 ∙ words_of-ink _ _ (ink-operation r said.0))
-
--- the same of the second line
-pub SaysCount-from_words : (says : List ℕ) (count : ℕ) → AreOfCount (words_of says) count → SaysCount says count
-SaysCount-from_words says count there = sym (spaced-words_of says) ∙ ap spaced there
-
-pub AreOfCount-said : (says : List ℕ) (count : ℕ) → SaysCount says count → AreOfCount (words_of says) count
-AreOfCount-said says count said = ap words_of said ∙ words_of-ink _ _ (ink-count count)
-
--- an operation by what was kept of it
-pub ReadsOperation-kept : (says : List ℕ) (r : Recorded) → AreOfOperation (words_of says) r → (kept : Option ReadOperation) → KeepsAs said_of IsOperationInRange r kept
-    → ReadsOperation says (ok_or kept Range)
-ReadsOperation-kept says r there None out = (r, SaysOperation-from_words says r there, out)
-ReadsOperation-kept says r there (Some read) kept =
-    (subst (SaysOperation says) (sym kept.0) (SaysOperation-from_words says r there), subst IsOperationInRange (sym kept.0) kept.1)
 
 -- a line that says no operation, or one that is out of range
 pub wrong-operation : (left : ℕ) (says : List ℕ) (cause : TextCause) → IsWrong (SaysOperation says) IsOperationInRange cause

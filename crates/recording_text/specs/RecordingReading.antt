@@ -116,10 +116,6 @@ ReadsOperation says result = MatchResult result
     (λ read. SaysOperation says (said_of read) × IsOperationInRange (said_of read))
     (IsWrong (SaysOperation says) IsOperationInRange)
 
--- these are the words of the line that says how many operations there are
-abbrev pub AreOfCount : List (List ℕ) → ℕ → Type 0
-AreOfCount words count = words ≡ codes "operations" ∷ numeral count ∷ []
-
 -- a line says how many operations there are
 abbrev pub SaysCount : List ℕ → ℕ → Type 0
 SaysCount says count = says ≡ spaced (codes "operations" ∷ numeral count ∷ [])

@@ -1,7 +1,7 @@
 //! Reading the lines of a recording.
 ghost use Rattle.std.specs.Prelude.{◌≡◌, ◌≢◌, ◌∷◌, All, IfErr, MatchBool, OnOk};
 ghost use Rattle.text_io.specs.Numerals.{IsWithin};
-ghost use Rattle.text_io.specs.LineReadings.{ReadsBack, Reads, ReadsLine};
+ghost use Rattle.text_io.specs.LineReadings.{ReadsBack, ReadsLine};
 ghost use Rattle.history_text.specs.HistoryLines.{IsStep, IsStepInRange};
 ghost use Rattle.recording_text.specs.Recordings.{Recorded};
 ghost use Rattle.recording_text.specs.RecordingLines as lines;
@@ -9,11 +9,11 @@ ghost use Rattle.recording_text.specs.RecordingLines.{IsTextByte, IsShortText, I
 ghost use Rattle.recording_text.specs.RecordingLines.{IsToldInRange, IsOperationInRange, IsInTime};
 ghost use Rattle.recording_text.specs.RecordingReading.{said_of, said_call, said_told, bytes_of, KeepsAs};
 ghost use Rattle.recording_text.specs.RecordingReading.{ReadsText, ReadsCall, ReadsWordsOfOperation, ReadsOperation};
-ghost use Rattle.recording_text.specs.RecordingReading.{AreOfCount, SaysCount, IsCount, KeepsPush};
+ghost use Rattle.recording_text.specs.RecordingReading.{SaysCount, IsCount, KeepsPush};
 
 use crate::replies::{ReadReply, reply_of};
 use history_text::step_of;
-use text_io::{TextCause, Words};
+use text_io::{TextCause, Words, counted, kept_or_range};
 
 const MOST_OPERATIONS: u64 = 1_000_000;
 
@@ -55,23 +55,14 @@ pub fn expect_version(line: &[u8]) -> Result<(), TextCause>
 pub fn count_of(line: &[u8]) -> Result<u64, TextCause>
     ensures { ReadsLine (SaysCount line.now) IsCount result }
 {
-    count_in(Words::of(line))?.ok_or(TextCause::Range)
-}
-
-fn count_in(mut words: Words) -> Result<Option<u64>, TextCause>
-    ensures { Reads (AreOfCount words.entry) IsCount result }
-{
-    words.expect_word(b"operations")?;
-    let count = words.number(0, MOST_OPERATIONS)?;
-    words.expect_end()?;
-    Ok(count)
+    counted(line, b"operations", MOST_OPERATIONS)
 }
 
 /// The operation that a line says.
 pub fn operation_of(line: &[u8]) -> Result<ReadOperation<'_>, TextCause>
     ensures { ReadsOperation line.now result }
 {
-    parts_of(Words::of(line))?.ok_or(TextCause::Range)
+    kept_or_range(parts_of(Words::of(line)))
 }
 
 fn parts_of(mut words: Words) -> Result<Option<ReadOperation>, TextCause>

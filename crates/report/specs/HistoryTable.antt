@@ -5,7 +5,8 @@ use Rattle.history.specs.declared.operations.Stamped.{Stamped}
 use Rattle.history.specs.History.{point_or_zero, by_point}
 use Rattle.history_text.specs.HistoryText.{call_text, reply_text}
 use Rattle.report.specs.declared.kinds.Kind.{Kind}
-use Rattle.report.specs.Columns.{right_in, left_in}
+use Rattle.report.specs.Columns.{right_in}
+use Rattle.report.specs.CountRows.{counted_text}
 use Rattle.report.specs.Kinds.{kind_of, kind_text, same_kind}
 use Rattle.report.specs.Counts.{counts}
 
@@ -16,8 +17,8 @@ row_text at o =
     ++ reply_text o.reply ++ codes "\n"
 
 -- the line of a kind with how often it occurs
-unfoldable pub count_text : Kind → (number : ℕ) → List ℕ
-count_text kind number = left_in 10 (kind_text kind) ++ right_in 8 (decimal number) ++ codes "\n"
+abbrev pub count_text : Kind → (number : ℕ) → List ℕ
+count_text kind number = counted_text kind_text kind number
 
 -- the operations that have a place, each with its number, by rising place, equal ones in the order of the list
 abbrev pub rows_of : List Stamped → List (ℕ × Stamped)

@@ -5,7 +5,8 @@ use Rattle.job_results.specs.declared.jobs.JobKind.{JobKind}
 use Rattle.job_results.specs.declared.jobs.Value.{Value}
 use Rattle.job_results.specs.declared.jobs.Value.TheVariants.{Number, ByZero}
 use Rattle.job_results.specs.Jobs.{Row}
-use Rattle.report.specs.Columns.{right_in, left_in}
+use Rattle.report.specs.Columns.{right_in}
+use Rattle.report.specs.CountRows.{counted_text}
 use Rattle.report.specs.JobKinds.{job_kind_text, same_job_kind}
 use Rattle.report.specs.Counts.{counts}
 
@@ -24,8 +25,8 @@ result_text row =
     right_in 8 (decimal row.number) ++ codes " " ++ job_kind_text row.kind ++ codes " " ++ value_text row.value ++ codes "\n"
 
 -- the line of a kind with how often it occurs
-unfoldable pub job_count_text : JobKind → (number : ℕ) → List ℕ
-job_count_text kind number = left_in 10 (job_kind_text kind) ++ right_in 8 (decimal number) ++ codes "\n"
+abbrev pub job_count_text : JobKind → (number : ℕ) → List ℕ
+job_count_text kind number = counted_text job_kind_text kind number
 
 -- each kind of the rows with how many there are, in the order in which each kind first occurs
 abbrev pub job_counts : List Row → List (JobKind × ℕ)

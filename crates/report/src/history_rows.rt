@@ -1,9 +1,8 @@
 //! The lines of a history table.
-ghost use Rattle.std.specs.Prelude.{◌≡◌, ◌≤◌, length};
-ghost use Rattle.report.specs.HistoryTable.{row_text, count_text};
+ghost use Rattle.std.specs.Prelude.{◌≡◌};
+ghost use Rattle.report.specs.HistoryTable.{row_text};
 
-use crate::columns::{push_left, push_right};
-use crate::kinds::{Kind, name_of};
+use crate::columns::push_right;
 use history::Stamped;
 use history_text::{push_call, push_reply};
 use text_io::LineBuffer;
@@ -20,18 +19,6 @@ pub(crate) fn row_line(at: u64, operation: &Stamped) -> LineBuffer
     push_call(&mut line, operation.op);
     line.push(b" -> ");
     push_reply(&mut line, operation.reply);
-    line.push(b"\n");
-    line
-}
-
-// The line of a kind with its number.
-#[tactic(auto, unfolding(crate::specs::HistoryTable::count_text))]
-pub(crate) fn count_line(kind: Kind, number: u64) -> LineBuffer
-    ensures { result ≡ count_text kind number }
-{
-    let mut line = LineBuffer::new();
-    push_left(&mut line, 10, name_of(kind));
-    push_right(&mut line, 8, number);
     line.push(b"\n");
     line
 }

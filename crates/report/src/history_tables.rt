@@ -4,10 +4,11 @@ ghost use Rattle.std.specs.Io.KnownBytes.{Appends};
 ghost use Rattle.std.specs.List.{flat_map};
 ghost use Rattle.text_io.specs.Blocks.{TakesPrefix, GivesUp, Puts, Writes};
 ghost use Rattle.history.specs.Tables.{shown};
-ghost use Rattle.report.specs.HistoryTable.{row_text, count_text, table_text, history_table_text};
+ghost use Rattle.report.specs.HistoryTable.{row_text, table_text, history_table_text};
 
+use crate::count_rows::put_counts;
 use crate::counts::counts_of;
-use crate::history_rows::{count_line, row_line};
+use crate::history_rows::row_line;
 use crate::kinds::Kind;
 use crate::place_order::by_place;
 use history::{Refusal, Stamped};
@@ -75,21 +76,6 @@ fn put_rows<W: Sink>(
 {
     for (at, operation) in placed {
         block.put(writer, row_line(*at, *operation).as_slice())?;
-    }
-    Ok(())
-}
-
-// Puts the lines of the counts.
-fn put_counts<W: Sink>(
-    block: &mut Block,
-    writer: &mut W,
-    counts: &IndexMap<Kind, u64>,
-) -> Result<(), Refusal>
-    ensures { Puts (W.state writer.old) (W.state writer.new)
-        (block.old ++ flat_map (λ e. count_text e.0 e.1) counts.now.entries) block.new result }
-{
-    for (kind, number) in counts {
-        block.put(writer, count_line(*kind, *number).as_slice())?;
     }
     Ok(())
 }

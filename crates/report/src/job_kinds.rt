@@ -1,25 +1,28 @@
 //! The names of kinds of jobs, and how many jobs there are of each.
-ghost use Rattle.std.specs.Prelude.{◌≡◌, ◌≤◌, length, map, IfOk, IfErr};
+ghost use Rattle.std.specs.Prelude.{◌≡◌, map, IfOk, IfErr};
 ghost use Rattle.job_results.specs.Jobs.{kind_of};
 ghost use Rattle.job_results.specs.Results.{job_in};
-ghost use Rattle.report.specs.JobKinds.{job_kind_text, same_job_kind};
+ghost use Rattle.report.specs.JobKinds.{same_job_kind};
 ghost use Rattle.report.specs.Counts.{counts};
 
+use crate::count_rows::Named;
 use history::Refusal;
 use indexmap::IndexMap;
 use job_results::{JobKind, JobResult};
 use std::alloc::Global;
 
-// The name of a kind of job.
-pub(crate) fn name_of_job(kind: JobKind) -> &'static [u8]
-    ensures text { result.now ≡ job_kind_text kind }
-    ensures short { length result.now ≤ 10 }
-{
-    match kind {
-        JobKind::Add => b"add",
-        JobKind::Mul => b"mul",
-        JobKind::Div => b"div",
-        JobKind::Len => b"len",
+impl Named for JobKind {
+    ghost use Rattle.report.specs.JobKinds.{job_kind_text};
+
+    ghost name_text = { job_kind_text };
+
+    fn name(self) -> &'static [u8] {
+        match self {
+            JobKind::Add => b"add",
+            JobKind::Mul => b"mul",
+            JobKind::Div => b"div",
+            JobKind::Len => b"len",
+        }
     }
 }
 

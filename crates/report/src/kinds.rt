@@ -1,7 +1,8 @@
 //! Kinds of operations, by what they were answered.
-ghost use Rattle.std.specs.Prelude.{◌≡◌, ◌≤◌, length};
-ghost use Rattle.report.specs.Kinds.{kind_of, kind_text};
+ghost use Rattle.std.specs.Prelude.{◌≡◌};
+ghost use Rattle.report.specs.Kinds.{kind_of};
 
+use crate::count_rows::Named;
 use history::Reply;
 
 /// What became of an operation.
@@ -32,16 +33,18 @@ pub(crate) fn kind_of_reply(reply: Option<Reply>) -> Kind
     }
 }
 
-// The name of a kind.
-pub(crate) fn name_of(kind: Kind) -> &'static [u8]
-    ensures text { result.now ≡ kind_text kind }
-    ensures short { length result.now ≤ 10 }
-{
-    match kind {
-        Kind::Done => b"done",
-        Kind::Value => b"value",
-        Kind::Empty => b"empty",
-        Kind::Refused => b"refused",
-        Kind::Unfinished => b"unfinished",
+impl Named for Kind {
+    ghost use Rattle.report.specs.Kinds.{kind_text};
+
+    ghost name_text = { kind_text };
+
+    fn name(self) -> &'static [u8] {
+        match self {
+            Kind::Done => b"done",
+            Kind::Value => b"value",
+            Kind::Empty => b"empty",
+            Kind::Refused => b"refused",
+            Kind::Unfinished => b"unfinished",
+        }
     }
 }

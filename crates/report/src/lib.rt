@@ -2,6 +2,7 @@
 #![tactic(auto)]
 
 mod columns;
+mod count_rows;
 mod counts;
 mod history_rows;
 mod history_tables;

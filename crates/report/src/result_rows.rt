@@ -1,12 +1,12 @@
 //! The lines of a results table.
 ghost use Rattle.std.specs.Prelude.{◌≡◌, ◌+◌, ◌≤◌, ◌++◌, length, decimal};
 ghost use Rattle.job_results.specs.Results.{row_of};
-ghost use Rattle.report.specs.ResultsTable.{value_text, results_header_text, result_text, job_count_text};
+ghost use Rattle.report.specs.ResultsTable.{value_text, results_header_text, result_text};
 
-use crate::columns::{push_left, push_right};
-use crate::job_kinds::name_of_job;
+use crate::columns::push_right;
+use crate::count_rows::Named;
 use itoa::Buffer;
-use job_results::{JobKind, JobResult, Value};
+use job_results::{JobResult, Value};
 use text_io::{LINE_ROOM, LineBuffer};
 
 // How many digits a number of 128 bits has at most.
@@ -32,21 +32,9 @@ pub(crate) fn result_line(told: &JobResult) -> LineBuffer
     let mut line = LineBuffer::new();
     push_right(&mut line, 8, told.number());
     line.push(b" ");
-    line.push(name_of_job(told.job().kind()));
+    line.push(told.job().kind().name());
     line.push(b" ");
     push_value(&mut line, told.value());
-    line.push(b"\n");
-    line
-}
-
-// The line of a kind with its number.
-#[tactic(auto, unfolding(crate::specs::ResultsTable::job_count_text))]
-pub(crate) fn job_count_line(kind: JobKind, number: u64) -> LineBuffer
-    ensures { result ≡ job_count_text kind number }
-{
-    let mut line = LineBuffer::new();
-    push_left(&mut line, 10, name_of_job(kind));
-    push_right(&mut line, 8, number);
     line.push(b"\n");
     line
 }

@@ -4,10 +4,11 @@ ghost use Rattle.std.specs.Io.KnownBytes.{Appends};
 ghost use Rattle.std.specs.List.{flat_map};
 ghost use Rattle.text_io.specs.Blocks.{TakesPrefix, GivesUp, Puts, Writes};
 ghost use Rattle.job_results.specs.Results.{row_of};
-ghost use Rattle.report.specs.ResultsTable.{result_text, job_count_text, results_parts_text, results_text};
+ghost use Rattle.report.specs.ResultsTable.{result_text, results_parts_text, results_text};
 
+use crate::count_rows::put_counts;
 use crate::job_kinds::job_counts_of;
-use crate::result_rows::{job_count_line, result_line, results_header_line};
+use crate::result_rows::{result_line, results_header_line};
 use history::Refusal;
 use indexmap::IndexMap;
 use job_results::{JobKind, JobResult};
@@ -57,7 +58,7 @@ fn write_results<W: Sink>(
     let mut block = Block::new();
     block.put(writer, results_header_line(results.len() as u64).as_slice())?;
     put_results(&mut block, writer, results)?;
-    put_job_counts(&mut block, writer, counts)?;
+    put_counts(&mut block, writer, counts)?;
     block.finish(writer)
 }
 
@@ -72,21 +73,6 @@ fn put_results<W: Sink>(
 {
     for told in results {
         block.put(writer, result_line(told).as_slice())?;
-    }
-    Ok(())
-}
-
-// Puts the lines of the counts.
-fn put_job_counts<W: Sink>(
-    block: &mut Block,
-    writer: &mut W,
-    counts: &IndexMap<JobKind, u64>,
-) -> Result<(), Refusal>
-    ensures { Puts (W.state writer.old) (W.state writer.new)
-        (block.old ++ flat_map (λ e. job_count_text e.0 e.1) counts.now.entries) block.new result }
-{
-    for (kind, number) in counts {
-        block.put(writer, job_count_line(*kind, *number).as_slice())?;
     }
     Ok(())
 }

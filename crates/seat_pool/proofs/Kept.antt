@@ -14,7 +14,8 @@ use lib.ListN.{get_elem?}
 use Rattle.atomic_table.specs.Table.{State, Me, Act, Valid, stepped, carried_after, step, keeps, takes, gives, rest, Allows, opening}
 use Rattle.atomic_table.specs.Table as table
 use Rattle.atomic_table.proofs.Lists.{at_set, set_here, set_else, set_again, at_map, exchanged}
-use Rattle.history.specs.Seats.{Permit, Known, MayPush, MayPop}
+use Rattle.history.specs.Seats.{Permit, MayPush, MayPop}
+use Rattle.carriers.specs.Knowledge.{KnownOf}
 use Rattle.seat_pool.specs.declared.parts.Part.{Part}
 use Rattle.seat_pool.specs.declared.places.Home.{Home}
 use Rattle.seat_pool.specs.Parts.{number_of, pushes, pops, HasPart}
@@ -23,7 +24,7 @@ use Rattle.seat_pool.specs.Words.{AreWords}
 use Rattle.seat_pool.specs.Pools.{IsFrom}
 use Rattle.seat_pool.specs.declared.pools.Store.{Store}
 use Rattle.seat_pool.specs.declared.leases.Held.{Held}
-use Rattle.history.specs.declared.queues.Fifo.{Ghosts}
+use Rattle.carriers.specs.declared.queues.Carrier.{Ghosts}
 use Rattle.seat_pool.proofs.Numbers.{one_part, no_part}
 
 pub MayPush-prop : (permits : List Permit) (n : ℕ) → IsProp (MayPush permits n)
@@ -53,12 +54,12 @@ module _ {A : Type 0} where
   some_there (x ∷ xs) zero h = (x, refl)
   some_there (x ∷ xs) (suc i) h = some_there xs i (omega (arith, h))
 
-module _ {Q S : Type 0} (is_seat : Q → S → Type 0) (permits : Q → List Permit) (known : S → Known) where
-  abbrev Rule : Home Q S → State (Option S) (Home Q S) → Type 0
+module _ {C A S : Type 0} (is_seat : C → S → Type 0) (permits : C → List Permit) (known : S → KnownOf A) where
+  abbrev Rule : Home C A S → State (Option S) (Home C A S) → Type 0
   Rule = AreKept is_seat permits known
 
   -- the seats of a new pool lie where they belong
-  starts : (home : Home Q S) (words : List ℕ) → All (is_seat home.queue) home.first.value.items → AreWords (permits home.queue) (numbers_in known home) words
+  starts : (home : Home C A S) (words : List ℕ) → All (is_seat home.queue) home.first.value.items → AreWords (permits home.queue) (numbers_in known home) words
       → Rule home (opening words (map Some home.first.value.items) home)
   starts home words sit a = let seats : List S = home.first.value.items in
       let many : length words ≡ length seats = a.sized ∙ length-map seats (λ s. (known s).number) in record {
@@ -77,24 +78,24 @@ module _ {Q S : Type 0} (is_seat : Q → S → Type 0) (permits : Q → List Per
             );
       }
 
-  pub starts_at : (home : Home Q S) (words : List ℕ) (slots : List (Option S)) → slots ≡ map Some home.first.value.items
+  pub starts_at : (home : Home C A S) (words : List ℕ) (slots : List (Option S)) → slots ≡ map Some home.first.value.items
       → All (is_seat home.queue) home.first.value.items → AreWords (permits home.queue) (numbers_in known home) words → Rule home (opening words slots home)
   starts_at home words slots e sit a = subst (λ xs. Rule home (opening words xs home)) (sym e) (starts home words sit a)
 
   -- a new token changes nothing
-  pub enters : (home : Home Q S) (slots place : ℕ) → table.Enters (Rule home) slots place (λ n w. Enters {S = Option S} {H = Home Q S} (step slots place 0 0 none) (home, []) n (w, []))
+  pub enters : (home : Home C A S) (slots place : ℕ) → table.Enters (Rule home) slots place (λ n w. Enters {S = Option S} {H = Home C A S} (step slots place 0 0 none) (home, []) n (w, []))
   enters home slots place s k wide small = (home, record { sized = k.sized; kept = k.kept }, refl)
 
   -- some view and some act keep the rule, and tell this, where a word becomes y
-  abbrev Goes : Home Q S → State (Option S) (Home Q S) → (i id : ℕ) → Me (Option S) (Home Q S) → (Me (Option S) (Home Q S) → Type 0) → (y : ℕ) → Type 0
-  Goes home s i id me told y = (w : Home Q S) × (a : Act (Option S)) × Valid s.homes me.1 a × Rule home (stepped s i y id me.1 w a) × told (w, carried_after me.1 a)
+  abbrev Goes : Home C A S → State (Option S) (Home C A S) → (i id : ℕ) → Me (Option S) (Home C A S) → (Me (Option S) (Home C A S) → Type 0) → (y : ℕ) → Type 0
+  Goes home s i id me told y = (w : Home C A S) × (a : Act (Option S)) × Valid s.homes me.1 a × Rule home (stepped s i y id me.1 w a) × told (w, carried_after me.1 a)
 
-  module _ (home : Home Q S) (slots id place : ℕ) (near : place < slots) (part : Part) where
-    abbrev Told : ℕ → Me (Option S) (Home Q S) → Type 0
+  module _ (home : Home C A S) (slots id place : ℕ) (near : place < slots) (part : Part) where
+    abbrev Told : ℕ → Me (Option S) (Home C A S) → Type 0
     Told n = Takes is_seat permits known (step slots place (number_of part) 0 none) (home, []) n
 
     -- a seat that lies there is taken
-    taken : (s : State (Option S) (Home Q S)) → Rule home s → place < length s.words → get_or s.words place 0 ≡ number_of part
+    taken : (s : State (Option S) (Home C A S)) → Rule home s → place < length s.words → get_or s.words place 0 ≡ number_of part
         → Goes home s place id (home, []) (Told (get_or s.words place 0)) 0
     taken s k here hit =
         let it = k.kept place part (finds s.words place 0 here ∙ ap some hit) in (
@@ -110,7 +111,7 @@ module _ {Q S : Type 0} (is_seat : Q → S → Type 0) (permits : Q → List Per
         )
 
     -- any other word stays
-    left : (s : State (Option S) (Home Q S)) → Rule home s → place < length s.words → get_or s.words place 0 ≢ number_of part
+    left : (s : State (Option S) (Home C A S)) → Rule home s → place < length s.words → get_or s.words place 0 ≢ number_of part
         → Goes home s place id (home, []) (Told (get_or s.words place 0)) (get_or s.words place 0)
     left s k here miss =
         let same : set s.words place (get_or s.words place 0) ≡ s.words = set_again s.words place (get_or s.words place 0) (finds s.words place 0 here) in (
@@ -125,7 +126,7 @@ module _ {Q S : Type 0} (is_seat : Q → S → Type 0) (permits : Q → List Per
         )
 
     -- who exchanges the word of a part for 0 takes the seat of the place, where it has that part
-    pub takes_one : (me : Me (Option S) (Home Q S)) → me ≡ (home, [])
+    pub takes_one : (me : Me (Option S) (Home C A S)) → me ≡ (home, [])
         → Allows (Rule home) slots id me place (λ n. either (eqb n (number_of part)) 0 n) (Takes is_seat permits known (step slots place (number_of part) 0 none) me)
     takes_one me is = subst
         (λ m. Allows (Rule home) slots id m place (λ n. either (eqb n (number_of part)) 0 n) (Takes is_seat permits known (step slots place (number_of part) 0 none) m)) (sym is)
@@ -133,13 +134,13 @@ module _ {Q S : Type 0} (is_seat : Q → S → Type 0) (permits : Q → List Per
         exchanged (get_or s.words place 0) (number_of part) 0 (Goes home s place id (home, []) (Told (get_or s.words place 0))) (taken s k here) (left s k here))
 
     -- and by whichever name the word goes
-    pub takes_at : (number : ℕ) → number ≡ number_of part → (me : Me (Option S) (Home Q S)) → me ≡ (home, [])
+    pub takes_at : (number : ℕ) → number ≡ number_of part → (me : Me (Option S) (Home C A S)) → me ≡ (home, [])
         → Allows (Rule home) slots id me place (λ n. either (eqb n number) 0 n) (Takes is_seat permits known (step slots place number 0 none) me)
     takes_at number e me is = subst
         (λ k. Allows (Rule home) slots id me place (λ n. either (eqb n k) 0 n) (Takes is_seat permits known (step slots place k 0 none) me)) (sym e) (takes_one me is)
 
     -- who stores the word of a part gives back a seat that belongs there
-    gives_one : (seat : S) → ∥ Belongs is_seat permits known home place part seat ∥₁ → (me : Me (Option S) (Home Q S)) → me ≡ (home, (place, Some seat) ∷ [])
+    gives_one : (seat : S) → ∥ Belongs is_seat permits known home place part seat ∥₁ → (me : Me (Option S) (Home C A S)) → me ≡ (home, (place, Some seat) ∷ [])
         → Allows (Rule home) slots id me place (λ _. number_of part) (λ _ _. Unit {0})
     gives_one seat belongs me is = subst (λ m. Allows (Rule home) slots id m place (λ _. number_of part) (λ _ _. Unit {0})) (sym is)
         (λ s k wide at small. (
@@ -161,11 +162,11 @@ module _ {Q S : Type 0} (is_seat : Q → S → Type 0) (permits : Q → List Per
         ))
 
     pub gives_at : (number : ℕ) → number ≡ number_of part → (seat : S) → ∥ Belongs is_seat permits known home place part seat ∥₁
-        → (me : Me (Option S) (Home Q S)) → me ≡ (home, (place, Some seat) ∷ []) → Allows (Rule home) slots id me place (λ _. number) (λ _ _. Unit {0})
+        → (me : Me (Option S) (Home C A S)) → me ≡ (home, (place, Some seat) ∷ []) → Allows (Rule home) slots id me place (λ _. number) (λ _ _. Unit {0})
     gives_at number e seat belongs me is = subst (λ k. Allows (Rule home) slots id me place (λ _. k) (λ _ _. Unit {0})) (sym e) (gives_one seat belongs me is)
 
   -- a seat that was taken out of a place, where none is left
-  module _ (key hv : Home Q S) (same : key ≡ hv) (place : ℕ) (part : Part) (me0 me1 me2 : Me (Option S) (Home Q S)) (began : me0 ≡ (key, [])) (s : S)
+  module _ (key hv : Home C A S) (same : key ≡ hv) (place : ℕ) (part : Part) (me0 me1 me2 : Me (Option S) (Home C A S)) (began : me0 ≡ (key, [])) (s : S)
       (took : me1 ≡ (me0.0, (place, Some s) ∷ [])) (old : Option S) (was : me1.1 ≡ (place, old) ∷ rest me1.1) (left_none : me2 ≡ (me1.0, (place, None) ∷ rest me1.1)) where
     pub emptied : me2 ≡ (hv, (place, None) ∷ [])
     emptied = left_none ∙ ap (λ m. (m.0, (place, None) ∷ rest m.1)) (took ∙ ap (λ m. (m.0, (place, Some s) ∷ [])) began) ∙ ap (λ h. (h, (place, None) ∷ [])) same
@@ -178,13 +179,13 @@ module _ {Q S : Type 0} (is_seat : Q → S → Type 0) (permits : Q → List Per
         (subst (λ h. ∥ Belongs is_seat permits known h place part s ∥₁) (ap (λ m. m.0) began ∙ same) b)
 
   -- a seat that was put back into its place
-  pub filled : (key hv : Home Q S) → hv ≡ key → (place : ℕ) (seat : S) (me1 me2 : Me (Option S) (Home Q S)) → me1 ≡ (hv, (place, None) ∷ [])
+  pub filled : (key hv : Home C A S) → hv ≡ key → (place : ℕ) (seat : S) (me1 me2 : Me (Option S) (Home C A S)) → me1 ≡ (hv, (place, None) ∷ [])
       → me2 ≡ (me1.0, (place, Some seat) ∷ rest me1.1) → me2 ≡ (key, (place, Some seat) ∷ [])
   filled key hv same place seat me1 me2 taken_is put_is =
       put_is ∙ ap (λ m. (m.0, (place, Some seat) ∷ rest m.1)) taken_is ∙ ap (λ h. (h, (place, Some seat) ∷ [])) same
 
   -- what a seat that belongs to a place is
-  module _ (prop : (q : Q) (s : S) → IsProp (is_seat q s)) (hv home : Home Q S) (same : hv ≡ home) (place : ℕ) (part : Part) (s : S)
+  module _ (prop : (q : C) (s : S) → IsProp (is_seat q s)) (hv home : Home C A S) (same : hv ≡ home) (place : ℕ) (part : Part) (s : S)
       (b : ∥ Belongs is_seat permits known hv place part s ∥₁) where
     here : ∥ Belongs is_seat permits known home place part s ∥₁
     here = subst (λ h. ∥ Belongs is_seat permits known h place part s ∥₁) same b
@@ -202,7 +203,7 @@ module _ {Q S : Type 0} (is_seat : Q → S → Type 0) (permits : Q → List Per
     may_pop can = ∥∥₁_elim here (MayPop-prop (permits home.queue) (known s).number) (λ x. x.able.1.1 can)
 
   -- a seat that a call left the queue's, with its number, belongs where it did
-  pub still : (hv home : Home Q S) → hv ≡ home → (place : ℕ) (part : Part) (s s' : S) → ∥ Belongs is_seat permits known hv place part s ∥₁
+  pub still : (hv home : Home C A S) → hv ≡ home → (place : ℕ) (part : Part) (s s' : S) → ∥ Belongs is_seat permits known hv place part s ∥₁
       → is_seat home.queue s' → (known s').number ≡ (known s).number → ∥ Belongs is_seat permits known hv place part s' ∥₁
   still hv home same place part s s' b sit kept = ∥∥₁_map b (λ x. record {
     seat = subst (λ h. is_seat h.queue s') (sym same) sit;
@@ -211,7 +212,7 @@ module _ {Q S : Type 0} (is_seat : Q → S → Type 0) (permits : Q → List Per
   })
 
 -- the seats that were taken from the places of a pool are each its queue's
-pub all_sit : {Q S : Type 0} {fifo : Ghosts Q S} → ((q : Q) (s : S) → IsProp (fifo.is_seat q s)) → (store : Store Q S) (all : List (Held Q S fifo))
-    → All (IsFrom store) all → All (fifo.is_seat store.home.queue) (map (λ (h : Held Q S fifo). h.seat) all)
-all_sit {fifo} prop store all from = All-map (fifo.is_seat store.home.queue) (λ h. h.seat) all (λ k d l. let h = get_or all k d in
-    sits fifo.is_seat fifo.permits fifo.known prop h.home.value store.home (from k d l).home h.place h.part h.seat h.belongs)
+pub all_sit : {C A S : Type 0} {carrier : Ghosts C A S} → ((q : C) (s : S) → IsProp (carrier.is_seat q s)) → (store : Store C A S) (all : List (Held C A S carrier))
+    → All (IsFrom store) all → All (carrier.is_seat store.home.queue) (map (λ (h : Held C A S carrier). h.seat) all)
+all_sit {carrier} prop store all from = All-map (carrier.is_seat store.home.queue) (λ h. h.seat) all (λ k d l. let h = get_or all k d in
+    sits carrier.is_seat carrier.permits carrier.known prop h.home.value store.home (from k d l).home h.place h.part h.seat h.belongs)

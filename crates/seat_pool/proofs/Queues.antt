@@ -3,7 +3,7 @@ use Rattle.std.proofs.Common.{◌≡◌, ℕ, List, ◌↔◌, ◌∙◌, ap, sy
 use Rattle.std.proofs.Math.Logic.{∥∥₁_elim, ∥∥₁_prop}
 use Rattle.std.proofs.Props.{props}
 use Rattle.history.specs.Seats.{Permit, MayPush, MayPop}
-use Rattle.history.specs.declared.queues.Fifo.{Ghosts}
+use Rattle.carriers.specs.declared.queues.Carrier.{Ghosts}
 use Rattle.seat_pool.specs.declared.pools.Store.{Store}
 use Rattle.seat_pool.specs.declared.pools.SeatPool.{SeatPool}
 use Rattle.seat_pool.specs.declared.places.Home.{Home}
@@ -29,21 +29,21 @@ as_able permits permits' n n' part part' has has' same =
       (λ m. has.1.1 (has''.1.0 m), λ m. has''.1.1 (has.1.0 m)),
     )
 
-module _ {Q S : Type 0} {fifo : Ghosts Q S} where
+module _ {C A S : Type 0} {carrier : Ghosts C A S} where
   -- a seat out of its place has its part
-  pub held_has_part : (held : Held Q S fifo) (home : Home Q S) → held.home.value ≡ home → HasPart (fifo.permits home.queue) (fifo.known held.seat).number held.part
-  held_has_part held home same = ∥∥₁_elim held.belongs (HasPart-prop (fifo.permits home.queue) (fifo.known held.seat).number held.part)
-      (λ b. subst (λ h. HasPart (fifo.permits h.queue) (fifo.known held.seat).number held.part) same b.able)
+  pub held_has_part : (held : Held C A S carrier) (home : Home C A S) → held.home.value ≡ home → HasPart (carrier.permits home.queue) (carrier.known held.seat).number held.part
+  held_has_part held home same = ∥∥₁_elim held.belongs (HasPart-prop (carrier.permits home.queue) (carrier.known held.seat).number held.part)
+      (λ b. subst (λ h. HasPart (carrier.permits h.queue) (carrier.known held.seat).number held.part) same b.able)
 
-  pub has_part_in : (pool : SeatPool Q S) (lease : Lease Q S fifo) → IsLeaseOf pool lease
-      → HasPart (fifo.permits (queue_in (store_of pool))) (fifo.known (seat_of lease)).number (part_of lease)
-  has_part_in pool lease is = ∥∥₁_elim is (HasPart-prop (fifo.permits (queue_in (store_of pool))) (fifo.known (seat_of lease)).number (part_of lease))
-      (λ of. subst (λ s. HasPart (fifo.permits (queue_in s)) (fifo.known (seat_of lease)).number (part_of lease)) of (held_has_part lease.held (pool_of lease).home lease.home))
+  pub has_part_in : (pool : SeatPool C A S) (lease : Lease C A S carrier) → IsLeaseOf pool lease
+      → HasPart (carrier.permits (queue_in (store_of pool))) (carrier.known (seat_of lease)).number (part_of lease)
+  has_part_in pool lease is = ∥∥₁_elim is (HasPart-prop (carrier.permits (queue_in (store_of pool))) (carrier.known (seat_of lease)).number (part_of lease))
+      (λ of. subst (λ s. HasPart (carrier.permits (queue_in s)) (carrier.known (seat_of lease)).number (part_of lease)) of (held_has_part lease.held (pool_of lease).home lease.home))
 
   -- a seat that a call of the pool left the queue's, with its number, belongs where it did
-  pub stays : (pool : SeatPool Q S) (lease : Lease Q S fifo) → IsLeaseOf pool lease → (store : Store Q S) → store ≡ store_of pool → (s : S)
-      → fifo.is_seat (queue_in store) s → (fifo.known s).number ≡ (fifo.known (seat_of lease)).number
-      → ∥ Belongs fifo.is_seat fifo.permits fifo.known lease.held.home.value lease.held.place lease.held.part s ∥₁
+  pub stays : (pool : SeatPool C A S) (lease : Lease C A S carrier) → IsLeaseOf pool lease → (store : Store C A S) → store ≡ store_of pool → (s : S)
+      → carrier.is_seat (queue_in store) s → (carrier.known s).number ≡ (carrier.known (seat_of lease)).number
+      → ∥ Belongs carrier.is_seat carrier.permits carrier.known lease.held.home.value lease.held.place lease.held.part s ∥₁
   stays pool lease is store same s sit kept = ∥∥₁_elim is ∥∥₁_prop (λ of.
-      still fifo.is_seat fifo.permits fifo.known lease.held.home.value store.home (lease.home ∙ ap (λ t. t.home) (of ∙ sym same))
+      still carrier.is_seat carrier.permits carrier.known lease.held.home.value store.home (lease.home ∙ ap (λ t. t.home) (of ∙ sym same))
       lease.held.place lease.held.part (seat_of lease) s lease.held.belongs sit kept)

@@ -1,11 +1,11 @@
--- A pool and a lease may cross threads where the queue may: its seats may by what a `Fifo` is, and so may the table that holds them.
+-- A pool and a lease may cross threads where the queue may: its seats may by what a `Carrier` is, and so may the table that holds them.
 use denote.Builtin.{u64}
 use denote.Param.Send.{sendable, IsSync, IsSend, Frees}
 use denote.Param.SendFields.{declared_send, declared_sync, as_row_send, as_row_sync}
 use denote.RattleType.{RattleType}
 use denote.Ref.{NamedLft}
 use denote.Struct.Field.{row_field, usize-field, shr_ref_field}
-use Rattle.history.specs.declared.queues.Fifo.{Ghosts}
+use Rattle.carriers.specs.declared.queues.Carrier.{Ghosts}
 use Rattle.std.proofs.Crossing.{crosses, Arc-sync, Arc-send, frees}
 use Rattle.std.proofs.Crossing as heap
 use Rattle.std.specs.contracts.option.Option as option
@@ -51,55 +51,55 @@ module _ (S V K P A : RattleType) (r : rule.Ghosts P.Denot S.Denot V.Denot K.Den
     ),
   )
 
-module _ (Q S : RattleType) (fifo : Ghosts Q.Denot S.Denot) (send : IsSend Q) (sync : IsSync Q) (seat : IsSend S) where
-  home_send : IsSend (home.the_row Q S)
-  home_send = declared_send (home.the_type Q S) (as_row_send (row_field Q) send, (search (crosses, sendable), tt))
+module _ (C A S : RattleType) (carrier : Ghosts C.Denot A.Denot S.Denot) (send : IsSend C) (sync : IsSync C) (seat : IsSend S) where
+  home_send : IsSend (home.the_row C A S)
+  home_send = declared_send (home.the_type C A S) (as_row_send (row_field C) send, (search (crosses, sendable), tt))
 
-  home_sync : IsSync (home.the_row Q S)
-  home_sync = declared_sync (home.the_type Q S) (as_row_sync (row_field Q) sync, (search (crosses, sendable), tt))
+  home_sync : IsSync (home.the_row C A S)
+  home_sync = declared_sync (home.the_type C A S) (as_row_sync (row_field C) sync, (search (crosses, sendable), tt))
 
   slot : IsSend (option.the_row S)
   slot = search sendable depth 12
 
-  store_send : IsSend (store.the_row Q S fifo)
-  store_send = declared_send (store.the_type Q S fifo) (
+  store_send : IsSend (store.the_row C A S carrier)
+  store_send = declared_send (store.the_type C A S carrier) (
     home_send,
     (
-      its_send (option.the_row S) (home.the_row Q S) (home.the_row Q S)
-          (places.the_row Q) global.the_row (kept.ghosts Q S fifo kept.no_dict kept.no_dict kept.no_dict) ghosts slot heap.send heap.sync frees,
+      its_send (option.the_row S) (home.the_row C A S) (home.the_row C A S)
+          (places.the_row C) global.the_row (kept.ghosts C A S carrier kept.no_dict kept.no_dict kept.no_dict) ghosts slot heap.send heap.sync frees,
       tt,
     ),
   )
 
-  store_sync : IsSync (store.the_row Q S fifo)
-  store_sync = declared_sync (store.the_type Q S fifo) (
+  store_sync : IsSync (store.the_row C A S carrier)
+  store_sync = declared_sync (store.the_type C A S carrier) (
     home_sync,
     (
-      its_sync (option.the_row S) (home.the_row Q S) (home.the_row Q S)
-          (places.the_row Q) global.the_row (kept.ghosts Q S fifo kept.no_dict kept.no_dict kept.no_dict) ghosts slot heap.send heap.sync frees,
+      its_sync (option.the_row S) (home.the_row C A S) (home.the_row C A S)
+          (places.the_row C) global.the_row (kept.ghosts C A S carrier kept.no_dict kept.no_dict kept.no_dict) ghosts slot heap.send heap.sync frees,
       tt,
     ),
   )
 
-  pub pool_send : IsSend (pool.the_row Q S fifo)
-  pool_send = declared_send (pool.the_type Q S fifo) (Arc-send (store.the_row Q S fifo) store_send store_sync, tt)
+  pub pool_send : IsSend (pool.the_row C A S carrier)
+  pool_send = declared_send (pool.the_type C A S carrier) (Arc-send (store.the_row C A S carrier) store_send store_sync, tt)
 
-  pub pool_sync : IsSync (pool.the_row Q S fifo)
-  pool_sync = declared_sync (pool.the_type Q S fifo) (Arc-sync (store.the_row Q S fifo) store_send store_sync, tt)
+  pub pool_sync : IsSync (pool.the_row C A S carrier)
+  pool_sync = declared_sync (pool.the_type C A S carrier) (Arc-sync (store.the_row C A S carrier) store_send store_sync, tt)
 
-  held_send : IsSend (held.the_row Q S fifo)
-  held_send = declared_send (held.the_type Q S fifo) (
+  held_send : IsSend (held.the_row C A S carrier)
+  held_send = declared_send (held.the_type C A S carrier) (
     search (crosses, sendable),
     (
-      token_send (option.the_row S) (home.the_row Q S) slot,
+      token_send (option.the_row S) (home.the_row C A S) slot,
       (as_row_send (row_field S) seat, (as_row_send usize-field (search sendable), (as_row_send part.the_field (search sendable depth 20), tt))),
     ),
   )
 
   -- a lease may go to a thread
-  pub leased_send : IsSend (lease.the_row Q S fifo)
-  leased_send = declared_send (lease.the_type Q S fifo) (Arc-send (store.the_row Q S fifo) store_send store_sync, (held_send, tt))
+  pub leased_send : IsSend (lease.the_row C A S carrier)
+  leased_send = declared_send (lease.the_type C A S carrier) (Arc-send (store.the_row C A S carrier) store_send store_sync, (held_send, tt))
 
   -- a reference to a pool may go to a thread
-  pub pool_lent : (ℓ : NamedLft) → IsSend (shr_ref_field ℓ (pool.the_row Q S fifo) tt).row
-  pool_lent ℓ = let shared : IsSync (pool.the_row Q S fifo) = pool_sync in search (sendable, shared) depth 20
+  pub pool_lent : (ℓ : NamedLft) → IsSend (shr_ref_field ℓ (pool.the_row C A S carrier) tt).row
+  pool_lent ℓ = let shared : IsSync (pool.the_row C A S carrier) = pool_sync in search (sendable, shared) depth 20

@@ -1,42 +1,43 @@
 //! A seat that was leased, and the calls of its queue.
 ghost use Rattle.std.specs.Prelude.{◌≡◌, ◌<◌, ◌≤◌, [], ◌∷◌, None, IsTrue, IfOk, IfErr, IfSome, OnOk};
-ghost use Rattle.history.specs.Answers.{Pushed, PopAnswers, DidShut, PushRefused, PopRefused, Meets};
-ghost use Rattle.history.specs.Answers.{StopsPush, StopsPop, StopsShut};
-ghost use Rattle.history.specs.Answers.{EndsPush, EndsPop, EndsShut, EndsByTry};
+ghost use Rattle.history.specs.Answers.{StopsPush, StopsPop, StopsShut, EndsPush, EndsPop, EndsShut};
+ghost use Rattle.carriers.specs.Answers.{PushedOf, PopAnswersOf, DidShutOf};
+ghost use Rattle.carriers.specs.Answers.{PushRefusedOf, PopRefusedOf, MeetsOf, EndsByTryOf};
 ghost use Rattle.seat_pool.specs.Parts as parts;
 ghost use Rattle.seat_pool.specs.Places.{Belongs};
 
 use crate::parts::Part;
 use crate::places::{Give, Home, Token};
 use crate::pools::Store;
-use history::{Body, Fifo, Refusal, Taken};
+use carriers::{Carrier, ItemOf, Unpushed};
+use history::Refusal;
 use std::alloc::Global;
 use std::snapshot::Snapshot;
 use std::sync::{Arc, Wait};
 
 /// A seat out of its place, with the token that keeps the place.
 #[derive(Drop)]
-pub struct Held<Q: Fifo + Drop> {
-    pub(crate) home: Snapshot<Home<Q>>,
-    pub(crate) token: Token<Q>,
-    pub(crate) seat: Q::Seat,
+pub struct Held<C: Carrier + Drop> {
+    pub(crate) home: Snapshot<Home<C>>,
+    pub(crate) token: Token<C>,
+    pub(crate) seat: C::Seat,
     pub(crate) place: usize,
     pub(crate) part: Part,
     ghost taken: { token.me ≡ (home.value, (place, None) ∷ []) },
-    ghost belongs: { ∥ Belongs Q.is_seat Q.permits Q.known home.value place part seat ∥₁ },
+    ghost belongs: { ∥ Belongs C.is_seat C.permits C.known home.value place part seat ∥₁ },
 }
 
 /// A seat that this lease alone has. A drop gives it back to its pool, with what it has seen, and another thread may lease it.
-pub struct Lease<Q: Fifo + Drop> {
-    pub(crate) pool: Arc<Store<Q>, Global>,
-    pub(crate) held: Held<Q>,
+pub struct Lease<C: Carrier + Drop> {
+    pub(crate) pool: Arc<Store<C>, Global>,
+    pub(crate) held: Held<C>,
     ghost home: { held.home.value ≡ pool.value.home },
     ghost here: { held.place < pool.value.table.shared.table_id.words },
     ghost table: { held.token.table_id ≡ pool.value.table.shared.table_id },
 }
 
-impl<Q: Fifo + Drop> Held<Q> {
-    pub(crate) fn into_seat(self) -> Q::Seat
+impl<C: Carrier + Drop> Held<C> {
+    pub(crate) fn into_seat(self) -> C::Seat
         ensures { result ≡ self.seat }
     {
         let Held {
@@ -50,33 +51,34 @@ impl<Q: Fifo + Drop> Held<Q> {
     }
 }
 
-impl<Q: Fifo + Drop> Lease<Q> {
+impl<C: Carrier + Drop> Lease<C> {
     ghost use Rattle.seat_pool.specs.Leases.{pool_of, part_of, queue_of, seat_of, IsAble, IsSameLease};
 
-    /// Pushes a body at the back, in so many turns at most, 1 or more. The seat may push.
+    /// Pushes a value at the back, in so many turns at most, 1 or more. The seat may push.
     ///
-    /// Refusals: as those of the queue's `try_push`. Takes no memory and doesn't wait.
+    /// Refusals: as those of the queue's `try_push`; the value comes back. Takes no memory and doesn't wait.
     #[inline(always)]
-    pub fn try_push(&mut self, body: Body, turns: u32) -> Result<(), Refusal>
+    pub fn try_push(&mut self, value: C::Item, turns: u32) -> Result<(), Unpushed<C::Item>>
         requires part { IsTrue (parts.pushes (part_of self.old)) }
         requires turns { 1 ≤ turns }
-        //= leases/calls (same, number, pushed, refused, refusal, caused): A call by a lease has the clauses of `Fifo`'s own
+        //= leases/calls (same, number, pushed, back, refused, refusal, caused): A call by a lease has the clauses of `Carrier`'s own
         //=   over what the seat knows, and stays the lease of this seat.
         ensures same { IsSameLease self.old self.new }
-        ensures number { (Q.known (seat_of self.new)).number ≡ (Q.known (seat_of self.old)).number }
+        ensures number { (C.known (seat_of self.new)).number ≡ (C.known (seat_of self.old)).number }
         ensures pushed { OnOk result
-            (Pushed (Q.known (seat_of self.old)) body (Q.known (seat_of self.new))) }
+            (PushedOf (C.known (seat_of self.old)) value (C.known (seat_of self.new))) }
+        ensures back { IfErr result (λ unpushed. unpushed.value ≡ value) }
         ensures refused { IfErr result
-            (λ refusal. PushRefused (Q.known (seat_of self.old)) refusal
-            (Q.known (seat_of self.new))) }
-        ensures refusal { IfErr result StopsPush }
-        ensures caused { IfErr result
-            (Q.push_cause (queue_of self.old) (seat_of self.old) (seat_of self.new) turns) }
+            (λ unpushed. PushRefusedOf (C.known (seat_of self.old)) unpushed.refusal
+            (C.known (seat_of self.new))) }
+        ensures refusal { IfErr result (λ unpushed. StopsPush unpushed.refusal) }
+        ensures caused { IfErr result (λ unpushed. C.push_cause (queue_of self.old)
+            (seat_of self.old) (seat_of self.new) turns unpushed.refusal) }
     {
         self.pool
             .home
             .queue
-            .try_push(&mut self.held.seat, body, turns)
+            .try_push(&mut self.held.seat, value, turns)
     }
 
     /// Takes the value at the front, in so many turns at most, 1 or more; none where the queue was empty. The seat may
@@ -84,20 +86,20 @@ impl<Q: Fifo + Drop> Lease<Q> {
     ///
     /// Refusals: as those of the queue's `try_pop`. Takes no memory and doesn't wait.
     #[inline(always)]
-    pub fn try_pop(&mut self, turns: u32) -> Result<Option<Taken>, Refusal>
+    pub fn try_pop(&mut self, turns: u32) -> Result<Option<ItemOf<C::Item>>, Refusal>
         requires part { IsTrue (parts.pops (part_of self.old)) }
         requires turns { 1 ≤ turns }
         //= leases/calls (same, number, answer, refused, refusal, caused)
         ensures same { IsSameLease self.old self.new }
-        ensures number { (Q.known (seat_of self.new)).number ≡ (Q.known (seat_of self.old)).number }
+        ensures number { (C.known (seat_of self.new)).number ≡ (C.known (seat_of self.old)).number }
         ensures answer { IfOk result
-            (λ taken. PopAnswers (Q.known (seat_of self.old)) taken (Q.known (seat_of self.new))) }
+            (λ front. PopAnswersOf (C.known (seat_of self.old)) front (C.known (seat_of self.new))) }
         ensures refused { IfErr result
-            (λ refusal. PopRefused (Q.known (seat_of self.old)) refusal
-            (Q.known (seat_of self.new))) }
+            (λ refusal. PopRefusedOf (C.known (seat_of self.old)) refusal
+            (C.known (seat_of self.new))) }
         ensures refusal { IfErr result StopsPop }
         ensures caused { IfErr result
-            (Q.pop_cause (queue_of self.old) (seat_of self.old) (seat_of self.new) turns) }
+            (C.pop_cause (queue_of self.old) (seat_of self.old) (seat_of self.new) turns) }
     {
         self.pool.home.queue.try_pop(&mut self.held.seat, turns)
     }
@@ -111,55 +113,56 @@ impl<Q: Fifo + Drop> Lease<Q> {
         requires turns { 1 ≤ turns }
         //= leases/calls (same, number, shut, refused, refusal, caused)
         ensures same { IsSameLease self.old self.new }
-        ensures number { (Q.known (seat_of self.new)).number ≡ (Q.known (seat_of self.old)).number }
+        ensures number { (C.known (seat_of self.new)).number ≡ (C.known (seat_of self.old)).number }
         ensures shut { OnOk result
-            (DidShut (Q.known (seat_of self.old)) (Q.known (seat_of self.new))) }
+            (DidShutOf (C.known (seat_of self.old)) (C.known (seat_of self.new))) }
         ensures refused { IfErr result
-            (λ refusal. PushRefused (Q.known (seat_of self.old)) refusal
-            (Q.known (seat_of self.new))) }
+            (λ refusal. PushRefusedOf (C.known (seat_of self.old)) refusal
+            (C.known (seat_of self.new))) }
         ensures refusal { IfErr result StopsShut }
         ensures caused { IfErr result
-            (Q.shut_cause (queue_of self.old) (seat_of self.old) (seat_of self.new) turns) }
+            (C.shut_cause (queue_of self.old) (seat_of self.old) (seat_of self.new) turns) }
     {
         self.pool.home.queue.try_shut(&mut self.held.seat, turns)
     }
 
-    /// Pushes a body at the back, by tries of 8 turns each, and tries again while others are in the way. The seat may push.
+    /// Pushes a value at the back, by tries of 8 turns each, and tries again while others are in the way. The seat may push.
     ///
-    /// Refusals: as those of the queue's `push`. Takes no memory, and waits.
-    pub fn push<R: Wait>(&mut self, rt: &R, body: Body) -> Result<(), Refusal>
+    /// Refusals: as those of the queue's `push`; the value comes back. Takes no memory, and waits.
+    pub fn push<R: Wait>(&mut self, rt: &R, value: C::Item) -> Result<(), Unpushed<C::Item>>
         requires part { IsTrue (parts.pushes (part_of self.old)) }
-        //= leases/calls (same, number, pushed, refused, refusal, caused)
+        //= leases/calls (same, number, pushed, back, refused, refusal, caused)
         ensures same { IsSameLease self.old self.new }
-        ensures number { (Q.known (seat_of self.new)).number ≡ (Q.known (seat_of self.old)).number }
+        ensures number { (C.known (seat_of self.new)).number ≡ (C.known (seat_of self.old)).number }
         ensures pushed { OnOk result
-            (Pushed (Q.known (seat_of self.old)) body (Q.known (seat_of self.new))) }
+            (PushedOf (C.known (seat_of self.old)) value (C.known (seat_of self.new))) }
+        ensures back { IfErr result (λ unpushed. unpushed.value ≡ value) }
         ensures refused { IfErr result
-            (λ refusal. PushRefused (Q.known (seat_of self.old)) refusal
-            (Q.known (seat_of self.new))) }
-        ensures refusal { IfErr result EndsPush }
-        ensures caused { IfErr result (EndsByTry Q.is_seat Q.known Q.push_cause (queue_of self.old)
-            (seat_of self.old) (seat_of self.new) 8) }
+            (λ unpushed. PushRefusedOf (C.known (seat_of self.old)) unpushed.refusal
+            (C.known (seat_of self.new))) }
+        ensures refusal { IfErr result (λ unpushed. EndsPush unpushed.refusal) }
+        ensures caused { IfErr result (λ unpushed. EndsByTryOf C.is_seat C.known C.push_cause
+            (queue_of self.old) (seat_of self.old) (seat_of self.new) 8 unpushed.refusal) }
     {
-        self.pool.home.queue.push(rt, &mut self.held.seat, body)
+        self.pool.home.queue.push(rt, &mut self.held.seat, value)
     }
 
     /// Takes the value at the front, by tries of 8 turns each, and tries again while others are in the way; none where the
     /// queue was empty. The seat may pop.
     ///
     /// Refusals: as those of the queue's `pop`. Takes no memory, and waits.
-    pub fn pop<R: Wait>(&mut self, rt: &R) -> Result<Option<Taken>, Refusal>
+    pub fn pop<R: Wait>(&mut self, rt: &R) -> Result<Option<ItemOf<C::Item>>, Refusal>
         requires part { IsTrue (parts.pops (part_of self.old)) }
         //= leases/calls (same, number, answer, refused, refusal, caused)
         ensures same { IsSameLease self.old self.new }
-        ensures number { (Q.known (seat_of self.new)).number ≡ (Q.known (seat_of self.old)).number }
+        ensures number { (C.known (seat_of self.new)).number ≡ (C.known (seat_of self.old)).number }
         ensures answer { IfOk result
-            (λ taken. PopAnswers (Q.known (seat_of self.old)) taken (Q.known (seat_of self.new))) }
+            (λ front. PopAnswersOf (C.known (seat_of self.old)) front (C.known (seat_of self.new))) }
         ensures refused { IfErr result
-            (λ refusal. PopRefused (Q.known (seat_of self.old)) refusal
-            (Q.known (seat_of self.new))) }
+            (λ refusal. PopRefusedOf (C.known (seat_of self.old)) refusal
+            (C.known (seat_of self.new))) }
         ensures refusal { IfErr result EndsPop }
-        ensures caused { IfErr result (EndsByTry Q.is_seat Q.known Q.pop_cause (queue_of self.old)
+        ensures caused { IfErr result (EndsByTryOf C.is_seat C.known C.pop_cause (queue_of self.old)
             (seat_of self.old) (seat_of self.new) 8) }
     {
         self.pool.home.queue.pop(rt, &mut self.held.seat)
@@ -173,14 +176,14 @@ impl<Q: Fifo + Drop> Lease<Q> {
         requires part { IsTrue (parts.pushes (part_of self.old)) }
         //= leases/calls (same, number, shut, refused, refusal, caused)
         ensures same { IsSameLease self.old self.new }
-        ensures number { (Q.known (seat_of self.new)).number ≡ (Q.known (seat_of self.old)).number }
+        ensures number { (C.known (seat_of self.new)).number ≡ (C.known (seat_of self.old)).number }
         ensures shut { OnOk result
-            (DidShut (Q.known (seat_of self.old)) (Q.known (seat_of self.new))) }
+            (DidShutOf (C.known (seat_of self.old)) (C.known (seat_of self.new))) }
         ensures refused { IfErr result
-            (λ refusal. PushRefused (Q.known (seat_of self.old)) refusal
-            (Q.known (seat_of self.new))) }
+            (λ refusal. PushRefusedOf (C.known (seat_of self.old)) refusal
+            (C.known (seat_of self.new))) }
         ensures refusal { IfErr result EndsShut }
-        ensures caused { IfErr result (EndsByTry Q.is_seat Q.known Q.shut_cause (queue_of self.old)
+        ensures caused { IfErr result (EndsByTryOf C.is_seat C.known C.shut_cause (queue_of self.old)
             (seat_of self.old) (seat_of self.new) 8) }
     {
         self.pool.home.queue.shut(rt, &mut self.held.seat)
@@ -188,14 +191,14 @@ impl<Q: Fifo + Drop> Lease<Q> {
 
     /// Afterwards the seats of both leases, which are of one pool, have seen one history, which begins with what each had
     /// seen. Takes no memory and doesn't wait.
-    pub fn meet(&mut self, other: &mut Lease<Q>)
+    pub fn meet(&mut self, other: &mut Lease<C>)
         requires { pool_of other.old ≡ pool_of self.old }
         //= leases/meet (same, other_same, meets): Two leases of one pool that met have seen one history, as two seats of its
         //=   queue; each stays the lease of its seat.
         ensures same { IsSameLease self.old self.new }
         ensures other_same { IsSameLease other.old other.new }
-        ensures meets { Meets (Q.known (seat_of self.old)) (Q.known (seat_of other.old))
-            (Q.known (seat_of self.new)) (Q.known (seat_of other.new)) }
+        ensures meets { MeetsOf (C.known (seat_of self.old)) (C.known (seat_of other.old))
+            (C.known (seat_of self.new)) (C.known (seat_of other.new)) }
     {
         let queue = &self.pool.home.queue;
         queue.meet(&mut self.held.seat, &mut other.held.seat);
@@ -204,13 +207,13 @@ impl<Q: Fifo + Drop> Lease<Q> {
     /// One more lease of this pool, by a seat that may do the same. None where each such seat was found leased.
     ///
     /// Takes no memory and doesn't wait.
-    pub fn try_clone(&self) -> Option<Lease<Q>>
+    pub fn try_clone(&self) -> Option<Lease<C>>
         //= leases/lease (pool, part, able): A lease is of the pool that gave it, and its seat has the part asked for, so it may push,
         //=   and may pop, just as that part says. That nobody else has the seat is a fact of its type; when there is none to give, no
         //=   clause says.
         ensures pool { IfSome result (λ lease. pool_of lease ≡ pool_of self.now) }
         ensures part { IfSome result (λ lease. part_of lease ≡ part_of self.now) }
-        ensures able { IfSome result (IsAble Q.permits Q.known) }
+        ensures able { IfSome result (IsAble C.permits C.known) }
     {
         let Ok(pool) = Arc::try_clone(&self.pool) else {
             return None;
@@ -227,7 +230,7 @@ impl<Q: Fifo + Drop> Lease<Q> {
     }
 }
 
-impl<Q: Fifo + Drop> Drop for Lease<Q> {
+impl<C: Carrier + Drop> Drop for Lease<C> {
     fn drop(self) {
         let Self { pool, held } = self;
         let Held {

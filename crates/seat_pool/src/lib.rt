@@ -8,7 +8,7 @@ mod places;
 mod pools;
 mod queue;
 
-pub use ends::Unclosed;
+pub use ends::Unparted;
 pub use leases::Lease;
 pub use parts::Part;
 pub use pools::SeatPool;

@@ -2,20 +2,20 @@
 ghost use Rattle.std.specs.Prelude.{◌≡◌};
 
 use atomic_table::{Play, Seat, Table, TableRule};
-use history::Fifo;
+use carriers::Carrier;
 use std::alloc::Global;
 use std::marker::PhantomData;
 use std::snapshot::Snapshot;
 
 /// A queue, and its seats as they were when their pool was made.
 #[derive(Drop)]
-pub struct Home<Q: Fifo + Drop> {
-    pub(crate) queue: Q,
-    pub(crate) first: Snapshot<Vec<Q::Seat>>,
+pub struct Home<C: Carrier + Drop> {
+    pub(crate) queue: C,
+    pub(crate) first: Snapshot<Vec<C::Seat>>,
 }
 
-impl<Q: Fifo + Drop> Home<Q> {
-    pub(crate) fn into_queue(self) -> Q
+impl<C: Carrier + Drop> Home<C> {
+    pub(crate) fn into_queue(self) -> C
         ensures { result ≡ self.queue }
     {
         let Home { queue, first: _ } = self;
@@ -24,29 +24,29 @@ impl<Q: Fifo + Drop> Home<Q> {
 }
 
 /// The rule: a place whose word is that of a part has a seat of this part.
-pub struct Places<Q> {
-    marker: PhantomData<Q>,
+pub struct Places<C> {
+    marker: PhantomData<C>,
 }
 
-impl<Q: Fifo + Drop> TableRule<Option<Q::Seat>, Home<Q>, Home<Q>> for Places<Q> {
+impl<C: Carrier + Drop> TableRule<Option<C::Seat>, Home<C>, Home<C>> for Places<C> {
     ghost use Rattle.seat_pool.specs.Places.{AreKept};
 
-    ghost holds = { AreKept Q.is_seat Q.permits Q.known };
+    ghost holds = { AreKept C.is_seat C.permits C.known };
 
     ghost first = { λ home. home };
 }
 
 /// The table of the places.
-pub(crate) type PlaceTable<Q> = Table<
-    Option<<Q as Fifo>::Seat>,
-    Home<Q>,
-    Home<Q>,
-    Places<Q>,
+pub(crate) type PlaceTable<C> = Table<
+    Option<<C as Carrier>::Seat>,
+    Home<C>,
+    Home<C>,
+    Places<C>,
     Global,
 >;
 
 /// What a step on a place is made with.
-pub(crate) type Token<Q> = Seat<Option<<Q as Fifo>::Seat>, Home<Q>>;
+pub(crate) type Token<C> = Seat<Option<<C as Carrier>::Seat>, Home<C>>;
 
 /// A new token, which knows the queue and its seats.
 pub(crate) struct Enter;
@@ -58,14 +58,14 @@ impl<S, H> Play<S, H> for Enter {
 }
 
 /// A seat is taken from its place.
-pub(crate) struct Take<Q> {
-    marker: PhantomData<Q>,
+pub(crate) struct Take<C> {
+    marker: PhantomData<C>,
 }
 
-impl<Q: Fifo + Drop> Play<Option<Q::Seat>, Home<Q>> for Take<Q> {
+impl<C: Carrier + Drop> Play<Option<C::Seat>, Home<C>> for Take<C> {
     ghost use Rattle.seat_pool.specs.Places.{Takes};
 
-    ghost then = { Takes Q.is_seat Q.permits Q.known };
+    ghost then = { Takes C.is_seat C.permits C.known };
 }
 
 /// A seat is given back to its place.

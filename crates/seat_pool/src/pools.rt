@@ -7,8 +7,9 @@ use crate::leases::{Held, Lease};
 use crate::parts::Part;
 use crate::places::{Enter, Give, Home, PlaceTable, Take};
 use atomic_table::Table;
+use carriers::Carrier;
 use crossbeam_utils::Backoff;
-use history::{Fifo, Refusal};
+use history::Refusal;
 use std::alloc::Global;
 use std::snapshot::Snapshot;
 use std::sync::{Arc, Wait};
@@ -18,9 +19,9 @@ const LEASED: u64 = 0;
 
 /// A queue, and the places of its seats.
 #[derive(Drop)]
-pub struct Store<Q: Fifo + Drop> {
-    pub(crate) home: Home<Q>,
-    pub(crate) table: PlaceTable<Q>,
+pub struct Store<C: Carrier + Drop> {
+    pub(crate) home: Home<C>,
+    pub(crate) table: PlaceTable<C>,
     ghost keyed: { table.shared.key ≡ home },
     ghost sized: { table.shared.table_id.words ≡ table.shared.table_id.slots },
     ghost seated: { table.shared.table_id.words ≡ length home.first.value.items },
@@ -33,23 +34,23 @@ pub struct Store<Q: Fifo + Drop> {
 /// let pool = SeatPool::new(alloc, queue, seats)?;
 /// // In any thread, again and again:
 /// if let Some(mut lease) = pool.lease(Part::Giver) {
-///     lease.try_push(body, 8)?;
+///     lease.try_push(value, 8)?;
 /// }
 /// ```
 #[derive(Drop)]
-pub struct SeatPool<Q: Fifo + Drop> {
-    pub(crate) store: Arc<Store<Q>, Global>,
+pub struct SeatPool<C: Carrier + Drop> {
+    pub(crate) store: Arc<Store<C>, Global>,
 }
 
 // The words of the places where these seats lie.
-fn words_of<Q: Fifo + Drop>(
+fn words_of<C: Carrier + Drop>(
     alloc: Global,
-    queue: &Q,
-    seats: &[Q::Seat],
+    queue: &C,
+    seats: &[C::Seat],
 ) -> Result<Vec<u64>, Refusal>
-    requires { All (Q.is_seat queue.now) seats.now }
+    requires { All (C.is_seat queue.now) seats.now }
     ensures words { IfOk result (λ words.
-        AreWords (Q.permits queue.now) (map (λ s. (Q.known s).number) seats.now) words.items) }
+        AreWords (C.permits queue.now) (map (λ s. (C.known s).number) seats.now) words.items) }
     ensures only_memory { IfErr result (λ refusal. refusal ≡ Refusal.Memory) }
 {
     let mut words = Vec::new(alloc);
@@ -76,12 +77,12 @@ fn placed<S: Drop>(alloc: Global, seats: Vec<S>) -> Result<Vec<Option<S>>, Refus
     Ok(slots)
 }
 
-impl<Q: Fifo + Drop> Store<Q> {
+impl<C: Carrier + Drop> Store<C> {
     ghost use Rattle.seat_pool.specs.Pools.{places_of, IsFrom};
 
     // A store of these seats, whose places have these words.
-    fn new(alloc: Global, queue: Q, seats: Vec<Q::Seat>) -> Result<Store<Q>, Refusal>
-        requires { All (Q.is_seat queue) seats.items }
+    fn new(alloc: Global, queue: C, seats: Vec<C::Seat>) -> Result<Store<C>, Refusal>
+        requires { All (C.is_seat queue) seats.items }
         ensures queue { IfOk result (λ store. store.home.queue ≡ queue) }
         ensures seats { IfOk result (λ store. store.home.first.value ≡ seats) }
         ensures only_memory { IfErr result (λ refusal. refusal ≡ Refusal.Memory) }
@@ -98,7 +99,7 @@ impl<Q: Fifo + Drop> Store<Q> {
         }
     }
 
-    pub(crate) fn into_queue(self) -> Q
+    pub(crate) fn into_queue(self) -> C
         ensures { result ≡ self.home.queue }
     {
         let Store { home, table: _ } = self;
@@ -120,7 +121,7 @@ impl<Q: Fifo + Drop> Store<Q> {
     }
 
     // Takes the seat that lies in a place, where it has this part.
-    pub(crate) fn take_at(&self, place: usize, part: Part) -> Option<Held<Q>>
+    pub(crate) fn take_at(&self, place: usize, part: Part) -> Option<Held<C>>
         requires { place < places_of self.now }
         ensures from { IfSome result (IsFrom self.now) }
         ensures part { IfSome result (λ held. held.part ≡ part) }
@@ -129,7 +130,7 @@ impl<Q: Fifo + Drop> Store<Q> {
         let shared = &self.table.shared;
         let number = part.number();
         let (_, mut token) = shared.load_new_seat::<Enter>(place);
-        if shared.compare_exchange::<Take<Q>>(&mut token, place, number, LEASED) != number {
+        if shared.compare_exchange::<Take<C>>(&mut token, place, number, LEASED) != number {
             return None;
         }
         let seat = shared.exchange(&mut token, place, None)?;
@@ -143,7 +144,7 @@ impl<Q: Fifo + Drop> Store<Q> {
     }
 
     // Takes a seat of this part from the first place where one lies.
-    pub(crate) fn find(&self, part: Part) -> Option<Held<Q>>
+    pub(crate) fn find(&self, part: Part) -> Option<Held<C>>
         ensures from { IfSome result (IsFrom self.now) }
         ensures part { IfSome result (λ held. held.part ≡ part) }
     {
@@ -158,7 +159,7 @@ impl<Q: Fifo + Drop> Store<Q> {
     }
 
     // Puts a seat back into its place.
-    pub(crate) fn give_back(&self, held: Held<Q>)
+    pub(crate) fn give_back(&self, held: Held<C>)
         requires { IsFrom self.now held }
     {
         let Held {
@@ -174,20 +175,20 @@ impl<Q: Fifo + Drop> Store<Q> {
     }
 }
 
-impl<Q: Fifo + Drop> SeatPool<Q> {
+impl<C: Carrier + Drop> SeatPool<C> {
     ghost use Rattle.seat_pool.specs.Pools.{store_of, queue_in, numbers_of};
     ghost use Rattle.seat_pool.specs.Leases.{pool_of, part_of, IsAble};
 
     /// A pool of this queue's seats.
     ///
     /// Refused by `Memory` alone; the queue is then given up. Takes memory for the places, and doesn't wait.
-    pub fn new(alloc: Global, queue: Q, seats: Vec<Q::Seat>) -> Result<SeatPool<Q>, Refusal>
-        requires { All (Q.is_seat queue) seats.items }
+    pub fn new(alloc: Global, queue: C, seats: Vec<C::Seat>) -> Result<SeatPool<C>, Refusal>
+        requires { All (C.is_seat queue) seats.items }
         //= leases/pool (queue, seats, only_memory): A pool has the queue, and the numbers of the seats in their
         //=   order, that it was made with; a further handle, where it is given, is of the same pool. Or Memory.
         ensures queue { IfOk result (λ pool. queue_in (store_of pool) ≡ queue) }
         ensures seats { IfOk result (λ pool.
-            numbers_of Q.known (store_of pool) ≡ map (λ s. (Q.known s).number) seats.items) }
+            numbers_of C.known (store_of pool) ≡ map (λ s. (C.known s).number) seats.items) }
         ensures only_memory { IfErr result (λ refusal. refusal ≡ Refusal.Memory) }
     {
         let store = Store::new(alloc, queue, seats)?;
@@ -198,7 +199,7 @@ impl<Q: Fifo + Drop> SeatPool<Q> {
     }
 
     /// One more handle of this pool; none where it has 2^63 - 1. Takes no memory and doesn't wait.
-    pub fn share(&self) -> Option<SeatPool<Q>>
+    pub fn share(&self) -> Option<SeatPool<C>>
         //= leases/pool
         ensures { IfSome result (λ pool. store_of pool ≡ store_of self.now) }
     {
@@ -211,11 +212,11 @@ impl<Q: Fifo + Drop> SeatPool<Q> {
     /// A seat of this part, until the lease is dropped. None where each such seat was found leased.
     ///
     /// Takes no memory and doesn't wait.
-    pub fn lease(&self, part: Part) -> Option<Lease<Q>>
+    pub fn lease(&self, part: Part) -> Option<Lease<C>>
         //= leases/lease (pool, part, able)
         ensures pool { IfSome result (λ lease. pool_of lease ≡ store_of self.now) }
         ensures part { IfSome result (λ lease. part_of lease ≡ part) }
-        ensures able { IfSome result (IsAble Q.permits Q.known) }
+        ensures able { IfSome result (IsAble C.permits C.known) }
     {
         let Ok(pool) = Arc::try_clone(&self.store) else {
             return None;
@@ -227,11 +228,11 @@ impl<Q: Fifo + Drop> SeatPool<Q> {
     /// A seat of this part, until the lease is dropped; waits for one while each is leased.
     ///
     /// Takes no memory, and waits.
-    pub fn lease_waiting<R: Wait>(&self, rt: &R, part: Part) -> Lease<Q>
+    pub fn lease_waiting<R: Wait>(&self, rt: &R, part: Part) -> Lease<C>
         //= leases/lease (pool, part, able)
         ensures pool { pool_of result ≡ store_of self.now }
         ensures part { part_of result ≡ part }
-        ensures able { IsAble Q.permits Q.known result }
+        ensures able { IsAble C.permits C.known result }
     {
         let backoff = Backoff::new();
         for _ in rt.forever() {

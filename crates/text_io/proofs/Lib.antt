@@ -6,6 +6,7 @@ pub mod Numerals
 pub mod Splits
 pub mod Digits
 pub mod Faults
+pub mod FirstWords
 pub mod ReadingBack
 pub mod Single
 pub mod Total

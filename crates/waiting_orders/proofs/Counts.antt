@@ -1,5 +1,5 @@
 -- Where all that is left can be placed to the end, a value wasn't told to more operations than pushes of it wait.
-use Rattle.std.proofs.Common.{◌≡◌, ℕ, zero, suc, ◌+◌, ◌≤◌, Bool, true, false, not, ◌&&◌, cond, ◌⊎◌, inl, inr, List, [], ◌∷◌, ◌++◌, Option, None, Some, length, refl, sym, ap, ◌∙◌, subst, arith}
+use Rattle.std.proofs.Common.{◌≡◌, ℕ, zero, suc, ◌+◌, ◌≤◌, Bool, true, false, not, cond, inl, inr, List, [], ◌∷◌, ◌++◌, Option, None, Some, length, refl, sym, ap, ◌∙◌, subst, arith}
 use Rattle.std.specs.List.{AllByRecursion, filter}
 use Rattle.std.specs.List.Sorted.{IsPermutation}
 use Rattle.std.proofs.lemmas.List.{append-nil, length-append}
@@ -12,7 +12,7 @@ use Rattle.history.specs.declared.operations.Taken.{Taken}
 use Rattle.history.specs.declared.operations.Reply.{Reply}
 use Rattle.history.specs.declared.operations.Reply.TheVariants.{Done, Value, Empty, Refused}
 use Rattle.history.specs.declared.operations.Stamped.{Stamped}
-use Rattle.waiting_orders.specs.Waiting.{State, Step, HasEffect, GetsRefused, Takes, IsEnd, CanEnd, Where, IsUntold, OtherIsUntold, waits, is_push, pushes_value}
+use Rattle.waiting_orders.specs.Waiting.{State, HasEffect, GetsRefused, Takes, IsEnd, CanEnd, Where, IsUntold, OtherIsUntold, waits, is_push, pushes_value}
 use Rattle.waiting_orders.specs.Pending.{is_value, waits_with, told_count, push_count}
 use Rattle.waiting_orders.proofs.Lists.{all_weaker, both_true}
 use Rattle.waiting_orders.proofs.Picking.{filter_moved}

@@ -20,11 +20,11 @@ use Rattle.waiting_orders.proofs.Lists.{all_joined}
 use Rattle.waiting_orders.proofs.Quiet.{quiet_first, le_max_left, le_max_right}
 use Rattle.waiting_orders.proofs.Stepping.{all_left}
 
-and_left : (a b : Bool) → (a && b) ≡ true → a ≡ true
+pub and_left : (a b : Bool) → (a && b) ≡ true → a ≡ true
 and_left true b e = refl
 and_left false b e = absurd cc
 
-and_right : (a b : Bool) → (a && b) ≡ true → b ≡ true
+pub and_right : (a b : Bool) → (a && b) ≡ true → b ≡ true
 and_right true b e = e
 and_right false b e = absurd cc
 
@@ -97,7 +97,7 @@ module _ (board : Board) (s : Spot) (f : Front) (way : Pick) (calls : AreCalls b
             }) h,
       )
 
-pick_is : (ops : List Stamped) (left : Left) (ways : List Pick) (at : ℕ) (way : Pick) → AreOut ops left (view_picks ways) → slice_get ways at ≡ Some way
+pub pick_is : (ops : List Stamped) (left : Left) (ways : List Pick) (at : ℕ) (way : Pick) → AreOut ops left (view_picks ways) → slice_get ways at ≡ Some way
     → IsPermutation (left_of ops left) (way.operation ∷ left_of ops (view_left way.rest))
 pick_is ops left [] at way h e = absurd cc
 pick_is ops left (x ∷ ways) zero way h e = subst (λ w. IsPermutation (left_of ops left) (w.operation ∷ left_of ops (view_left w.rest))) (same_Some x way e) h.0

@@ -7,8 +7,11 @@ pub mod Rests
 pub mod Places
 pub mod Limits
 pub mod Picks
+mod Leading
 pub mod Stepping
 pub mod Trying
+pub mod Counting
+mod FewStates
 pub mod ByFirst
 pub mod Quiet
 mod Trades
@@ -16,5 +19,7 @@ mod Traded
 mod Answering
 pub mod Alike
 pub mod Spare
-pub mod Pending
+pub mod PendingPops
 pub mod Counts
+pub mod GoingAlone
+pub mod Needed

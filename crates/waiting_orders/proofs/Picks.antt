@@ -22,7 +22,7 @@ out_right : (ops : List Stamped) (xs ys : List Out) (o : Stamped) (rest : List S
 out_right ops [] ys o rest h = h
 out_right ops (x ∷ xs) ys o rest h = inr (out_right ops xs ys o rest h)
 
-outs_joined : (P : Out → Type 0) (xs ys : List Out) → AllByRecursion P xs → AllByRecursion P ys → AllByRecursion P (xs ++ ys)
+pub outs_joined : (P : Out → Type 0) (xs ys : List Out) → AllByRecursion P xs → AllByRecursion P ys → AllByRecursion P (xs ++ ys)
 outs_joined P [] ys a b = b
 outs_joined P (x ∷ xs) ys a b = (a.0, outs_joined P xs ys a.1 b)
 
@@ -143,7 +143,7 @@ later_out ops left place o h e =
 
 -- ---- what is picked is left
 
-all_gathered : (P : Out → Type 0) (f : ℕ → List Out) (from to : ℕ) → ((k : ℕ) → from ≤ k → AllByRecursion P (f k)) → AllByRecursion P (gathered f from to)
+pub all_gathered : (P : Out → Type 0) (f : ℕ → List Out) (from to : ℕ) → ((k : ℕ) → from ≤ k → AllByRecursion P (f k)) → AllByRecursion P (gathered f from to)
 all_gathered P f from zero h = tt
 all_gathered P f from (suc to) h = go (nat_le from to) refl (all_gathered P f from to h)
   where

@@ -5,7 +5,6 @@ use Rattle.std.specs.List.{AllByRecursion, filter}
 use Rattle.std.specs.List.Sorted.{IsPermutation}
 use Rattle.std.proofs.lemmas.List.{append-nil, append_assoc}
 use Rattle.std.proofs.lemmas.List.Sorted.{IsPermutation-refl, IsPermutation-sym, IsPermutation-trans, IsPermutation-cons, IsPermutation-append_left, IsPermutation-append_right, IsPermutation-middle, IsPermutation-filter_both}
-use Rattle.std.proofs.lemmas.Option.{same_Some}
 use Rattle.history.specs.declared.refusals.Refusal.{Refusal}
 use Rattle.history.specs.declared.operations.Op.{Op}
 use Rattle.history.specs.declared.operations.Op.TheVariants.{Enq, Deq, Shut}
@@ -16,7 +15,7 @@ use Rattle.history.specs.declared.operations.Stamped.{Stamped}
 use Rattle.waiting_orders.specs.Waiting.{IsCall, State, Step, HasEffect, GetsRefused, Takes, FindsEmpty, IsLeft, IsTold, IsToldDrained, Shuts, IsEnd, CanEnd, IsOpenAt, OtherIsOpen, PushIsOpen, IsUntold, OtherIsUntold, waits, is_push, every, is_open_at, other_is_open, may_stay}
 use Rattle.waiting_orders.specs.Lines.{without}
 use Rattle.waiting_orders.proofs.Futures.{all_moved, all_every, every_all}
-use Rattle.waiting_orders.proofs.Lists.{or_left, or_right, all_joined, all_weaker, where_any, where_not, all_filtered, all_pass}
+use Rattle.waiting_orders.proofs.Lists.{or_left, or_right, all_joined, all_weaker, where_any, all_filtered, all_pass}
 use Rattle.waiting_orders.proofs.Limits.{all_second, all_first}
 use Rattle.waiting_orders.proofs.Places.{taken_out, all_at}
 use Rattle.waiting_orders.proofs.Stepping.{untold_unended}

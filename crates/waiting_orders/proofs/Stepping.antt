@@ -20,9 +20,10 @@ use Rattle.history.specs.History.{leaves, is_closed}
 use Rattle.waiting_orders.specs.declared.lines.Pick.{Pick}
 use Rattle.waiting_orders.specs.declared.steps.Front.{Front}
 use Rattle.waiting_orders.specs.declared.boards.Board.{Board}
-use Rattle.waiting_orders.specs.Waiting.{IsCall, State, Step, HasEffect, GetsRefused, Takes, Pushes, FindsEmpty, IsToldDrained, Shuts, IsEnd, Same, Where, IsOpenAt, OtherIsOpen, PushIsOpen, IsUntold, OtherIsUntold, waits, is_push, every, is_open_at, other_is_open, may_stay, pushes_value, fits}
+use Rattle.waiting_orders.specs.Waiting.{IsCall, State, Step, HasEffect, GetsRefused, Takes, Pushes, FindsEmpty, IsToldDrained, Shuts, IsEnd, Same, Where, IsOpenAt, OtherIsOpen, PushIsOpen, IsUntold, OtherIsUntold, waits, is_push, every, is_open_at, other_is_open, may_stay, pushes_value}
+use Rattle.waiting_orders.specs.Pending.{Pops, is_pending_pop}
 use Rattle.waiting_orders.specs.Lines.{Left, IsLimit, ArePicks, left_of, view_left, view_picks, without, cat, picked, spelled}
-use Rattle.waiting_orders.specs.Nodes.{Spot, Among, AreCalls, HasSteps, state_of, each, where_so, time_of, stay, began, began_by, goes, may_go, shut_of, take_of, take_at, takes_to, refused_of, steps_of, steps_at, steps_to}
+use Rattle.waiting_orders.specs.Nodes.{Spot, Among, AreCalls, state_of, each, where_so, time_of, stay, began, began_by, goes, may_go, shut_of, take_of, take_at, takes_to, suits, refused_of, steps_of, steps_at, steps_to}
 use Rattle.waiting_orders.proofs.Futures.{all_moved, all_every, every_all}
 use Rattle.waiting_orders.proofs.Lists.{both_true, or_left, or_right, all_joined}
 use Rattle.waiting_orders.proofs.Limits.{open_told, told_open, open_before, all_first, all_second}
@@ -39,7 +40,7 @@ max_least a b c h k = go (nat_le a b) refl
     go true e = subst (λ m. m ≤ c) (sym (max-eq_right (leb-true a b e))) k
     go false e = let l : b < a = leb-false a b e in subst (λ m. m ≤ c) (sym (max-eq_left (omega (arith, l)))) h
 
-value_fits : (v : Taken) (p : Stamped) → Pushes v p → pushes_value v p.actor p.op ≡ true
+pub value_fits : (v : Taken) (p : Stamped) → Pushes v p → pushes_value v p.actor p.op ≡ true
 value_fits v p h = subst (λ op. pushes_value v p.actor op ≡ true) (sym h.op) (both_true _ _ (eq-eqb _ _ h.actor) (eq-eqb _ _ refl))
 
 all_picked : (P : Stamped → Type 0) (ops : List Stamped) → AllByRecursion P ops → (places : List ℕ) → AllByRecursion P (picked ops places)
@@ -102,7 +103,7 @@ module _ (board : Board) where
 -- ---- what is taken out of the others, or of the pushes
 
 -- an operation that is no push that waits is one of the others
-other_out : (os ps : List Stamped) (o : Stamped) (rest : List Stamped) → AllByRecursion (λ p. waits p ≡ true) ps → waits o ≡ false → IsPermutation (os ++ ps) (o ∷ rest)
+pub other_out : (os ps : List Stamped) (o : Stamped) (rest : List Stamped) → AllByRecursion (λ p. waits p ≡ true) ps → waits o ≡ false → IsPermutation (os ++ ps) (o ∷ rest)
     → (ns : List Stamped) × IsPermutation os (o ∷ ns) × IsPermutation rest (ns ++ ps)
 other_out os ps o rest all e is =
     let f = found_first o (os ++ ps) rest is in
@@ -114,7 +115,7 @@ other_out os ps o rest all e is =
     go k perm (inl h) = (without k os, taken_out k os o h.0, subst (IsPermutation rest) h.1 perm)
     go k perm (inr h) = let w : waits o ≡ true = all_at (λ p. waits p ≡ true) ps h.0 o h.1 all in absurd (cc (sym e ∙ w))
 
-push_out : (os ps : List Stamped) (p : Stamped) (rest : List Stamped) → AllByRecursion (λ o. waits o ≡ false) os → waits p ≡ true → IsPermutation (os ++ ps) (p ∷ rest)
+pub push_out : (os ps : List Stamped) (p : Stamped) (rest : List Stamped) → AllByRecursion (λ o. waits o ≡ false) os → waits p ≡ true → IsPermutation (os ++ ps) (p ∷ rest)
     → (ns : List Stamped) × IsPermutation ps (p ∷ ns) × IsPermutation rest (os ++ ns)
 push_out os ps p rest all e is =
     let f = found_first p (os ++ ps) rest is in
@@ -327,9 +328,16 @@ module _ (board : Board) (s : Spot) (f : Front) (ways : List Pick) (calls : AreC
         time = time_by w.pick w.is;
       })
 
-  takes_placed : (op : Op) (reply : Option Reply) (v : Taken) (suits : Stamped → Bool) → ((p : Stamped) → Pushes v p → suits p ≡ true)
-      → ((pick : Pick) → steps_of op reply all_pushes s f pick ≡ takes_to (length f.takes.items) suits s f pick) → Takes v o here t → Placed op reply
-  takes_placed op reply v suits fit is h =
+  -- the states behind takes of some pushes have one that is the same
+  record Took (chosen : Stamped → Bool) : Type 0 where
+    place : ℕ
+    pick : Pick
+    there : slice_get ways place ≡ Some pick
+    is : pick.operation ≡ o
+    among : Among board (takes_to (length f.takes.items) chosen s f pick) t
+
+  took : (v : Taken) (chosen : Stamped → Bool) (h : Takes v o here t) → chosen h.push ≡ true → Took chosen
+  took v chosen h fit =
       let p = h.push in
       let w = way_of (p ∷ t.left) h.is in
       let left_wait : AllByRecursion (λ o. waits o ≡ false) w.left = (all_moved (λ o. waits o ≡ false) os (o ∷ w.left) w.out os_wait).1 in
@@ -342,9 +350,9 @@ module _ (board : Board) (s : Spot) (f : Front) (ways : List Pick) (calls : AreC
       let k = found_pick all_pushes f.takes.items p g.0 (takes_are p g.0 g.1 (push_limit.needed p.first all_open)) in
       let take = k.1 in
       let by : max (time_of s w.pick) take.operation.first ≤ t.time = max_least _ _ t.time (time_by w.pick w.is) (subst (λ p. p.first ≤ t.time) (sym k.3) h.began) in
-      let one : Among board (take_of suits s f w.pick take) t =
+      let one : Among board (take_of chosen s f w.pick take) t =
       among_where board _ (view_left w.pick.rest) (view_left take.rest) s.shut (max (time_of s w.pick) take.operation.first) t
-      (both_true _ _ (both_true _ _ (subst (λ p. suits p ≡ true) (sym k.3) (fit p h.pushes))
+      (both_true _ _ (both_true _ _ (subst (λ p. chosen p ≡ true) (sym k.3) fit)
       (subst (λ p. is_open_at p.first f.push_limit ≡ true) (sym k.3) (push_limit.needed p.first all_open))) (open_now _ by))
       (record {
         left = IsPermutation-trans _ _ _ g.2 (IsPermutation-append w.left (left_of all_others (view_left w.pick.rest)) g.0 (left_of all_pushes (view_left take.rest)) w.same k.4);
@@ -356,10 +364,14 @@ module _ (board : Board) (s : Spot) (f : Front) (ways : List Pick) (calls : AreC
         pick = w.pick;
         there = w.there;
         is = w.is;
-        among = subst (λ us. Among board us t) (sym (is w.pick))
-            (takes_have board (length f.takes.items) k.0 suits s f w.pick t (slice_get_within f.takes.items k.0 take k.2)
-            (subst (λ x. Among board (take_at suits s f w.pick x) t) (sym k.2) one));
+        among = takes_have board (length f.takes.items) k.0 chosen s f w.pick t (slice_get_within f.takes.items k.0 take k.2)
+            (subst (λ x. Among board (take_at chosen s f w.pick x) t) (sym k.2) one);
       }
+
+  value_placed : (v : Taken) → Takes v o here t → Placed Deq (Some (Value v))
+  value_placed v h =
+      let k = took v (suits f.push_limit (Some v)) h (value_fits v h.push h.pushes) in
+      record { place = k.place; pick = k.pick; there = k.there; is = k.is; among = k.among }
 
   empty_placed : FindsEmpty o here t → Placed Deq (Some Empty)
   empty_placed h =
@@ -501,47 +513,57 @@ module _ (board : Board) (s : Spot) (f : Front) (ways : List Pick) (calls : AreC
   refused_placed refusal Deq (inl h) = let w = way_of t.left h.is in record { place = w.place; pick = w.pick; there = w.there; is = w.is; among = among_left board (stay (leaves refusal) s f w.pick) _ t (stay_among w _ h.leaves h.same) }
   refused_placed refusal Deq (inr h) = let w = way_of (t.left ++ h.1.dropped) h.1.is in record { place = w.place; pick = w.pick; there = w.there; is = w.is; among = drained_among refusal h.0 h.1 w }
 
-  placed : (op : Op) (reply : Option Reply) → HasEffect op reply o here t → Placed op reply
-  placed (Enq body) None h = absurd h
-  placed Deq None h = takes_placed Deq None h.0 (fits None) (λ p k. refl) (λ pick. refl) h.1
-  placed Shut None h = shut_placed None (λ pick. refl) h
-  placed (Enq body) (Some Done) h = absurd h
-  placed Deq (Some Done) h = absurd h
-  placed Shut (Some Done) h = shut_placed (Some Done) (λ pick. refl) h
-  placed (Enq body) (Some (Value v)) h = absurd h
-  placed Deq (Some (Value v)) h = takes_placed Deq (Some (Value v)) v (fits (Some v)) (value_fits v) (λ pick. refl) h
-  placed Shut (Some (Value v)) h = absurd h
-  placed (Enq body) (Some Empty) h = absurd h
-  placed Deq (Some Empty) h = empty_placed h
-  placed Shut (Some Empty) h = absurd h
-  placed (Enq body) (Some (Refused refusal)) h = refused_placed refusal (Enq body) h
-  placed Deq (Some (Refused refusal)) h = refused_placed refusal Deq h
-  placed Shut (Some (Refused refusal)) h = refused_placed refusal Shut h
+  placed : (op : Op) (reply : Option Reply) → is_pending_pop op reply ≡ false → HasEffect op reply o here t → Placed op reply
+  placed (Enq body) None e h = absurd h
+  placed Deq None e h = absurd cc
+  placed Shut None e h = shut_placed None (λ pick. refl) h
+  placed (Enq body) (Some Done) e h = absurd h
+  placed Deq (Some Done) e h = absurd h
+  placed Shut (Some Done) e h = shut_placed (Some Done) (λ pick. refl) h
+  placed (Enq body) (Some (Value v)) e h = absurd h
+  placed Deq (Some (Value v)) e h = value_placed v h
+  placed Shut (Some (Value v)) e h = absurd h
+  placed (Enq body) (Some Empty) e h = absurd h
+  placed Deq (Some Empty) e h = empty_placed h
+  placed Shut (Some Empty) e h = absurd h
+  placed (Enq body) (Some (Refused refusal)) e h = refused_placed refusal (Enq body) h
+  placed Deq (Some (Refused refusal)) e h = refused_placed refusal Deq h
+  placed Shut (Some (Refused refusal)) e h = refused_placed refusal Shut h
 
-  one_placed : HasEffect o.op o.reply o here t → Among board (steps_to (length ways) all_pushes s f ways) t
-  one_placed h =
-      let p = placed o.op o.reply h in
+  one_placed : is_pending_pop o.op o.reply ≡ false → HasEffect o.op o.reply o here t → Among board (steps_to (length ways) all_pushes s f ways) t
+  one_placed e h =
+      let p = placed o.op o.reply e h in
       steps_have board (length ways) p.place all_pushes s f ways t (slice_get_within ways p.place p.pick p.there)
       (subst (λ x. Among board (steps_at all_pushes s f x) t) (sym p.there)
       (subst (λ o. Among board (steps_of o.op o.reply all_pushes s f p.pick) t) (sym p.is) p.among))
 
--- each step from a state leads to one of those that are made
-pub each_step : (board : Board) (s : Spot) (f : Front) (ways : List Pick) (new : List Spot)
+-- each step of an operation that is no pending pop leads to one of those that are made
+pub each_step : (board : Board) (s : Spot) (f : Front) (ways : List Pick)
     → IsLimit (left_of board.others.operations.items s.others) f.limit → IsLimit (left_of board.pushes.operations.items s.pushes) f.push_limit
     → ArePicks board.others.operations.items s.others f.limit (view_picks ways) → ArePicks board.pushes.operations.items s.pushes f.push_limit (view_picks f.takes.items)
-    → new ≡ steps_to (length ways) board.pushes.operations.items s f ways → AreCalls board → (t : State) → Step (state_of board s) t → Among board new t
-each_step board s f ways new limit push_limit ways_are takes_are is calls t h =
-    subst (λ us. Among board us t) (sym is)
-    (one_placed board s f ways calls limit push_limit ways_are takes_are t h.operation h.since h.began h.ongoing
-    (no_push h.operation.op h.operation.reply h.operation (state_of board s) t h.effect) h.effect)
+    → AreCalls board → (t : State) (h : Step (state_of board s) t) → is_pending_pop h.operation.op h.operation.reply ≡ false
+    → Among board (steps_to (length ways) board.pushes.operations.items s f ways) t
+each_step board s f ways limit push_limit ways_are takes_are calls t h e =
+    one_placed board s f ways calls limit push_limit ways_are takes_are t h.operation h.since h.began h.ongoing
+    (no_push h.operation.op h.operation.reply h.operation (state_of board s) t h.effect) e h.effect
 
--- so where a state can be placed to the end, one of those can be
-pub all_steps : (board : Board) (s : Spot) (f : Front) (ways : List Pick) (new : List Spot)
+-- a pending pop that takes leads to one of those that are made behind takes
+pub record TakenBy (board : Board) (s : Spot) (f : Front) (ways : List Pick) (chosen : Stamped → Bool) (d : Stamped) (t : State) : Type 0 where
+  pub place : ℕ
+  pub pick : Pick
+  pub there : slice_get ways place ≡ Some pick
+  pub is : pick.operation ≡ d
+  pub among : Among board (takes_to (length f.takes.items) chosen s f pick) t
+
+pub each_take : (board : Board) (s : Spot) (f : Front) (ways : List Pick)
     → IsLimit (left_of board.others.operations.items s.others) f.limit → IsLimit (left_of board.pushes.operations.items s.pushes) f.push_limit
     → ArePicks board.others.operations.items s.others f.limit (view_picks ways) → ArePicks board.pushes.operations.items s.pushes f.push_limit (view_picks f.takes.items)
-    → new ≡ steps_to (length ways) board.pushes.operations.items s f ways → HasSteps board s new
-all_steps board s f ways new limit push_limit ways_are takes_are is calls n (inl h) = inl h
-all_steps board s f ways new limit push_limit ways_are takes_are is calls n (inr h) = inr (h.0, each_step board s f ways new limit push_limit ways_are takes_are is calls h.0 h.1, h.2)
+    → AreCalls board → (chosen : Stamped → Bool) (d p : Stamped) (t : State) → Pops d p (state_of board s) t → chosen p ≡ true → TakenBy board s f ways chosen d t
+each_take board s f ways limit push_limit ways_are takes_are calls chosen d p t x fit =
+    let no : waits d ≡ false = subst (λ op. is_push op d.reply ≡ false) (sym x.op) refl in
+    let k = took board s f ways calls limit push_limit ways_are takes_are t d x.since x.pop_began x.ongoing no x.value chosen
+    (record { push = p; is = x.is; pushes = x.pushes; began = x.push_began; first = x.first; same = x.same }) fit in
+    record { place = k.place; pick = k.pick; there = k.there; is = k.is; among = k.among }
 
 -- an end is one where no other that is left ended
 pub unended : (board : Board) (s : Spot) → AreCalls board → IsEnd (state_of board s) → AllByRecursion (λ o. o.last ≡ None) (left_of board.others.operations.items s.others)

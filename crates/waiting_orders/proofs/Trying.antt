@@ -1,5 +1,5 @@
 -- One more state is tried, or was known, or none is left.
-use Rattle.std.proofs.Common.{◌≡◌, ◌⊎◌, inl, inr, ℕ, zero, suc, List, [], ◌∷◌, ◌++◌, ◌+◌, ◌<◌, ◌≤◌, length, get_or, refl, sym, ap, ◌∙◌, subst, arith}
+use Rattle.std.proofs.Common.{◌≡◌, ◌⊎◌, inl, inr, ℕ, zero, suc, List, [], ◌∷◌, ◌++◌, ◌+◌, ◌*◌, ◌≤◌, length, refl, sym, ap, ◌∙◌, subst, arith}
 use Rattle.std.specs.List.{AllByRecursion}
 use Rattle.std.proofs.lemmas.List.{append-nil, append_assoc, map-append, length-append, length-map}
 use Rattle.std.proofs.lemmas.List.Sorted.{IsPermutation-refl}
@@ -159,22 +159,13 @@ none_ahead ops board done ahead is e h q = nothing_left ops board (views done) i
 pub begins_so : (board : Board) (done ahead : List Node) → views done ≡ [] → views ahead ≡ start ∷ [] → Searched board (views done) (views ahead)
 begins_so board done ahead e f = subst (λ l. Searched board l (views ahead)) (sym e) (subst (Searched board []) (sym f) (begins board))
 
-in_views : (ns : List Node) (k : ℕ) (n : Node) (s : Spot) → k < length ns → n ≡ get_or ns k n → s ≡ view n → IsIn s (views ns)
-in_views [] k n s h e f = absurd (omega (arith, h))
-in_views (m ∷ ns) zero n s h e f = inl (f ∙ ap view e)
-in_views (m ∷ ns) (suc k) n s h e f = inr (in_views ns k n s (omega (arith, h)) e f)
-
--- a state is the same as one that was read
-pub in_read : (items read : List Node) (k : ℕ) (n : Node) (s : Spot) → read ≡ items → k < length read → n ≡ get_or read k n → s ≡ view n → IsIn s (views items)
-in_read items read k n s same h e f = subst (λ l. IsIn s (views l)) same (in_views read k n s h e f)
-
 turned_length : (us : List Spot) → length (turned us) ≡ length us
 turned_length [] = refl
 turned_length (u ∷ us) = length-append (turned us) (u ∷ []) ∙ (let e = turned_length us in omega (arith, e))
 
--- what was put ahead is no more than the bytes that it takes
-pub grown : (ahead after new : List Node) (old bytes now : ℕ) → views after ≡ views ahead ++ turned (views new) → length new ≤ bytes → now ≡ old + bytes
-    → length after + old ≤ length ahead + now
+-- what was put ahead is no more than what is counted for it allows
+pub grown : (ahead after new : List Node) (old bytes now : ℕ) → views after ≡ views ahead ++ turned (views new) → length new ≤ bytes * 18446744073709551616 → now ≡ old + bytes
+    → length after + old * 18446744073709551616 ≤ length ahead + now * 18446744073709551616
 grown ahead after new old bytes now e h is =
     let a : length (views after) ≡ length after = length-map after view in
     let b : length (views ahead) ≡ length ahead = length-map ahead view in

@@ -1,10 +1,14 @@
 -- States of the search: what is left of the pushes that wait, and of all other operations, each by first numbers.
-use Rattle.std.specs.Prelude.{◌≡◌, ℕ, zero, suc, max, Bool, true, false, not, ◌&&◌, ◌||◌, ◌⊎◌, List, [], ◌∷◌, ◌++◌, Option, None, Some, is_some, length, slice_get, map, take}
+use Rattle.std.specs.Prelude.{◌≡◌, ℕ, zero, suc, max, nat_le, nat_eq, Bool, true, false, not, ◌&&◌, ◌||◌, ◌⊎◌, List, [], ◌∷◌, ◌++◌, Option, None, Some, is_some, length, slice_get, map, take}
 use Rattle.std.specs.List.{AllByRecursion, filter, list_all}
 use Rattle.std.specs.List.Sorted.{IsPermutation}
+use Rattle.std.specs.Ordering.{on, eq_of_both}
+use Rattle.std.specs.Cmp.Lexicographic.{pointwise}
+use Rattle.std.specs.Bool.{beq}
 use Rattle.history.specs.declared.refusals.Refusal.{Refusal}
 use Rattle.history.specs.declared.operations.Op.{Op}
 use Rattle.history.specs.declared.operations.Op.TheVariants.{Enq, Deq, Shut}
+use Rattle.history.specs.declared.operations.Taken.{Taken}
 use Rattle.history.specs.declared.operations.Reply.{Reply}
 use Rattle.history.specs.declared.operations.Reply.TheVariants.{Done, Value, Empty, Refused}
 use Rattle.history.specs.declared.operations.Stamped.{Stamped}
@@ -14,6 +18,7 @@ use Rattle.waiting_orders.specs.declared.nodes.Node.{Node}
 use Rattle.waiting_orders.specs.declared.steps.Front.{Front}
 use Rattle.waiting_orders.specs.declared.boards.Board.{Board}
 use Rattle.waiting_orders.specs.Waiting.{IsCall, State, Same, IsEnd, CanEnd, waits, is_open_at, fits}
+use Rattle.waiting_orders.specs.Pending.{is_pending_pop}
 use Rattle.waiting_orders.specs.Lines.{Left, view_left, left_of, spelled, IsRising}
 
 -- what is left, whether the queue is shut, and the number of the last operation placed
@@ -30,6 +35,11 @@ view n = record { others = view_left n.others; pushes = view_left n.pushes; shut
 -- the states that nodes are
 abbrev pub views : List Node → List Spot
 views ns = map view ns
+
+-- whether two nodes are the same state, whatever led to them
+abbrev pub is_same : Node → Node → Bool
+is_same = eq_of_both (on (λ n. n.is_shut) beq) (eq_of_both (on (λ n. n.time) nat_eq) (eq_of_both (on (λ n. n.others.from) nat_eq) (eq_of_both (on (λ n. n.pushes.from) nat_eq)
+    (eq_of_both (on (λ n. n.others.kept.items) (pointwise nat_eq)) (on (λ n. n.pushes.kept.items) (pointwise nat_eq))))))
 
 -- nothing is placed
 abbrev pub start : Spot
@@ -104,6 +114,17 @@ shut_of pushes s f way =
     where_so (not s.shut && is_open_at (time_of s way) f.limit && each (may_go pushes f.limit) (spelled (length pushes) s.pushes)) (view_left way.rest)
     (record { kept = filter (began_by pushes f.limit) (spelled (length pushes) s.pushes); from = length pushes }) true (time_of s way)
 
+-- whether one number is there and no later than another one that is there
+abbrev pub is_by : Option ℕ → Option ℕ → Bool
+is_by None limit = false
+is_by (Some last) None = false
+is_by (Some last) (Some limit) = nat_le last limit
+
+-- whether a push is of a value that was told, or ended first where none was
+abbrev pub suits : Option ℕ → Option Taken → Stamped → Bool
+suits limit None p = is_by p.last limit
+suits limit (Some v) p = fits v p
+
 -- the state behind a take of a push that waits
 abbrev pub take_of : (Stamped → Bool) → Spot → Front → Pick → Pick → List Spot
 take_of suits s f way take =
@@ -126,16 +147,16 @@ refused_of refusal (Enq body) pushes s f way = stay (leaves refusal || (is_close
 refused_of refusal Shut pushes s f way = stay (leaves refusal || (is_closed refusal && s.shut)) s f way
 refused_of refusal Deq pushes s f way = stay (leaves refusal) s f way ++ drained (is_closed refusal) pushes s f way
 
--- the states behind an operation, by its call and its reply
+-- the states behind an operation that is no pending pop, by its call and its reply
 abbrev pub steps_of : Op → Option Reply → (pushes : List Stamped) → Spot → Front → Pick → List Spot
 steps_of (Enq body) None pushes s f way = []
-steps_of Deq None pushes s f way = takes_to (length f.takes.items) (fits None) s f way
+steps_of Deq None pushes s f way = []
 steps_of Shut None pushes s f way = shut_of pushes s f way
 steps_of (Enq body) (Some Done) pushes s f way = []
 steps_of Deq (Some Done) pushes s f way = []
 steps_of Shut (Some Done) pushes s f way = shut_of pushes s f way
 steps_of (Enq body) (Some (Value v)) pushes s f way = []
-steps_of Deq (Some (Value v)) pushes s f way = takes_to (length f.takes.items) (fits (Some v)) s f way
+steps_of Deq (Some (Value v)) pushes s f way = takes_to (length f.takes.items) (suits f.push_limit (Some v)) s f way
 steps_of Shut (Some (Value v)) pushes s f way = []
 steps_of (Enq body) (Some Empty) pushes s f way = []
 steps_of Deq (Some Empty) pushes s f way = stay (not s.shut && is_open_at (time_of s way) f.push_limit) s f way
@@ -151,6 +172,67 @@ steps_at pushes s f (Some way) = steps_of way.operation.op way.operation.reply p
 abbrev pub steps_to : ℕ → (pushes : List Stamped) → Spot → Front → (ways : List Pick) → List Spot
 steps_to zero pushes s f ways = []
 steps_to (suc k) pushes s f ways = steps_to k pushes s f ways ++ steps_at pushes s f (slice_get ways k)
+
+-- ---- pending pops wait
+
+-- whether an operation that may be placed is a pending pop
+abbrev pub is_pending : Pick → Bool
+is_pending way = is_pending_pop way.operation.op way.operation.reply
+
+-- whether none of several is one
+abbrev pub none_pending : List Pick → Bool
+none_pending ways = list_all (λ way. not (is_pending way)) ways
+
+-- whether a push is of a value, and began after the first end of those that wait
+abbrev pub is_behind : Option ℕ → Taken → Pick → Bool
+is_behind push_limit v push = fits v push.operation && not (is_open_at push.operation.first push_limit)
+
+-- whether none of several is one
+abbrev pub none_behind : Option ℕ → Taken → (behind : List Pick) → Bool
+none_behind push_limit v behind = list_all (λ push. not (is_behind push_limit v push)) behind
+
+-- whether an operation needs no pending pop to go: none of these pushes is of the value that it was told and behind the one
+-- that ended first, and it wasn't told that the queue is empty
+abbrev pub is_free : Bool → Option ℕ → (behind : List Pick) → Op → Option Reply → Bool
+is_free shut push_limit behind (Enq body) reply = true
+is_free shut push_limit behind Shut reply = true
+is_free shut push_limit behind Deq None = true
+is_free shut push_limit behind Deq (Some Done) = true
+is_free shut push_limit behind Deq (Some (Value v)) = none_behind push_limit v behind
+is_free shut push_limit behind Deq (Some Empty) = shut
+is_free shut push_limit behind Deq (Some (Refused refusal)) = not (is_closed refusal && shut)
+
+-- whether none of several needs it
+abbrev pub all_free : Bool → Option ℕ → (behind ways : List Pick) → Bool
+all_free shut push_limit behind ways = list_all (λ way. is_free shut push_limit behind way.operation.op way.operation.reply) ways
+
+-- whether no pending pop of several began before a number
+abbrev pub goes_first : ℕ → List Pick → Bool
+goes_first first ways = list_all (λ way. not (is_pending way) || nat_le first way.operation.first) ways
+
+-- the states behind a take of the push that ended first, where something holds
+abbrev pub takes_where : Bool → Spot → Front → Pick → List Spot
+takes_where true s f way = takes_to (length f.takes.items) (suits f.push_limit None) s f way
+takes_where false s f way = []
+
+-- the states behind the operation at a place, where that is a pending pop and none began before it
+abbrev pub pending_at : Spot → Front → (ways : List Pick) → Option Pick → List Spot
+pending_at s f ways None = []
+pending_at s f ways (Some way) = takes_where (is_pending way && goes_first way.operation.first ways) s f way
+
+-- the states behind the first of several
+abbrev pub pending_to : ℕ → Spot → Front → (ways : List Pick) → List Spot
+pending_to zero s f ways = []
+pending_to (suc k) s f ways = pending_to k s f ways ++ pending_at s f ways (slice_get ways k)
+
+-- all these states, where something holds
+abbrev pub pending_where : Bool → Spot → Front → (ways : List Pick) → List Spot
+pending_where true s f ways = pending_to (length ways) s f ways
+pending_where false s f ways = []
+
+-- the states behind pending pops, where a push that ended is in the way of another pop
+abbrev pub pending_of : Spot → Front → (behind ways : List Pick) → List Spot
+pending_of s f behind ways = pending_where (is_some f.push_limit && not (all_free s.shut f.push_limit behind ways)) s f ways
 
 -- ---- what changes nothing goes first
 

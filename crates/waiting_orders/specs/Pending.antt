@@ -2,7 +2,6 @@
 use Rattle.std.specs.Prelude.{◌≡◌, ◌≤◌, ◌<◌, ℕ, Bool, true, false, ◌&&◌, ◌⊎◌, List, ◌∷◌, Option, None, Some, IsSome, length}
 use Rattle.std.specs.List.{AllByRecursion, filter}
 use Rattle.std.specs.List.Sorted.{IsPermutation}
-use Rattle.history.specs.declared.refusals.Refusal.{Refusal}
 use Rattle.history.specs.declared.refusals.Refusal.TheVariants.{Closed}
 use Rattle.history.specs.declared.operations.Op.{Op}
 use Rattle.history.specs.declared.operations.Op.TheVariants.{Enq, Deq, Shut}
@@ -10,7 +9,7 @@ use Rattle.history.specs.declared.operations.Taken.{Taken}
 use Rattle.history.specs.declared.operations.Reply.{Reply}
 use Rattle.history.specs.declared.operations.Reply.TheVariants.{Done, Value, Empty, Refused}
 use Rattle.history.specs.declared.operations.Stamped.{Stamped}
-use Rattle.waiting_orders.specs.Waiting.{IsCall, State, Step, IsEnd, CanEnd, Where, IsOpenAt, OtherIsOpen, PushIsOpen, Pushes, waits, fits, pushes_value}
+use Rattle.waiting_orders.specs.Waiting.{IsCall, State, Step, IsEnd, CanEnd, Where, OtherIsOpen, PushIsOpen, Pushes, waits, fits, pushes_value}
 
 -- whether an operation with this reply was told nothing
 abbrev pub is_untold : Option Reply → Bool
@@ -140,7 +139,7 @@ is_value v (Some (Refused refusal)) = false
 
 -- whether an operation is a waiting push of a value
 abbrev pub waits_with : Taken → Stamped → Bool
-waits_with v o = waits o && fits (Some v) o
+waits_with v o = waits o && fits v o
 
 -- how many operations were told a value
 abbrev pub told_count : Taken → List Stamped → ℕ

@@ -106,10 +106,9 @@ pushes_value v actor (Enq body) = nat_eq actor v.from && nat_eq body v.body
 pushes_value v actor Deq = false
 pushes_value v actor Shut = false
 
--- whether a push is of a value that was told, or of any value where none was
-abbrev pub fits : Option Taken → Stamped → Bool
-fits None p = true
-fits (Some v) p = pushes_value v p.actor p.op
+-- whether an operation pushes a value
+abbrev pub fits : Taken → Stamped → Bool
+fits v p = pushes_value v p.actor p.op
 
 -- whether an operation stays behind a shut: it is no waiting push, or it began before any other that is left ended
 abbrev pub may_stay : State → Stamped → Bool

@@ -3,6 +3,7 @@ ghost use Rattle.std.specs.Prelude.{◌≡◌, ◌++◌, [], true, false, IfOk, 
 ghost use Rattle.std.specs.List.{AllByRecursion};
 ghost use Rattle.waiting_orders.specs.Waiting as rule;
 ghost use Rattle.waiting_orders.specs.Lines as lines;
+ghost use Rattle.waiting_orders.specs.Reached.{AreOutOf};
 
 use crate::operations::{is_open_at, sooner};
 use history::Stamped;
@@ -43,22 +44,6 @@ impl Rest {
             kept,
             from: self.from,
         })
-    }
-
-    /// A number that looks like chance, of another one and of what is left.
-    pub(crate) fn mixed_into(&self, mark: u64) -> u64 {
-        let mut mark = mixed(mark ^ self.from as u64);
-        for place in &self.kept {
-            mark = mixed(mark ^ *place as u64);
-        }
-        mark
-    }
-
-    /// Whether the same is left.
-    pub(crate) fn is_same(&self, other: &Rest) -> bool
-        ensures { result ≡ true → lines.view_left self.now ≡ lines.view_left other.now }
-    {
-        self.from == other.from && same_places(&self.kept, &other.kept)
     }
 
     // What is left without the one at a place of those kept.
@@ -165,6 +150,8 @@ impl Rest {
             limit (lines.view_picks picks.items)) }
         ensures each { IfOk result (λ picks. lines.AreOut operations.now (lines.view_left self.now)
             (lines.view_picks picks.items)) }
+        ensures left { IfOk result (λ picks. AreOutOf operations.now (lines.view_left self.now)
+            (lines.view_picks picks.items)) }
     {
         let mut picks = Vec::new(alloc);
         self.push_all_kept(&mut picks, alloc, operations)?;
@@ -270,14 +257,15 @@ fn push_out(
     }
 }
 
-// The operation at a place, if there is one.
-fn operation_at(operations: &[Stamped], place: usize) -> Option<Stamped>
+/// The operation at a place, if there is one.
+pub(crate) fn operation_at(operations: &[Stamped], place: usize) -> Option<Stamped>
     ensures { result ≡ slice_get operations.now place }
 {
     operations.get(place).copied()
 }
 
-fn place_at(places: &[usize], at: usize) -> Option<usize>
+/// What stands at a place of these, if there is that place.
+pub(crate) fn place_at(places: &[usize], at: usize) -> Option<usize>
     ensures { result ≡ slice_get places.now at }
 {
     places.get(at).copied()
@@ -293,8 +281,8 @@ fn lowered_at(operations: &[Stamped], place: usize, limit: Option<u64>) -> Optio
     }
 }
 
-// Whether the operation at a place began behind a limit.
-fn begins_past_at(operations: &[Stamped], place: usize, limit: Option<u64>) -> bool
+/// Whether the operation at a place began behind a limit.
+pub(crate) fn begins_past_at(operations: &[Stamped], place: usize, limit: Option<u64>) -> bool
     ensures { result ≡ lines.begins_past limit (slice_get operations.now place) }
 {
     match operation_at(operations, place) {
@@ -316,12 +304,6 @@ fn least_last(operations: &[Stamped]) -> Option<u64>
         limit = lowered_at(operations, place, limit);
     }
     limit
-}
-
-fn same_places(places: &[usize], others: &[usize]) -> bool
-    ensures { result ≡ true → places.now ≡ others.now }
-{
-    places == others
 }
 
 /// Some places again.
@@ -346,12 +328,4 @@ fn without(alloc: Global, places: &[usize], at: usize) -> Result<Vec<usize>, All
     }
     rest.remove(at);
     Ok(rest)
-}
-
-/// A number that looks like chance, another one for each number.
-pub(crate) fn mixed(number: u64) -> u64 {
-    let mut mixed = number.wrapping_add(0x9e37_79b9_7f4a_7c15);
-    mixed = (mixed ^ (mixed >> 30)).wrapping_mul(0xbf58_476d_1ce4_e5b9);
-    mixed = (mixed ^ (mixed >> 27)).wrapping_mul(0x94d0_49bb_1331_11eb);
-    mixed ^ (mixed >> 31)
 }

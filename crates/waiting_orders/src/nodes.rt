@@ -1,14 +1,19 @@
 //! States of a search for orders in which pushes wait.
-ghost use Rattle.std.specs.Prelude.{◌≡◌, ◌≤◌, ◌<◌, true, None, IfOk, length};
+ghost use Rattle.std.specs.Prelude.{◌≡◌, ◌≤◌, ◌<◌, ◌++◌, true, None, IfOk, length};
 ghost use Rattle.std.specs.List.{AllByRecursion};
+ghost use Rattle.std.specs.Hash as fed;
+ghost use Rattle.std.specs.Cmp.Rules.{comparing, hashing};
+ghost use Rattle.std.proofs.Common.{rules};
 ghost use Rattle.waiting_orders.specs.Lines as lines;
 ghost use Rattle.waiting_orders.specs.Nodes as next;
 ghost use Rattle.waiting_orders.specs.Nodes.{view, views};
+ghost use Rattle.waiting_orders.specs.Reached.{Leads};
 
 use crate::boards::Board;
-use crate::lines::{Rest, mixed};
+use crate::lines::Rest;
 use history::Stamped;
 use std::alloc::{AllocError, Global};
+use std::hash::{Hash, Hasher};
 
 /// What is left of a history, whether the queue is shut, the number of the last operation placed, and which that was.
 #[derive(Drop)]
@@ -26,6 +31,43 @@ pub(crate) struct Placed {
     pub(crate) parent: usize,
     pub(crate) other: usize,
     pub(crate) push: Option<usize>,
+}
+
+// States are the same, whatever led to them.
+impl PartialEq for Node {
+    ghost eq = { next.is_same };
+
+    ghost laws = { Prim.search (comparing, rules) depth 9 };
+
+    fn eq(&self, other: &Node) -> bool {
+        self.is_shut == other.is_shut
+            && self.time == other.time
+            && self.others.from == other.others.from
+            && self.pushes.from == other.pushes.from
+            && self.others.kept == other.others.kept
+            && self.pushes.kept == other.pushes.kept
+    }
+}
+
+impl Eq for Node {
+    ghost laws = { Prim.search (comparing, rules) depth 9 };
+}
+
+impl Hash for Node {
+    ghost hash_input = { λ n. fed.bool n.is_shut ++ fed.u64 n.time ++ fed.usize n.others.from
+        ++ fed.usize n.pushes.from ++ fed.slice fed.usize n.others.kept.items
+        ++ fed.slice fed.usize n.pushes.kept.items };
+
+    ghost respects_eq = { Prim.search (hashing, rules) depth 9 };
+
+    fn hash<H: Hasher>(&self, state: &mut H) {
+        self.is_shut.hash(state);
+        self.time.hash(state);
+        self.others.from.hash(state);
+        self.pushes.from.hash(state);
+        self.others.kept.hash(state);
+        self.pushes.kept.hash(state);
+    }
 }
 
 impl Node {
@@ -56,22 +98,6 @@ impl Node {
         self.others.limit(others).is_none()
     }
 
-    /// Whether another state is the same.
-    pub(crate) fn is_same(&self, other: &Node) -> bool
-        ensures { result ≡ true → view self.now ≡ view other.now }
-    {
-        self.is_shut == other.is_shut
-            && self.time == other.time
-            && self.others.is_same(&other.others)
-            && self.pushes.is_same(&other.pushes)
-    }
-
-    /// A number that looks like chance, the same one for states that are the same.
-    pub(crate) fn mark(&self) -> u64 {
-        let mark = mixed(self.time ^ u64::from(self.is_shut));
-        self.pushes.mixed_into(self.others.mixed_into(mark))
-    }
-
     // How many bytes the state takes, about.
     fn bytes(&self) -> u64
         ensures { 1 ≤ result }
@@ -85,7 +111,9 @@ impl Node {
     /// The states to which one step leads.
     pub(crate) fn successors(&self, alloc: Global, board: &Board) -> Result<Vec<Node>, AllocError>
         requires { next.AreRising board.now }
-        ensures { IfOk result (λ new. next.HasSteps board.now (view self.now) (views new.items)) }
+        ensures all { IfOk result (λ new. next.HasSteps board.now (view self.now) (views new.items)) }
+        ensures each { IfOk result (λ new. AllByRecursion (Leads board.now.others.operations.items
+            board.now.pushes.operations.items (view self.now)) (views new.items)) }
     {
         let new = self.steps_over(alloc, &board.others.operations, &board.pushes.operations)?;
         Ok(new)

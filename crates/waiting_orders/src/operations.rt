@@ -1,6 +1,7 @@
 //! Operations that are left in a search.
 ghost use Rattle.std.specs.Prelude.{◌≡◌};
 ghost use Rattle.history.specs.History as history_rule;
+ghost use Rattle.waiting_orders.specs.Nodes as next;
 ghost use Rattle.waiting_orders.specs.Waiting as rule;
 
 use history::{Op, Refusal, Reply, Stamped, Taken};
@@ -75,12 +76,29 @@ pub(crate) fn leaves(refusal: Refusal) -> bool
     }
 }
 
-/// Whether a push is of a value that was told, or of any where none was.
-pub(crate) fn fits(value: &Option<Taken>, operation: &Stamped) -> bool
+/// Whether an operation pushes a value.
+pub(crate) fn fits(value: &Taken, operation: &Stamped) -> bool
     ensures { result ≡ rule.fits value.now operation.now }
 {
+    pushes_value(value, operation.actor, operation.op)
+}
+
+/// Whether a push is of a value that was told, or ended by a number where none was.
+pub(crate) fn suits(limit: Option<u64>, value: &Option<Taken>, operation: &Stamped) -> bool
+    ensures { result ≡ next.suits limit value.now operation.now }
+{
     match value {
-        None => true,
-        Some(value) => pushes_value(value, operation.actor, operation.op),
+        None => is_by(operation.last, limit),
+        Some(value) => fits(value, operation),
+    }
+}
+
+// Whether one number is there and no later than another one that is there.
+fn is_by(last: Option<u64>, limit: Option<u64>) -> bool
+    ensures { result ≡ next.is_by last limit }
+{
+    match (last, limit) {
+        (None, _) | (Some(_), None) => false,
+        (Some(last), Some(limit)) => last <= limit,
     }
 }

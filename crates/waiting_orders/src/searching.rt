@@ -1,16 +1,17 @@
 //! The search: states are tried, the last ones made first, until an end is found, none is left, or they take too much.
-ghost use Rattle.std.specs.Prelude.{◌≡◌, ◌≤◌, ◌+◌, ◌++◌, ◌∷◌, [], true, None, Some, length, IfOk, OnOk};
-ghost use Rattle.waiting_orders.specs.declared.searching.Found.TheVariants.{Nothing};
+ghost use Rattle.std.specs.Prelude.{◌≡◌, ◌≤◌, ◌+◌, ◌*◌, ◌++◌, ◌∷◌, [], true, false, None, Some, length, IfOk, OnOk};
+ghost use Rattle.waiting_orders.specs.declared.searching.Found.TheVariants.{Nothing, Room};
 ghost use Rattle.waiting_orders.specs.Waiting.{IsOfQueue};
 ghost use Rattle.waiting_orders.specs.Nodes.{view, views, start, turned, AreRising, IsIn, Searched};
-ghost use Rattle.waiting_orders.specs.Search.{IsSearched};
+ghost use Rattle.waiting_orders.specs.Reached.{TakesRoom};
+ghost use Rattle.waiting_orders.specs.Search.{IsSearched, IsCounted, HasNoRoom, most_of};
 
 use crate::boards::Board;
 use crate::nodes::{Node, bytes_of};
 use crate::orders::order;
 use history::Stamped;
+use indexmap::IndexSet;
 use std::alloc::{AllocError, Global};
-use std::collections::HashMap;
 
 /// What comes of a search.
 #[derive(Drop)]
@@ -27,10 +28,8 @@ pub enum Found {
 // States that were tried, and those that wait for it.
 #[derive(Drop)]
 struct Search {
-    done: Vec<Node>,
+    done: IndexSet<Node>,
     ahead: Vec<Node>,
-    /// Where states that were tried stand, by their marks: of those with one mark, the last.
-    places: HashMap<u64, usize>,
     /// How many bytes the states take that were made.
     bytes: u64,
 }
@@ -39,10 +38,14 @@ struct Search {
 /// states that take fewer bytes than `room`.
 ///
 /// The call takes memory and time for each state. It doesn't wait.
-#[tactic(auto, using(crate::proofs::Trying::seen_ahead))]
+#[tactic(auto, using(crate::proofs::Counting::counted_ahead, crate::proofs::Trying::seen_ahead))]
 pub fn searched(alloc: Global, history: &[Stamped], room: u64) -> Result<Found, AllocError>
     //= judge/nothing: Where a search has no state left to try, the recorded history is not one of a queue.
     ensures none { IfOk result (λ found. found ≡ Nothing → ¬ IsOfQueue history.now) }
+    //= judge/room: A search ends for want of room only where so many states are reached from the start, each listed once,
+    //=   that for each of them as many bytes as a state can lead to come to the room or more. A step leaves out one
+    //=   operation that is no waiting push, and with it a push that is taken or those that a shut leaves out.
+    ensures room { IfOk result (λ found. found ≡ Room → TakesRoom history.now room) }
 {
     let board = Board::of(alloc, history)?;
     let mut search = Search::new(alloc)?;
@@ -58,16 +61,15 @@ pub fn searched(alloc: Global, history: &[Stamped], room: u64) -> Result<Found, 
 impl Search {
     fn new(alloc: Global) -> Result<Search, AllocError>
         ensures { IfOk result (λ search.
-            (views search.done.items ≡ [])
+            (views search.done.keys ≡ [])
             × (views search.ahead.items ≡ start ∷ [])
             × (search.bytes ≡ 0)) }
     {
         let mut ahead = Vec::new(alloc);
         ahead.push(Node::start(alloc))?;
         Ok(Search {
-            done: Vec::new(alloc),
+            done: IndexSet::new(alloc),
             ahead,
-            places: HashMap::new(alloc),
             bytes: 0,
         })
     }
@@ -81,25 +83,32 @@ impl Search {
         node: Node,
     ) -> Result<Option<Found>, AllocError>
         requires { AreRising board.now }
-        ensures kept { Searched board.now (views self.old.done.items)
+        ensures kept { Searched board.now (views self.old.done.keys)
             (views self.old.ahead.items ++ view node ∷ [])
             → IfOk result (λ found. found ≡ None → IsSearched board.now self.new) }
+        ensures counted { IsCounted board.now (views self.old.done.keys)
+            (views self.old.ahead.items ++ view node ∷ []) self.old.bytes
+            → IfOk result (λ found. found ≡ None → IsCounted board.now (views self.new.done.keys)
+            (views self.new.ahead.items) self.new.bytes) }
+        ensures told { IsCounted board.now (views self.old.done.keys)
+            (views self.old.ahead.items ++ view node ∷ []) self.old.bytes
+            → IfOk result (λ found. found ≡ Some Room → HasNoRoom board.now room) }
         ensures left { IfOk result (λ found. ¬ (found ≡ Some Nothing)) }
         ensures room { IfOk result (λ found. found ≡ None → self.old.bytes ≤ room
             → self.new.bytes ≤ room) }
         ensures fewer { IfOk result (λ found. found ≡ None
-            → length self.new.ahead.items + self.old.bytes
-            ≤ length self.old.ahead.items + self.new.bytes) }
+            → length self.new.ahead.items + self.old.bytes * 18446744073709551616
+            ≤ length self.old.ahead.items + self.new.bytes * 18446744073709551616) }
     {
         if self.is_known(&node) {
             return Ok(None);
         }
         if node.is_end(&board.others.operations) {
-            let order = order(alloc, board, &self.done, &node)?;
+            let order = order(alloc, board, self.done.as_slice(), &node)?;
             return Ok(Some(Found::Order(order)));
         }
         let new = node.successors(alloc, board)?;
-        let bytes = bytes_of(&new);
+        let bytes = counted(board, &new);
         if room.saturating_sub(self.bytes) <= bytes {
             return Ok(Some(Found::Room));
         }
@@ -111,32 +120,21 @@ impl Search {
 
     // Whether a state is one of those that were tried.
     fn is_known(&self, node: &Node) -> bool
-        ensures { result ≡ true → IsIn (view node.now) (views self.now.done.items) }
+        ensures known { result ≡ true → IsIn (view node.now) (views self.now.done.keys) }
+        ensures new { result ≡ false → ¬ IsIn (view node.now) (views self.now.done.keys) }
     {
-        match self.places.get(&node.mark()) {
-            Some(place) => self.is_at(*place, node),
-            None => false,
-        }
+        self.done.contains(node)
     }
 
-    fn is_at(&self, place: usize, node: &Node) -> bool
-        ensures { result ≡ true → IsIn (view node.now) (views self.now.done.items) }
-    {
-        match self.done.get(place) {
-            Some(earlier) => node.is_same(earlier),
-            None => false,
-        }
-    }
-
-    // Puts a state to those that were tried.
+    // Puts a state to those that were tried, of which it is none.
     fn put(&mut self, node: Node) -> Result<(), AllocError>
+        requires { ¬ IsIn (view node) (views self.old.done.keys) }
         ensures { OnOk result (
-            (views self.new.done.items ≡ views self.old.done.items ++ view node ∷ [])
+            (views self.new.done.keys ≡ views self.old.done.keys ++ view node ∷ [])
             × (self.new.ahead.items ≡ self.old.ahead.items)
             × (self.new.bytes ≡ self.old.bytes)) }
     {
-        self.places.insert(node.mark(), self.done.len())?;
-        self.done.push(node)?;
+        self.done.insert(node)?;
         Ok(())
     }
 
@@ -144,7 +142,7 @@ impl Search {
     fn put_ahead(&mut self, new: Vec<Node>) -> Result<(), AllocError>
         ensures { OnOk result (
             (views self.new.ahead.items ≡ views self.old.ahead.items ++ turned (views new.items))
-            × (self.new.done.items ≡ self.old.done.items)
+            × (self.new.done ≡ self.old.done)
             × (self.new.bytes ≡ self.old.bytes)) }
     {
         let parent = self.done.len().saturating_sub(1);
@@ -156,4 +154,31 @@ impl Search {
         }
         Ok(())
     }
+}
+
+// How many bytes are counted for a state that leads to these: as many as they take, and no more than they can take.
+fn counted(board: &Board, new: &[Node]) -> u64
+    ensures most { result ≤ most_of board.now }
+    ensures few { length new.now ≤ result * 18446744073709551616 }
+{
+    let bytes = bytes_of(new);
+    let most = most_bytes(board);
+    if bytes <= most { bytes } else { most }
+}
+
+// How many bytes the states take at most to which one step leads.
+fn most_bytes(board: &Board) -> u64
+    ensures least { 1 ≤ result }
+    ensures most { result ≤ most_of board.now }
+{
+    let others = board.others.operations.len() as u64;
+    let pushes = board.pushes.operations.len() as u64;
+    let bytes = others
+        .saturating_add(pushes)
+        .saturating_mul(8)
+        .saturating_add(160);
+    let ways = others
+        .saturating_add(1)
+        .saturating_mul(pushes.saturating_add(1));
+    ways.saturating_mul(bytes)
 }

@@ -1,13 +1,15 @@
 //! The steps from a state of a search for orders in which pushes wait.
 ghost use Rattle.std.specs.Prelude.{◌≡◌, ◌++◌, ◌&&◌, ◌||◌, not, IfOk, OnOk, length, slice_get, max, is_some};
-ghost use Rattle.waiting_orders.specs.Waiting as rule;
+ghost use Rattle.std.specs.List.{AllByRecursion};
 ghost use Rattle.waiting_orders.specs.Lines as lines;
 ghost use Rattle.waiting_orders.specs.Nodes as next;
 ghost use Rattle.waiting_orders.specs.Nodes.{view, views};
+ghost use Rattle.waiting_orders.specs.Reached.{Leads};
 
+use crate::alone::first_empty;
 use crate::lines::{Pick, Rest};
 use crate::nodes::{Node, Placed};
-use crate::operations::{fits, is_closed, is_open_at, leaves};
+use crate::operations::{is_closed, is_open_at, leaves, suits};
 use crate::staying::{all_may_go, staying};
 use history::{Op, Refusal, Reply, Stamped, Taken};
 use std::alloc::{AllocError, Global};
@@ -19,6 +21,8 @@ pub(crate) struct Front {
     pub(crate) limit: Option<u64>,
     pub(crate) push_limit: Option<u64>,
     pub(crate) takes: Vec<Pick>,
+    /// The least first number of the pops told that the queue is empty, of those that may be placed.
+    pub(crate) empty: Option<u64>,
 }
 
 impl Node {
@@ -31,27 +35,38 @@ impl Node {
     ) -> Result<Vec<Node>, AllocError>
         requires others { lines.IsRising others.now }
         requires pushes { lines.IsRising pushes.now }
-        ensures { IfOk result (λ new.
+        ensures all { IfOk result (λ new.
             next.HasStepsOver others.now pushes.now (view self.now) (views new.items)) }
+        ensures each { IfOk result (λ new.
+            AllByRecursion (Leads others.now pushes.now (view self.now)) (views new.items)) }
     {
         let limit = self.others.limit(others);
         let push_limit = self.pushes.limit(pushes);
         let ways = self.others.picks(alloc, others, limit)?;
         let takes = self.pushes.picks(alloc, pushes, push_limit)?;
+        let empty = first_empty(&ways);
         let front = Front {
             limit,
             push_limit,
             takes,
+            empty,
         };
         match self.first_quiet(&front, &ways) {
             Some(at) => {
                 let new = self.quiet_step(alloc, &ways, at)?;
                 Ok(new)
             }
-            None => {
-                let new = self.all_steps(alloc, pushes, &front, &ways)?;
-                Ok(new)
-            }
+            None => match self.first_alone(others, pushes, &front, &ways) {
+                Some(alone) => {
+                    let new = self.alone_step(alloc, &front, &ways, alone)?;
+                    Ok(new)
+                }
+                None => {
+                    let behind = self.behind(alloc, pushes, limit, &ways)?;
+                    let new = self.all_steps(alloc, pushes, &front, &behind, &ways)?;
+                    Ok(new)
+                }
+            },
         }
     }
 
@@ -60,15 +75,18 @@ impl Node {
         alloc: Global,
         pushes: &[Stamped],
         front: &Front,
+        behind: &[Pick],
         ways: &[Pick],
     ) -> Result<Vec<Node>, AllocError>
         ensures { IfOk result (λ new. views new.items
-            ≡ next.steps_to (length ways.now) pushes.now (view self.now) front.now ways.now) }
+            ≡ next.steps_to (length ways.now) pushes.now (view self.now) front.now ways.now
+            ++ next.pending_of (view self.now) front.now behind.now ways.now) }
     {
         let mut new = Vec::new(alloc);
         for at in 0..ways.len() {
             self.push_steps_at(&mut new, alloc, pushes, front, ways, at)?;
         }
+        self.push_pending(&mut new, alloc, front, behind, ways)?;
         Ok(new)
     }
 
@@ -104,8 +122,7 @@ impl Node {
     {
         match way.operation.reply {
             None => match way.operation.op {
-                Op::Enq(_) => Ok(()),
-                Op::Deq => self.push_takes(new, alloc, front, way, &None),
+                Op::Enq(_) | Op::Deq => Ok(()),
                 Op::Shut => self.push_shut(new, alloc, pushes, front, way),
             },
             Some(Reply::Done) => match way.operation.op {
@@ -224,7 +241,7 @@ impl Node {
         push_where(new, alloc, holds, way, &staying, true, time)
     }
 
-    fn push_takes(
+    pub(crate) fn push_takes(
         &self,
         new: &mut Vec<Node>,
         alloc: Global,
@@ -233,7 +250,8 @@ impl Node {
         value: &Option<Taken>,
     ) -> Result<(), AllocError>
         ensures { OnOk result (views new.new.items ≡ views new.old.items
-            ++ next.takes_to (length front.now.takes.items) (rule.fits value.now) (view self.now)
+            ++ next.takes_to (length front.now.takes.items)
+            (next.suits front.now.push_limit value.now) (view self.now)
             front.now way.now) }
     {
         for at in 0..front.takes.len() {
@@ -252,7 +270,8 @@ impl Node {
         at: usize,
     ) -> Result<(), AllocError>
         ensures { OnOk result (views new.new.items ≡ views new.old.items
-            ++ next.take_at (rule.fits value.now) (view self.now) front.now way.now
+            ++ next.take_at (next.suits front.now.push_limit value.now) (view self.now) front.now
+            way.now
             (slice_get front.now.takes.items at)) }
     {
         match front.takes.get(at) {
@@ -271,10 +290,11 @@ impl Node {
         take: &Pick,
     ) -> Result<(), AllocError>
         ensures { OnOk result (views new.new.items ≡ views new.old.items
-            ++ next.take_of (rule.fits value.now) (view self.now) front.now way.now take.now) }
+            ++ next.take_of (next.suits front.now.push_limit value.now) (view self.now) front.now
+            way.now take.now) }
     {
         let time = later(self.time_of(way), take.operation.first);
-        if fits(value, &take.operation)
+        if suits(front.push_limit, value, &take.operation)
             && is_open_at(take.operation.first, front.push_limit)
             && is_open_at(time, front.limit)
         {
@@ -335,7 +355,7 @@ pub(crate) fn push(
     Ok(())
 }
 
-fn later(time: u64, first: u64) -> u64
+pub(crate) fn later(time: u64, first: u64) -> u64
     ensures { result ≡ max time first }
 {
     if time <= first { first } else { time }

@@ -55,7 +55,7 @@ fn a_late_pop_is_no_close() {
     let queue = Queue::<u8>::new(4).unwrap();
     thread::scope(|scope| {
         scope.spawn(|| {
-            thread::sleep(Duration::from_millis(20));
+            thread::sleep(Duration::from_millis(200));
             queue.push(1).unwrap();
             queue.close().unwrap();
         });

@@ -30,7 +30,7 @@ const SEATS: usize = 8;
 fn visits<R: Wait>(
     rt: &R,
     alloc: Global,
-    pool: &Numbers<SeatPool<PickedQueue>>,
+    pool: &SeatPool<Numbers<PickedQueue>>,
     number: u64,
 ) -> Tally {
     let (part, work) = if number.is_multiple_of(2) {
@@ -38,7 +38,7 @@ fn visits<R: Wait>(
     } else {
         (Part::Taker, Work::Pops)
     };
-    let mut lease = pool.queue().lease_waiting(rt, part);
+    let mut lease = pool.lease_waiting(rt, part);
     rounds(rt, alloc, pool, &mut lease, number / 2, work, VALUES, true)
 }
 
@@ -50,7 +50,7 @@ fn is_right<R: Threads + Wait + Sync>(rt: &R, alloc: Global, kind: Kind) -> Resu
         roles.push(Role::Taker)?;
     }
     let (queue, seats) = PickedQueue::new(alloc, kind, 256, &roles)?;
-    let pool = Numbers::new(SeatPool::new(alloc, queue, seats)?);
+    let pool = SeatPool::new(alloc, Numbers::new(queue), seats)?;
     let mut right = true;
     for _ in 0..ROUNDS {
         let mut all = Tally::new();
@@ -61,7 +61,10 @@ fn is_right<R: Threads + Wait + Sync>(rt: &R, alloc: Global, kind: Kind) -> Resu
         }
         right = right && all.is_right(PAIRS * VALUES);
     }
-    let Ok((mut rest, _)) = pool.into_queue().close(alloc) else {
+    let Ok((queue, seats)) = pool.into_parts(alloc) else {
+        return Ok(false);
+    };
+    let Ok((mut rest, _)) = queue.into_queue().close(alloc, seats) else {
         return Ok(false);
     };
     let all_back = rest.whole() && rest.taken() == ROUNDS * PAIRS * VALUES;

@@ -10,7 +10,7 @@ use std::test::Fail;
 type Told = (u8, u32, u8, u64);
 
 /// Words, what they ask for, and the file.
-const COMMANDS: [(&[&str], Told, &str); 32] = [
+const COMMANDS: [(&[&str], Told, &str); 33] = [
     (&[], (1, 0, 0, 0), "-"),
     (&["run", "-"], (1, 0, 0, 0), "-"),
     (&["run", "row.schedule"], (1, 0, 0, 0), "row.schedule"),
@@ -51,6 +51,7 @@ const COMMANDS: [(&[&str], Told, &str); 32] = [
     (&["post", "--queue=two-lock", "-"], (4, 0, 1, 0), "-"),
     (&["post", "a", "--queue", "nonblocking"], (4, 0, 2, 0), "a"),
     (&["post", "a", "--queue", "ring"], (4, 0, 3, 0), "a"),
+    (&["explain"], (8, 0, 0, 0), "-"),
     (&["explain", "10"], (8, 0, 0, 0), "10"),
     (&["explain", "WornOut"], (8, 0, 0, 0), "WornOut"),
     (&["explain", "17"], (8, 0, 0, 0), "17"),
@@ -111,13 +112,13 @@ const PICTURES: [(&[&str], [u64; 4], [bool; 3], &str); 7] = [
         &[
             "show",
             "a",
-            "--from=18446744073709551615",
+            "--from=18446744073709551614",
             "--to",
             "18446744073709551614",
         ],
         [
             80,
-            18_446_744_073_709_551_615,
+            18_446_744_073_709_551_614,
             18_446_744_073_709_551_614,
             0,
         ],
@@ -145,7 +146,7 @@ const COLOURED: [(&[&str], Colours); 5] = [
 ];
 
 /// Words that ask for no command, and the status.
-const OTHERS: [(&[&str], u8); 61] = [
+const OTHERS: [(&[&str], u8); 62] = [
     (&["run"], 2),
     (&["run", "a", "b"], 2),
     (&["run", "--fast", "a"], 2),
@@ -159,6 +160,16 @@ const OTHERS: [(&[&str], u8); 61] = [
     (&["show", "a", "--from", "0"], 2),
     (&["show", "a", "--from", "18446744073709551616"], 2),
     (&["show", "a", "--to", "18446744073709551616"], 2),
+    (&["show", "a", "--to", "2", "--from", "3"], 2),
+    (
+        &[
+            "show",
+            "a",
+            "--from=18446744073709551615",
+            "--to=18446744073709551614",
+        ],
+        2,
+    ),
     (&["show", "a", "--actor", "65536"], 2),
     (&["show", "a", "--history=true"], 2),
     (&["show", "a", "--why=true"], 2),
@@ -191,7 +202,6 @@ const OTHERS: [(&[&str], u8); 61] = [
     (&["post", "a", "--queue", "two_lock"], 2),
     (&["post", "a", "--queue", "Ring"], 2),
     (&["post", "--help"], 0),
-    (&["explain"], 2),
     (&["explain", "1", "2"], 2),
     (&["explain", "1", "--explain"], 2),
     (&["explain", "--help"], 0),

@@ -2,7 +2,7 @@ use Rattle.std.proofs.Common.{rules, []}
 use Rattle.std.proofs.lemmas.Result.{err_from_is_err_and}
 use Rattle.text_io.specs.Numerals.{numeral}
 use Rattle.history.specs.declared.operations.Taken.{Taken}
-use Rattle.history_text.proofs.LineReaders.{second_of_two}
+use Rattle.text_io.proofs.FirstWords.{second_of_two}
 use Rattle.history_text.proofs.replies.value_of.Goals as goal
 
 pub returns-in_err-body : goal.returns-in_err-body

@@ -1,14 +1,13 @@
-use Rattle.std.proofs.lemmas.Result.{err_from_is_err_and}
-use Rattle.job_results.proofs.JobLines.{AreOfJob-said, ReadsJob-kept}
+use Rattle.std.proofs.Common.{ℕ, List}
+use Rattle.job_results.specs.JobTexts.{IsJobInRange}
+use Rattle.job_results.specs.JobReading.{said_of, AreOfJob, SaysJob}
+use Rattle.job_results.proofs.JobLines.{SaysJob-from_words, AreOfJob-said}
+use Rattle.text_io.specs.Lines.{words_of}
+use Rattle.text_io.proofs.ReadingBack.{ReadsLine-kept}
 use Rattle.job_results.proofs.lines.job_of.Goals as goal
-
-pub returns-in_err-parts_of : goal.returns-in_err-parts_of
-returns-in_err-parts_of c =
-    let none = c.in_err-parts_of.ensures in
-    let p = err_from_is_err_and c.from_residual.result c.from_residual.ensures.1 in
-    rw (p.1, p.2, none.0) (λ job said. (rw c.of.ensures at none.1) job (AreOfJob-said c.args.line.now job said))
 
 pub returns : goal.returns
 returns c =
-    let found = c.in_ok-parts_of.ensures in
-    rw c.ok_or.ensures.value (ReadsJob-kept c.args.line.now found.0 (rw c.of.ensures at found.1) c.in_ok-parts_of.field-0 found.2)
+    let line : List ℕ = c.args.line.now in
+    rw c.kept_or_range.ensures
+    (ReadsLine-kept said_of (AreOfJob (words_of line)) (SaysJob line) IsJobInRange (SaysJob-from_words line) (AreOfJob-said line) c.parts_of.result (rw c.of.ensures at c.parts_of.ensures))

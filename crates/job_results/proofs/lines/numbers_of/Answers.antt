@@ -1,7 +1,8 @@
 use Rattle.std.proofs.Common.{rules, []}
 use Rattle.std.proofs.lemmas.Result.{err_from_is_err_and}
 use Rattle.text_io.specs.Numerals.{numeral}
-use Rattle.job_results.proofs.JobLines.{second_of_two, keeps_two}
+use Rattle.text_io.proofs.FirstWords.{second_of_two}
+use Rattle.job_results.proofs.JobLines.{keeps_two}
 use Rattle.job_results.proofs.lines.numbers_of.Goals as goal
 
 pub returns-in_err-b : goal.returns-in_err-b

@@ -2,8 +2,8 @@
 use super::sides::{AMPLE, Opened, ReceivesInTime};
 use super::stories::{EACH, PAUSE, hands_over, millis};
 use crate::tests::values::Numbered;
-use carriers::Numbers;
-use history::{Body, Fifo, Refusal};
+use carriers::{Carrier, Numbers};
+use history::{Body, Refusal};
 use node_arena::Role;
 use nonblocking::MsQueue;
 use seat_pool::{Lease, Part, SeatPool};
@@ -15,6 +15,7 @@ use std::test::Fail;
 use std::thread::Threads;
 use std::time::Clock;
 use two_lock::TwoLockQueue;
+use value_queue::MsValueQueue;
 
 /// A seat that pushes for each closer, three for senders, and three that pop.
 const EIGHT: [Role; 8] = [
@@ -29,11 +30,11 @@ const EIGHT: [Role; 8] = [
 ];
 
 // The seats of a new side of this pool: one of this part, and its closer.
-fn side<Q: Fifo + Send + Sync + Drop>(
+fn side<C: Carrier + Send + Sync + Drop>(
     alloc: Global,
-    pool: &SeatPool<Q>,
+    pool: &SeatPool<C>,
     part: Part,
-) -> Result<(Lease<Q>, Vec<Lease<Q>>), Refusal> {
+) -> Result<(Lease<C>, Vec<Lease<C>>), Refusal> {
     let (Some(closer), Some(seat)) = (pool.lease(Part::Giver), pool.lease(part)) else {
         return Err(Refusal::BadSize);
     };
@@ -45,16 +46,16 @@ fn side<Q: Fifo + Send + Sync + Drop>(
 }
 
 // The first sender and the first receiver of a queue whose seats are leased.
-fn opened<Q: Fifo + Send + Sync + Drop>(
+fn opened<C: Carrier + Send + Sync + Drop>(
     alloc: Global,
-    queue: Q,
-    seats: Vec<Q::Seat>,
-) -> Result<(Sender<Numbers<SeatPool<Q>>>, Receiver<Numbers<SeatPool<Q>>>), Refusal> {
+    queue: C,
+    seats: Vec<C::Seat>,
+) -> Result<(Sender<SeatPool<C>>, Receiver<SeatPool<C>>), Refusal> {
     let pool = SeatPool::new(alloc, queue, seats)?;
     let Some(shared) = pool.share() else {
         return Err(Refusal::Memory);
     };
-    let Ok(queue) = Arc::new(alloc, SharedQueue::new(Numbers::new(shared))) else {
+    let Ok(queue) = Arc::new(alloc, SharedQueue::new(shared)) else {
         return Err(Refusal::Memory);
     };
     let (closer, seats) = side(alloc, &pool, Part::Giver)?;
@@ -78,12 +79,10 @@ fn next_body<R: Wait + Clock, V: ReceivesInTime>(
     )
 }
 
-fn ends_by_the_last_clone<R: Abort + Wait + Clock, Q: Fifo<Seat: Sync> + Send + Sync + Drop>(
-    rt: &R,
-    alloc: Global,
-    queue: Q,
-    seats: Vec<Q::Seat>,
-) -> Result<(), Fail> {
+fn ends_by_the_last_clone<
+    R: Abort + Wait + Clock,
+    C: Carrier<Item = Body, Seat: Sync> + Send + Sync + Drop,
+>(rt: &R, alloc: Global, queue: C, seats: Vec<C::Seat>) -> Result<(), Fail> {
     let (mut sender, mut receiver) = opened(alloc, queue, seats)?;
     let (Some(one), Some(two)) = (Body::new(1), Body::new(2)) else {
         return Err(Refusal::BadSize.into());
@@ -114,11 +113,11 @@ fn ends_by_the_last_clone<R: Abort + Wait + Clock, Q: Fifo<Seat: Sync> + Send + 
     Ok(())
 }
 
-fn runs_out_of_seats<R: Abort, Q: Fifo + Send + Sync + Drop>(
+fn runs_out_of_seats<R: Abort, C: Carrier + Send + Sync + Drop>(
     rt: &R,
     alloc: Global,
-    queue: Q,
-    seats: Vec<Q::Seat>,
+    queue: C,
+    seats: Vec<C::Seat>,
 ) -> Result<(), Fail> {
     let (sender, receiver) = opened(alloc, queue, seats)?;
     let (a, b) = (sender.try_clone(), sender.try_clone());
@@ -138,8 +137,8 @@ fn runs_out_of_seats<R: Abort, Q: Fifo + Send + Sync + Drop>(
 
 fn ends_on_threads<
     R: Abort + Threads + Wait + Clock + Sync,
-    Q: Fifo<Seat: Sync> + Sync + Send + Drop,
->(rt: &R, alloc: Global, queue: Q, seats: Vec<Q::Seat>) -> Result<(), Fail> {
+    C: Carrier<Item = Body, Seat: Sync> + Sync + Send + Drop,
+>(rt: &R, alloc: Global, queue: C, seats: Vec<C::Seat>) -> Result<(), Fail> {
     let (sender, receiver) = opened(alloc, queue, seats)?;
     let (Some(other), Some(second)) = (sender.try_clone(), receiver.try_clone()) else {
         return Err(Refusal::BadSize.into());
@@ -155,24 +154,31 @@ fn ends_on_threads<
 
 #[test]
 fn the_last_clone_ends_it(rt: HostRuntime) -> Result<(), Fail> {
-    let (queue, seats) = MsQueue::new(rt.alloc(), 16, AMPLE, &EIGHT)?;
-    ends_by_the_last_clone(&rt, rt.alloc(), queue, seats)?;
-    let (queue, seats) = TwoLockQueue::new(rt.alloc(), 16, AMPLE, &EIGHT)?;
-    ends_by_the_last_clone(&rt, rt.alloc(), queue, seats)
+    let alloc = rt.alloc();
+    let (queue, seats) = MsQueue::new(alloc, 16, AMPLE, &EIGHT)?;
+    ends_by_the_last_clone(&rt, alloc, Numbers::new(queue), seats)?;
+    let (queue, seats) = TwoLockQueue::new(alloc, 16, AMPLE, &EIGHT)?;
+    ends_by_the_last_clone(&rt, alloc, Numbers::new(queue), seats)?;
+    let (queue, seats) = MsValueQueue::new(alloc, 16, AMPLE, &EIGHT)?;
+    ends_by_the_last_clone(&rt, alloc, queue, seats)
 }
 
 #[test]
 fn there_are_as_many_clones_as_seats(rt: HostRuntime) -> Result<(), Fail> {
-    let (queue, seats) = MsQueue::new(rt.alloc(), 16, AMPLE, &EIGHT)?;
-    runs_out_of_seats(&rt, rt.alloc(), queue, seats)?;
-    let (queue, seats) = TwoLockQueue::new(rt.alloc(), 16, AMPLE, &EIGHT)?;
-    runs_out_of_seats(&rt, rt.alloc(), queue, seats)
+    let alloc = rt.alloc();
+    let (queue, seats) = MsQueue::new(alloc, 16, AMPLE, &EIGHT)?;
+    runs_out_of_seats(&rt, alloc, Numbers::new(queue), seats)?;
+    let (queue, seats) = TwoLockQueue::new(alloc, 16, AMPLE, &EIGHT)?;
+    runs_out_of_seats(&rt, alloc, Numbers::new(queue), seats)
 }
 
 #[test]
 fn clones_in_threads_end_it(rt: HostRuntime) -> Result<(), Fail> {
-    let (queue, seats) = MsQueue::new(rt.alloc(), 16, AMPLE, &EIGHT)?;
-    ends_on_threads(&rt, rt.alloc(), queue, seats)?;
-    let (queue, seats) = TwoLockQueue::new(rt.alloc(), 16, AMPLE, &EIGHT)?;
-    ends_on_threads(&rt, rt.alloc(), queue, seats)
+    let alloc = rt.alloc();
+    let (queue, seats) = MsQueue::new(alloc, 16, AMPLE, &EIGHT)?;
+    ends_on_threads(&rt, alloc, Numbers::new(queue), seats)?;
+    let (queue, seats) = TwoLockQueue::new(alloc, 16, AMPLE, &EIGHT)?;
+    ends_on_threads(&rt, alloc, Numbers::new(queue), seats)?;
+    let (queue, seats) = MsValueQueue::new(alloc, 16, AMPLE, &EIGHT)?;
+    ends_on_threads(&rt, alloc, queue, seats)
 }

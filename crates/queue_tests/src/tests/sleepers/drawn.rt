@@ -310,7 +310,8 @@ fn each_value_is_received_or_left_or_comes_back(rt: HostRuntime) -> Result<(), F
     let mut all = 0u64;
     let runs = runs(&rt);
     for number in 0..runs {
-        let nodes = draw.random_range(2..8u32);
+        // (One of the queue, one for a value, and one that whoever goes early may take along, on each side.)
+        let nodes = draw.random_range(4..8u32);
         let seed = draw.random_range(0..1u64 << 30);
         let found = run_over(&rt, number, nodes, seed)?;
         let wanted = Found {

@@ -1,14 +1,13 @@
-use Rattle.std.proofs.lemmas.Result.{err_from_is_err_and}
-use Rattle.recording_text.proofs.Spelling.{AreOfOperation-said, ReadsOperation-kept}
+use Rattle.std.proofs.Common.{ℕ, List}
+use Rattle.recording_text.specs.RecordingLines.{IsOperationInRange}
+use Rattle.recording_text.specs.RecordingReading.{said_of, AreOfOperation, SaysOperation}
+use Rattle.recording_text.proofs.Spelling.{SaysOperation-from_words, AreOfOperation-said}
+use Rattle.text_io.specs.Lines.{words_of}
+use Rattle.text_io.proofs.ReadingBack.{ReadsLine-kept}
 use Rattle.recording_text.proofs.lines.operation_of.Goals as goal
-
-pub returns-in_err-parts_of : goal.returns-in_err-parts_of
-returns-in_err-parts_of c =
-    let none = c.in_err-parts_of.ensures in
-    let p = err_from_is_err_and c.from_residual.result c.from_residual.ensures.1 in
-    rw (p.1, p.2, none.0) (λ r said. (rw c.of.ensures at none.1) r (AreOfOperation-said c.args.line.now r said))
 
 pub returns : goal.returns
 returns c =
-    let found = c.in_ok-parts_of.ensures in
-    rw c.ok_or.ensures.value (ReadsOperation-kept c.args.line.now found.0 (rw c.of.ensures at found.1) c.in_ok-parts_of.field-0 found.2)
+    let line : List ℕ = c.args.line.now in
+    rw c.kept_or_range.ensures
+    (ReadsLine-kept said_of (AreOfOperation (words_of line)) (SaysOperation line) IsOperationInRange (SaysOperation-from_words line) (AreOfOperation-said line) c.parts_of.result (rw c.of.ensures at c.parts_of.ensures))

@@ -25,16 +25,16 @@ returns-in_err-put_results g c =
     (Writes-refused _ _ _ c.in_ok-put.ensures.quiet _ _ _ _ c.in_err-put_results.ensures
     (pieces_stop_at_second _ _ _ (results_header_text (length c.args.results.now)) rows counts _ s c.in_err-put_results.ensures.prefix))
 
-pub returns-in_err-put_job_counts : goal.returns-in_err-put_job_counts
-returns-in_err-put_job_counts g c =
-    let p = err_from_is_err_and c.from_residual-in_err-put_job_counts.result c.from_residual-in_err-put_job_counts.ensures.1 in
+pub returns-in_err-put_counts : goal.returns-in_err-put_counts
+returns-in_err-put_counts g c =
+    let p = err_from_is_err_and c.from_residual-in_err-put_counts.result c.from_residual-in_err-put_counts.ensures.1 in
     let s = rw (c.new-block.ensures, c.as_slice.ensures, c.results_header_line.ensures) at c.in_ok-put.ensures.ok in
     rw (p.1, p.2)
-    (Writes-refused _ _ _ (c.in_ok-put_results.ensures.quiet ∙ c.in_ok-put.ensures.quiet) _ _ _ _ c.in_err-put_job_counts.ensures
-    (pieces_stop_at_third _ _ _ _ (results_header_text (length c.args.results.now)) _ _ _ _ s c.in_ok-put_results.ensures.ok c.in_err-put_job_counts.ensures.prefix))
+    (Writes-refused _ _ _ (c.in_ok-put_results.ensures.quiet ∙ c.in_ok-put.ensures.quiet) _ _ _ _ c.in_err-put_counts.ensures
+    (pieces_stop_at_third _ _ _ _ (results_header_text (length c.args.results.now)) _ _ _ _ s c.in_ok-put_results.ensures.ok c.in_err-put_counts.ensures.prefix))
 
 pub returns : goal.returns
 returns g c =
     let s = rw (c.new-block.ensures, c.as_slice.ensures, c.results_header_line.ensures) at c.in_ok-put.ensures.ok in
-    let sends = pieces_done _ _ _ _ (results_header_text (length c.args.results.now)) _ _ _ _ _ s c.in_ok-put_results.ensures.ok c.in_ok-put_job_counts.ensures.ok in
-    Writes-held _ _ _ (c.in_ok-put_job_counts.ensures.quiet ∙ c.in_ok-put_results.ensures.quiet ∙ c.in_ok-put.ensures.quiet) _ _ c.finish.result sends c.finish.ensures
+    let sends = pieces_done _ _ _ _ (results_header_text (length c.args.results.now)) _ _ _ _ _ s c.in_ok-put_results.ensures.ok c.in_ok-put_counts.ensures.ok in
+    Writes-held _ _ _ (c.in_ok-put_counts.ensures.quiet ∙ c.in_ok-put_results.ensures.quiet ∙ c.in_ok-put.ensures.quiet) _ _ c.finish.result sends c.finish.ensures

@@ -5,19 +5,19 @@ use Rattle.seat_pool.proofs.leases.Lease.try_push.Goals as goal
 
 pub try_push-requires-clause-seat : goal.try_push-requires-clause-seat
 try_push-requires-clause-seat g c = let held = c.args.self.now.held in
-    sits g.Q.Fifo.is_seat g.Q.Fifo.permits g.Q.Fifo.known g.met.Q.Fifo.seat_prop held.home.value c.deref.result.now.home (c.args.self.now.home ∙ ap (λ s. s.home) (sym c.deref.ensures))
+    sits g.C.Carrier.is_seat g.C.Carrier.permits g.C.Carrier.known g.met.C.Carrier.seat_prop held.home.value c.deref.result.now.home (c.args.self.now.home ∙ ap (λ s. s.home) (sym c.deref.ensures))
     held.place held.part held.seat held.belongs
 
 pub try_push-requires-clause-role : goal.try_push-requires-clause-role
 try_push-requires-clause-role g c = let held = c.args.self.now.held in
-    may_push g.Q.Fifo.is_seat g.Q.Fifo.permits g.Q.Fifo.known g.met.Q.Fifo.seat_prop held.home.value c.deref.result.now.home (c.args.self.now.home ∙ ap (λ s. s.home) (sym c.deref.ensures))
+    may_push g.C.Carrier.is_seat g.C.Carrier.permits g.C.Carrier.known g.met.C.Carrier.seat_prop held.home.value c.deref.result.now.home (c.args.self.now.home ∙ ap (λ s. s.home) (sym c.deref.ensures))
     held.place held.part held.seat held.belongs c.requires.part
 
 pub invariant_of-self : goal.invariant_of-self
 invariant_of-self g c = let held = c.args.self.now.held in (
   held.taken,
   (
-    still g.Q.Fifo.is_seat g.Q.Fifo.permits g.Q.Fifo.known held.home.value c.deref.result.now.home (c.args.self.now.home ∙ ap (λ s. s.home) (sym c.deref.ensures))
+    still g.C.Carrier.is_seat g.C.Carrier.permits g.C.Carrier.known held.home.value c.deref.result.now.home (c.args.self.now.home ∙ ap (λ s. s.home) (sym c.deref.ensures))
         held.place held.part held.seat c.try_push.new.seat held.belongs c.try_push.ensures.seat c.try_push.ensures.number,
     tt,
   ),

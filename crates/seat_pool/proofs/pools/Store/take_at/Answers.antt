@@ -6,14 +6,14 @@ use Rattle.seat_pool.proofs.pools.Store.take_at.Goals as goal
 pub load_new_seat-token-requires : goal.load_new_seat-token-requires
 load_new_seat-token-requires g c = (
   c.requires,
-  enters g.Q.Fifo.is_seat g.Q.Fifo.permits g.Q.Fifo.known c.args.self.now.table.shared.key c.args.self.now.table.shared.table_id.slots c.args.place,
+  enters g.C.Carrier.is_seat g.C.Carrier.permits g.C.Carrier.known c.args.self.now.table.shared.key c.args.self.now.table.shared.table_id.slots c.args.place,
 )
 
 pub compare_exchange-requires : goal.compare_exchange-requires
 compare_exchange-requires g c = (
   c.load_new_seat-token.ensures.0,
   c.requires,
-  takes_at g.Q.Fifo.is_seat g.Q.Fifo.permits g.Q.Fifo.known c.args.self.now.table.shared.key c.args.self.now.table.shared.table_id.slots c.load_new_seat-token.result.1.id c.args.place
+  takes_at g.C.Carrier.is_seat g.C.Carrier.permits g.C.Carrier.known c.args.self.now.table.shared.key c.args.self.now.table.shared.table_id.slots c.load_new_seat-token.result.1.id c.args.place
       (subst (λ n. c.args.place < n) c.args.self.now.sized c.requires) c.args.part c.number-number.result c.number-number.ensures c.load_new_seat-token.result.1.me c.load_new_seat-token.ensures.2,
 )
 

@@ -11,8 +11,8 @@ use Rattle.seat_pool.proofs.pools.Store.take_each.Goals as goal
 pub loop-place-preserved : goal.loop-place-preserved
 loop-place-preserved g c =
     let store = c.args.self.now in
-    let numbers = numbers_of g.Q.Fifo.known store in
-    let many = length-map store.home.first.value.items (λ s. (g.Q.Fifo.known s).number) in
+    let numbers = numbers_of g.C.Carrier.known store in
+    let many = length-map store.home.first.value.items (λ s. (g.C.Carrier.known s).number) in
     elim c.match-take_any.branch [
       | in-Some w ↦
           let held = w.in-Some.held in let from = w.in-Some.ensures.from in record {
@@ -21,10 +21,10 @@ loop-place-preserved g c =
             few = omega (arith, w.out-is, c.loop-place.invariant.few);
             many = omega (arith, ap vec_len w.all-is, w.push_reserved.ensures.len, c.loop-place.invariant.many);
             room = omega (arith, ap vec_capacity w.all-is, w.push_reserved.ensures.capacity, c.loop-place.invariant.room);
-            numbers = λ none_out. ap (λ v. map (λ h. (g.Q.Fifo.known h.seat).number) v.items) w.all-is
-                ∙ numbers-next (λ h. (g.Q.Fifo.known h.seat).number) numbers c.loop-place.place (c.loop-place.place + 1) held c.loop-place.all.items w.push_reserved.new.self.items refl
+            numbers = λ none_out. ap (λ v. map (λ h. (g.C.Carrier.known h.seat).number) v.items) w.all-is
+                ∙ numbers-next (λ h. (g.C.Carrier.known h.seat).number) numbers c.loop-place.place (c.loop-place.place + 1) held c.loop-place.all.items w.push_reserved.new.self.items refl
                 (omega (arith, c.loop-place-test.true, c.places-place-end.ensures, store.seated, many))
-                (numbered g.Q.Fifo.is_seat g.Q.Fifo.permits g.Q.Fifo.known g.met.Q.Fifo.seat_prop held.home.value store.home from.home held.place held.part held.seat held.belongs
+                (numbered g.C.Carrier.is_seat g.C.Carrier.permits g.C.Carrier.known g.met.C.Carrier.seat_prop held.home.value store.home from.home held.place held.part held.seat held.belongs
                 ∙ ap (λ k. get_or numbers k 0) w.in-Some.ensures.place)
                 w.push_reserved.ensures.items (c.loop-place.invariant.numbers (sym w.out-is ∙ none_out));
           }
@@ -40,6 +40,6 @@ loop-place-preserved g c =
 pub returns-clause-numbers : goal.returns-clause-numbers
 returns-clause-numbers g c none_out =
     let store = c.args.self.now in
-    let many = length-map store.home.first.value.items (λ s. (g.Q.Fifo.known s).number) in
+    let many = length-map store.home.first.value.items (λ s. (g.C.Carrier.known s).number) in
     c.loop-place.invariant.numbers none_out
-    ∙ take_all c.loop-place.place (numbers_of g.Q.Fifo.known store) (omega (arith, c.loop-place-test.false, c.places-place-end.ensures, store.seated, many))
+    ∙ take_all c.loop-place.place (numbers_of g.C.Carrier.known store) (omega (arith, c.loop-place-test.false, c.places-place-end.ensures, store.seated, many))

@@ -9,5 +9,5 @@ invariant-loop-place g l = record {
   few : l.out ≤ l.place;
   many : vec_len l.all ≤ l.place;
   room : places_of l.self ≤ vec_capacity l.all;
-  numbers : l.out ≡ 0 → map (λ h. (g.Q.Fifo.known h.seat).number) l.all.items ≡ take l.place (numbers_of g.Q.Fifo.known l.self);
+  numbers : l.out ≡ 0 → map (λ h. (g.C.Carrier.known h.seat).number) l.all.items ≡ take l.place (numbers_of g.C.Carrier.known l.self);
 }

@@ -1,6 +1,7 @@
 -- All that was kept, and all behind those that began by the limit.
 use Rattle.std.proofs.Common.{◌≡◌, ◌++◌, ap, ◌∙◌}
 use Rattle.waiting_orders.specs.Lines.{all_kept, later_to, view_left, view_picks}
+use Rattle.waiting_orders.proofs.Leading.{picked_of}
 use Rattle.waiting_orders.proofs.Picks.{picks_pushed, picked_are}
 use Rattle.waiting_orders.proofs.lines.Rest.picks.Goals as goal
 
@@ -16,4 +17,5 @@ returns c =
     record {
       all = picks_pushed ops left c.args.limit until picks c.until-until.ensures.past made;
       each = picked_are ops left until picks made;
+      left = picked_of ops left until picks made;
     }

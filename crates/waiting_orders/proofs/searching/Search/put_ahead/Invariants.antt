@@ -5,7 +5,7 @@ use Rattle.waiting_orders.proofs.searching.Search.put_ahead.Given as goal
 abbrev pub invariant-loop-node : goal.invariant-loop-node
 invariant-loop-node l =
     (views l.self.ahead.items ++ turned (views l.new.items) ≡ views l.initial.self.ahead.items ++ turned (views l.initial.new.items))
-    × (l.self.done.items ≡ l.initial.self.done.items)
+    × (l.self.done ≡ l.initial.self.done)
     × (l.self.bytes ≡ l.initial.self.bytes)
 
 abbrev pub decreases-loop-node : goal.decreases-loop-node
