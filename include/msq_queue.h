@@ -1,342 +1,313 @@
 /*
- * A queue of pointers for any threads, which share it by its address. Each call leases a seat for as long as it looks, and sleeps
- * without one. So no thread has a seat of its own, and a queue serves more threads than it has seats: a try that finds each seat
- * leased answers MSQ_BUSY, and a call that waits, a look or a shut yields and tries again, as long as its time lasts; without a
- * time, until one is free.
+ * A queue of pointers for any threads, which share it by its address: first in, first out, with room for exactly as many as are
+ * asked for. It is counted: msq_queue_ref makes a reference more, and with the last msq_queue_unref it is freed. A thread that
+ * calls it has a reference, or knows of one that stays meanwhile.
  *
- * A pointer that was pushed comes out once. Those of one thread come in its order. It is below 2^48, as each address of a program
- * on x86-64 Linux is that asks for none above.
+ * Of each call there are four: one that waits as long as it takes, a try that never waits, and two with a time. A try tells EMPTY,
+ * FULL or BUSY; what has a time tells MSQ_TIMED_OUT, whatever was in the way. MSQ_CLOSED tells that the queue was closed, to a pop
+ * once it is empty too; MSQ_WORN that the counts of its words are at their limit, which of MSQ_RING takes 2^62 pushes, and of the
+ * others 2^47. What isn't done leaves the object with the caller.
  *
- * Who pops the last value, or is told of a shut, may destroy the queue: msq_destroy waits until the push that it came by, or that
- * shut, has rung and is over. Any other call has to be over before.
+ * An object that was pushed is popped once; those of one thread come in its order. A pointer is below 2^48, as each address of a
+ * program on x86-64 Linux is that asks for none above. No call is made by a signal handler, or in a forked child.
  *
- * Only tested, as all of msq_lease.h and msq_wait.h. What the caller owes stands in msq.h.
+ * That nobody sleeps on beside what it waits for is proved of the steps of a call; the table and the sleep around them, in
+ * msq_calls.h, are tested.
  */
 #ifndef MSQ_QUEUE_H
 #define MSQ_QUEUE_H
 
-#include "msq_lease.h"
+#include "msq_calls.h"
 
-/* A queue of pointers. All zeros are none. */
-typedef struct msq_queue {
-    msq_seat_pool seats;
-} msq_queue;
+/* A side of a queue: who waits for an object, or for room. */
+typedef enum msq_side { MSQ_FOR_OBJECTS = MSQ_POPS, MSQ_FOR_ROOM = MSQ_PUSHES } msq_side;
 
-/* What is done with a pointer that is left at the end, with the context that the caller gave. */
-typedef void (*msq_free_one)(void *object, void *context);
+/* A push of an object, or a pop, of which one of several is to be done; `code` is what it answered. */
+typedef struct msq_case {
+    msq_queue *queue;
+    msq_side side;
+    void *object;
+    msq_code code;
+} msq_case;
+
+/* How many calls of a queue may be under way at one moment where nothing else is said, and the cases of one msq_select, at most. */
+#define MSQ_CALLS_AT_ONCE 16
+#define MSQ_MOST_CASES 64
 
 MSQ_BEGIN
 
-/*
- * Makes a queue, all zeros before, with room for `capacity` pointers, and seats for `threads` threads that call it at one time,
- * up to 65,535, or 32,767 of MSQ_RING. More may find room, as many as there are seats at most; in MSQ_RING
- * none, but where `capacity` is 1 one more.
- * MSQ_OK; MSQ_BAD_SIZE, MSQ_MEMORY, or MSQ_IN_USE where there is a queue already: refused, it changes nothing.
- */
-MSQ_NODISCARD MSQ_INLINE uint32_t msq_queue_open(msq_queue *queue, uint32_t kind, uint32_t capacity, uint16_t threads);
-
-/*
- * Pushes a pointer. Where the queue is full, the first answers MSQ_NO_NODE, the second sleeps as long as it takes, and the third
- * for so many nanoseconds at most.
- * What msq_push_wake, msq_push_wait and msq_push_wait_for answer, the first MSQ_BUSY also where each seat is leased; MSQ_BAD_SIZE
- * where the pointer is from 2^48 on.
- */
-MSQ_NODISCARD MSQ_INLINE uint32_t msq_queue_push(msq_queue *queue, void *object);
-MSQ_NODISCARD MSQ_INLINE uint32_t msq_queue_push_wait(msq_queue *queue, void *object);
-MSQ_NODISCARD MSQ_INLINE uint32_t msq_queue_push_wait_for(msq_queue *queue, void *object, uint64_t ns);
-
-/*
- * Pops the pointer at the front. Where the queue is empty, the first answers MSQ_EMPTY, the second sleeps as long as it takes,
- * and the third for so many nanoseconds at most. What msq_pop_wake, msq_pop_wait and msq_pop_wait_for answer, the first MSQ_BUSY
- * also where each seat is leased; `object` is written at MSQ_OK alone.
- */
-MSQ_NODISCARD MSQ_INLINE uint32_t msq_queue_pop(msq_queue *queue, void **object);
-MSQ_NODISCARD MSQ_INLINE uint32_t msq_queue_pop_wait(msq_queue *queue, void **object);
-MSQ_NODISCARD MSQ_INLINE uint32_t msq_queue_pop_wait_for(msq_queue *queue, void **object, uint64_t ns);
-
-/*
- * Shuts the queue: no push comes after it, what is in it stays to be popped, and all that sleep are woken.
- * What msq_shut_wake answers, but for MSQ_BUSY: it tries again.
- */
-MSQ_INLINE uint32_t msq_queue_shut(msq_queue *queue);
-
-/* What msq_emptiness, msq_len and msq_left tell. */
-MSQ_NODISCARD MSQ_INLINE uint32_t msq_queue_emptiness(msq_queue *queue);
-MSQ_NODISCARD MSQ_INLINE uint32_t msq_queue_len(msq_queue *queue, msq_length *length);
-MSQ_NODISCARD MSQ_INLINE uint32_t msq_queue_left(msq_queue *queue, msq_remaining *left);
-
-/*
- * Ends a queue, once each call that has pushed, popped or shut is over. Each pointer left goes to `free_one`, from the front, with
- * the context, unless `free_one` is NULL. There is no queue afterwards.
- * MSQ_OK; MSQ_NO_SEAT where there is none; MSQ_MEMORY, only where a word is worn: the queue then has what no call of `free_one`
- * got.
- */
-MSQ_INLINE uint32_t msq_destroy(msq_queue *queue, msq_free_one free_one, void *context);
-
-/* The place where this thread begins to look for a seat, modulo how many there are: another one for each of so many threads. */
-MSQ_INLINE size_t msq_first_place(void) {
-    static size_t next;
-    static __thread size_t mine;
-    if (mine == 0) {
-        mine = __atomic_fetch_add(&next, 1, __ATOMIC_SEQ_CST) + 1;
+/* A new queue, whose words count up to a limit. Its handles are made at the front of their places, and then put apart. */
+MSQ_NODISCARD MSQ_INLINE msq_code msq_queue_open(msq_queue **queue, msq_kind kind, size_t capacity, unsigned calls, uint64_t limit,
+                                                 msq_free_one free_one, void *context) {
+    const size_t count = calls > 0 ? calls : capacity < MSQ_CALLS_AT_ONCE - 2 ? capacity + 2 : MSQ_CALLS_AT_ONCE;
+    msq_queue *made = (msq_queue *)calloc(1, sizeof *made);
+    struct msq_place *places = (struct msq_place *)calloc(count, sizeof *places);
+    msq_share *shares = (msq_share *)(void *)places;
+    msq_code code = MSQ_MEMORY;
+    if (capacity > UINT32_MAX || count > INT16_MAX) {
+        code = MSQ_BAD_SIZE;
+    } else if (made != NULL && places != NULL) {
+        code = (msq_code)msq_shares_create((uint32_t)kind, (uint32_t)capacity, limit, shares, count);
     }
-    return mine;
-}
-
-/* A seat, if one is free; else none. Each of these seats pushes and pops. */
-MSQ_INLINE msq_seat *msq_lease_free(msq_seat_pool *pool) {
-    size_t place = pool->count > 0 ? msq_first_place() % pool->count : 0;
-    for (size_t k = 0; k < pool->count; k++) {
-        if (msq_lease_at(pool, place)) {
-            return &pool->places[place].seat;
-        }
-        place = place + 1 < pool->count ? place + 1 : 0;
-    }
-    return NULL;
-}
-
-/* A seat, once one is free; none of no queue. */
-MSQ_INLINE msq_seat *msq_lease_once_free(msq_seat_pool *pool) {
-    msq_seat *seat = msq_lease_free(pool);
-    while (seat == NULL && pool->count > 0) {
-        sched_yield();
-        seat = msq_lease_free(pool);
-    }
-    return seat;
-}
-
-/*
- * A call of a queue whose values are of this width: a value is given, or an item taken. A push has so many turns: places for words
- * are tried one a turn, and so one that is busy has twice the turns when it looks again, up to `most`.
- */
-struct msq_leasing {
-    const struct msq_width *width;
-    msq_seat_pool *pool;
-    const void *given;
-    void *item;
-    size_t turns, most;
-};
-
-/* A look by a seat that is leased for it: busy where none is free. It rings before its seat is given back. */
-MSQ_INLINE uint32_t msq_look_by_lease(const struct msq_want *want) {
-    struct msq_leasing *all = (struct msq_leasing *)want->queue;
-    msq_seat_pool *pool = all->pool;
-    msq_seat *seat;
-    uint32_t code;
-    seat = msq_lease_free(pool);
-    if (seat == NULL) {
-        return pool->count > 0 ? MSQ_BUSY : MSQ_NO_SEAT;
-    }
-    if (want->pops) {
-        code = msq_popped(&pool->bells, msq_wide_pop(all->width, seat, MSQ_TURNS, all->item));
-    } else {
-        code = msq_pushed(&pool->bells, msq_wide_push(all->width, seat, all->given, (uint32_t)all->turns));
-    }
-    msq_release(pool, seat);
-    if (code == MSQ_BUSY && all->turns < all->most) {
-        all->turns = 2 * all->turns < all->most ? 2 * all->turns : all->most;
-    }
-    return code;
-}
-
-/* A push of what is given, or a pop into an item: a try where there is no time. A try, or a push without end, tries each place. */
-MSQ_INLINE uint32_t msq_pool_call(const struct msq_width *width, msq_seat_pool *pool, const void *given, void *item,
-                                  uint64_t ns) {
-    const bool tries_each = width->in_places && (ns == 0 || ns == MSQ_FOREVER) && pool->room > MSQ_TURNS;
-    const size_t most = tries_each ? pool->room : MSQ_TURNS;
-    struct msq_leasing all = {width, pool, given, item, ns == 0 ? most : MSQ_TURNS, most};
-    const struct msq_want want = {NULL, &pool->bells, item != NULL, NULL, 0, msq_look_by_lease, &all};
-    return ns == 0 ? msq_look_by_lease(&want) : msq_look_for(&want, ns);
-}
-
-MSQ_INLINE uint32_t msq_pool_shut(const struct msq_width *width, msq_seat_pool *pool) {
-    uint32_t code = MSQ_NO_SEAT;
-    msq_seat *seat = msq_lease_once_free(pool);
-    if (seat == NULL) {
+    if (code != MSQ_OK) {
+        free(places);
+        free(made);
         return code;
     }
-    while ((code = msq_wide_shut(width, seat, MSQ_TURNS)) == MSQ_BUSY) {
-        sched_yield();
+    for (size_t k = count; k-- > 0;) {
+        const struct msq_place place = {shares[k], false, {0}};
+        places[k] = place;
     }
-    msq_tell_end(&pool->bells, code == MSQ_OK ? (uint32_t)MSQ_CLOSED : code);
-    msq_release(pool, seat);
-    return code;
+    const msq_queue filled = {places, count, capacity, 1, {{NULL, 0}, {NULL, 0}}, false, free_one, context};
+    *made = filled;
+    *queue = made;
+    return MSQ_OK;
 }
 
-MSQ_INLINE uint32_t msq_pool_emptiness(const struct msq_width *width, msq_seat_pool *pool) {
-    uint32_t code = MSQ_NO_SEAT;
-    msq_seat *seat = msq_lease_once_free(pool);
-    if (seat != NULL) {
-        code = msq_wide_emptiness(width, seat);
-        msq_release(pool, seat);
+/* What a call answers that has a time, or none, or whose try found nothing so. */
+MSQ_INLINE msq_code msq_told(msq_queue *queue, msq_code code, bool has_time, msq_code nothing) {
+    if (code == MSQ_CLOSED || code == MSQ_WORN) {
+        __atomic_store_n(&queue->is_closed, true, __ATOMIC_RELAXED);
     }
-    return code;
+    if (has_time && (code == MSQ_EMPTY || code == MSQ_BUSY)) {
+        return MSQ_TIMED_OUT;
+    }
+    return code == MSQ_EMPTY ? nothing : code;
 }
 
-MSQ_INLINE uint32_t msq_pool_len(const struct msq_width *width, msq_seat_pool *pool, msq_length *length) {
-    uint32_t code = MSQ_NO_SEAT;
-    msq_seat *seat = msq_lease_once_free(pool);
-    if (seat != NULL) {
-        code = msq_wide_len(width, seat, length);
-        msq_release(pool, seat);
-    }
-    return code;
-}
-
-MSQ_INLINE uint32_t msq_pool_left(msq_seat_pool *pool, msq_remaining *left) {
-    uint32_t code = MSQ_NO_SEAT;
-    msq_seat *seat = msq_lease_once_free(pool);
-    if (seat != NULL) {
-        code = msq_left(seat, left);
-        msq_release(pool, seat);
-    }
-    return code;
-}
-
-MSQ_INLINE uint32_t msq_pool_open(const struct msq_width *width, msq_seat_pool *pool, uint32_t kind, uint32_t capacity,
-                                  uint16_t threads) {
-    uint8_t *roles;
-    uint32_t code = MSQ_MEMORY;
-    if (capacity < 1 || threads < 1 || capacity > MSQ_MOST_NODES - threads - 1) {
+/* A push up to this moment, or a stop, if there is one. */
+MSQ_INLINE msq_code msq_queue_put(msq_queue *queue, void *object, bool tries, const msq_moment *until, const uint32_t *stop) {
+    struct msq_going push;
+    if ((uint64_t)(uintptr_t)object >> 48 != 0) {
         return MSQ_BAD_SIZE;
     }
-    roles = (uint8_t *)malloc(threads);
-    if (roles != NULL) {
-        const uint32_t nodes = kind != MSQ_RING ? capacity + 1 + threads : capacity == 1 ? 2 : capacity;
-        for (size_t place = 0; place < threads; place++) {
-            roles[place] = MSQ_BOTH;
-        }
-        code = msq_pool_create(width, pool, kind, nodes, MSQ_MOST_COUNT, roles, threads);
-        free(roles);
-    }
-    return code;
+    msq_start(&push, MSQ_PUSHES, true, (uintptr_t)object);
+    return msq_told(queue, msq_make(queue, &push, !tries, until, stop), until != NULL || stop != NULL, MSQ_FULL);
 }
 
-/* What is done with an item that is left at the end; it begins with the value. */
-typedef void (*msq_free_item)(const void *item, const void *how);
-
-/* Ends a queue of which a word is worn, so that pops end before it is empty. */
-MSQ_INLINE uint32_t msq_pool_destroy_worn(const struct msq_width *width, msq_seat_pool *pool, msq_free_item free_item,
-                                          const void *how) {
-    msq_rest rest = {0, 0, false, false};
-    uint32_t code = MSQ_MEMORY;
-    const size_t room = pool->room;
-    char *items = (char *)calloc(room, width->item);
-    if (items != NULL) {
-        code = msq_pool_close(width, pool, items, room, &rest);
-        for (uint64_t k = 0; code == MSQ_OK && k < rest.left; k++) {
-            free_item(items + k * width->item, how);
-        }
-        free(items);
-    }
-    return code;
-}
-
-/* Leases each seat once its call is over, and waits for those calls that have released theirs and listen yet. */
-MSQ_INLINE void msq_lease_each(msq_seat_pool *pool) {
-    for (size_t place = 0; place < pool->count; place++) {
-        while (!msq_lease_at(pool, place)) {
-            sched_yield();
-        }
-    }
-    while (__atomic_load_n(&pool->bells.values.listeners, __ATOMIC_SEQ_CST) != 0 ||
-           __atomic_load_n(&pool->bells.nodes.listeners, __ATOMIC_SEQ_CST) != 0) {
-        sched_yield();
-    }
-}
-
-MSQ_INLINE uint32_t msq_pool_destroy(const struct msq_width *width, msq_seat_pool *pool, msq_free_item free_item,
-                                     const void *how) {
-    uint32_t code = MSQ_BUSY;
-    uint64_t item[4] = {0, 0, 0, 0}; /* as large as the largest */
-    if (pool->places == NULL) {
-        return MSQ_NO_SEAT;
-    }
-    msq_lease_each(pool);
-    while (code == MSQ_BUSY || code == MSQ_OK) {
-        code = msq_wide_pop(width, &pool->places[0].seat, MSQ_TURNS, item);
-        if (code == MSQ_OK) {
-            free_item(item, how);
-        }
-    }
-    if (code == MSQ_EMPTY || code == MSQ_CLOSED) {
-        msq_pool_drop(width, pool);
-        return MSQ_OK;
-    }
-    code = msq_pool_destroy_worn(width, pool, free_item, how);
-    if (code != MSQ_OK) {
-        msq_release_before(pool, pool->count);
-    }
-    return code;
-}
-
-MSQ_INLINE uint32_t msq_queue_open(msq_queue *queue, uint32_t kind, uint32_t capacity, uint16_t threads) {
-    return msq_pool_open(msq_numbers(), &queue->seats, kind, capacity, threads);
-}
-
-MSQ_INLINE uint32_t msq_queue_push(msq_queue *queue, void *object) {
-    return msq_queue_push_wait_for(queue, object, 0);
-}
-
-MSQ_INLINE uint32_t msq_queue_push_wait_for(msq_queue *queue, void *object, uint64_t ns) {
-    const uint64_t body = (uintptr_t)object;
-    return msq_pool_call(msq_numbers(), &queue->seats, &body, NULL, ns);
-}
-
-MSQ_INLINE uint32_t msq_queue_push_wait(msq_queue *queue, void *object) {
-    return msq_queue_push_wait_for(queue, object, MSQ_FOREVER);
-}
-
-MSQ_INLINE uint32_t msq_queue_pop(msq_queue *queue, void **object) {
-    return msq_queue_pop_wait_for(queue, object, 0);
-}
-
-MSQ_INLINE uint32_t msq_queue_pop_wait_for(msq_queue *queue, void **object, uint64_t ns) {
-    msq_value value = {0, 0};
-    const uint32_t code = msq_pool_call(msq_numbers(), &queue->seats, NULL, &value, ns);
+/* A pop up to this moment, or a stop, if there is one. */
+MSQ_INLINE msq_code msq_queue_get(msq_queue *queue, void **object, bool tries, const msq_moment *until, const uint32_t *stop) {
+    struct msq_going pop;
+    msq_code code;
+    msq_start(&pop, MSQ_POPS, true, 0);
+    code = msq_make(queue, &pop, !tries, until, stop);
     if (code == MSQ_OK) {
-        *object = (void *)(uintptr_t)value.body;
+        *object = (void *)(uintptr_t)pop.word;
     }
-    return code;
+    return msq_told(queue, code, until != NULL || stop != NULL, MSQ_EMPTY);
 }
 
-MSQ_INLINE uint32_t msq_queue_pop_wait(msq_queue *queue, void **object) {
-    return msq_queue_pop_wait_for(queue, object, MSQ_FOREVER);
-}
-
-MSQ_INLINE uint32_t msq_queue_shut(msq_queue *queue) {
-    return msq_pool_shut(msq_numbers(), &queue->seats);
-}
-
-MSQ_INLINE uint32_t msq_queue_emptiness(msq_queue *queue) {
-    return msq_pool_emptiness(msq_numbers(), &queue->seats);
-}
-
-MSQ_INLINE uint32_t msq_queue_len(msq_queue *queue, msq_length *length) {
-    return msq_pool_len(msq_numbers(), &queue->seats, length);
-}
-
-MSQ_INLINE uint32_t msq_queue_left(msq_queue *queue, msq_remaining *left) {
-    return msq_pool_left(&queue->seats, left);
-}
-
-/* Whom pointers go to that are left. */
-struct msq_pointers_end {
-    msq_free_one free_one;
-    void *context;
-};
-
-MSQ_INLINE void msq_free_pointer(const void *item, const void *how) {
-    const struct msq_pointers_end *end = (const struct msq_pointers_end *)how;
-    const uint64_t body = *(const uint64_t *)item;
-    if (end->free_one != NULL) {
-        end->free_one((void *)(uintptr_t)body, end->context);
+MSQ_INLINE void msq_queue_free_one(const msq_queue *queue, void *object) {
+    if (queue->free_one != NULL) {
+        queue->free_one(object, queue->context);
     }
 }
 
-MSQ_INLINE uint32_t msq_destroy(msq_queue *queue, msq_free_one free_one, void *context) {
-    const struct msq_pointers_end end = {free_one, context};
-    return msq_pool_destroy(msq_numbers(), &queue->seats, msq_free_pointer, &end);
+/* Drops all handles, put together again. Of a list whose words are worn, they end the queue, and what no pop gives is freed; where
+ * there is no memory for these objects, they are lost. */
+MSQ_INLINE void msq_queue_drop(const msq_queue *queue, size_t left) {
+    msq_share *shares = (msq_share *)(void *)queue->places;
+    msq_value *values = left > 0 ? (msq_value *)calloc(left, sizeof *values) : NULL;
+    msq_rest rest = {0, 0, false, false};
+    for (size_t k = 1; k < queue->calls; k++) {
+        shares[k] = queue->places[k].share;
+    }
+    if (values == NULL || msq_shares_close(shares, queue->calls, values, left, &rest) != MSQ_OK) {
+        rest.left = 0;
+    }
+    for (size_t k = 0; k < queue->calls; k++) {
+        msq_share_drop(&shares[k]);
+    }
+    for (size_t k = 0; k < left && k < rest.left; k++) {
+        msq_queue_free_one(queue, (void *)(uintptr_t)values[k].body);
+    }
+    free(values);
+}
+
+/* Gives up the calls of all cases but this one: each hands on what it may have been woken for. */
+MSQ_INLINE void msq_give_up_but(const msq_case *cases, struct msq_going *calls, size_t count, size_t done) {
+    for (size_t k = 0; k < count; k++) {
+        if (k != done && calls[k].begun && calls[k].act.what != MSQ_TELL) {
+            (void)msq_call_give_up(&calls[k].call);
+            calls[k].tries = true;
+            msq_go_on(cases[k].queue, &calls[k], true);
+            msq_finish(cases[k].queue, &calls[k], NULL, NULL);
+        }
+    }
+}
+
+/* Whether a call has an answer other than that its time was over: it is then that of its case. */
+MSQ_INLINE bool msq_is_done(msq_case *one, const struct msq_going *it) {
+    if (it->act.what != MSQ_TELL) {
+        return false;
+    }
+    one->code = msq_told(one->queue, msq_answer(it), true, MSQ_TIMED_OUT);
+    if (one->code == MSQ_OK && one->side == MSQ_FOR_OBJECTS) {
+        one->object = (void *)(uintptr_t)it->word;
+    }
+    return one->code != MSQ_TIMED_OUT;
+}
+
+/* Steps the calls of all cases until one is done, which is told, or all are late: then it is as many as there are. */
+MSQ_INLINE size_t msq_first_done(msq_case *cases, struct msq_going *calls, size_t count, const msq_moment *until, bool past) {
+    for (unsigned times = 0;; past = past || msq_is_past(until)) {
+        struct msq_sleep_word words[MSQ_MOST_CASES];
+        size_t asleep = 0, late = 0;
+        for (size_t k = 0; k < count; k++) {
+            if (calls[k].act.what != MSQ_TELL) {
+                msq_go_on(cases[k].queue, &calls[k], past);
+            }
+            if (msq_is_done(&cases[k], &calls[k])) {
+                return k;
+            }
+            late += calls[k].act.what == MSQ_TELL;
+            if (calls[k].act.what == MSQ_SLEEP) {
+                words[asleep++] = msq_sleep_word_of(calls[k].act.heard, calls[k].act.word);
+            }
+        }
+        if (late == count) {
+            return count;
+        }
+        if (asleep == count) {
+            msq_sleep_on(words, count, until);
+            times = 0;
+        } else {
+            msq_back_off(&times);
+        }
+    }
+}
+
+/* The calls. */
+
+/* A queue with room for exactly `capacity` objects, 1 or more, and one reference. What is left with the last reference goes to
+ * free_one, from the front, unless that is NULL. The first is of a kind, and so many calls of it, up to 32,767, may be under way at
+ * one moment beside those that sleep; further ones wait for these, or are told MSQ_BUSY. Each takes some 280 bytes. 0 is as many
+ * as the second one takes, which is a ring: two more than it has room for, and MSQ_CALLS_AT_ONCE at most. MSQ_OK, MSQ_BAD_SIZE or
+ * MSQ_MEMORY: refused, `queue` is as it was. */
+MSQ_NODISCARD MSQ_INLINE msq_code msq_queue_new_of(msq_queue **queue, msq_kind kind, size_t capacity, unsigned calls,
+                                                   msq_free_one free_one, void *context) {
+    return msq_queue_open(queue, kind, capacity, calls, ((uint64_t)1 << 62) - 1, free_one, context);
+}
+MSQ_NODISCARD MSQ_INLINE msq_code msq_queue_new(msq_queue **queue, size_t capacity, msq_free_one free_one, void *context) {
+    return msq_queue_new_of(queue, MSQ_RING, capacity, 0, free_one, context);
+}
+
+/* The queue, with one reference more. */
+MSQ_INLINE msq_queue *msq_queue_ref(msq_queue *queue) {
+    __atomic_fetch_add(&queue->references, 1, __ATOMIC_RELAXED);
+    return queue;
+}
+
+/* Pushes an object at the back. MSQ_OK, MSQ_CLOSED or MSQ_WORN, or MSQ_BAD_SIZE of a pointer from 2^48 on; the try also MSQ_FULL
+ * or MSQ_BUSY, and those with a time MSQ_TIMED_OUT. The last one's moment is of CLOCK_MONOTONIC. */
+MSQ_NODISCARD MSQ_INLINE msq_code msq_queue_push(msq_queue *queue, void *object) {
+    return msq_queue_put(queue, object, false, NULL, NULL);
+}
+MSQ_NODISCARD MSQ_INLINE msq_code msq_queue_try_push(msq_queue *queue, void *object) {
+    return msq_queue_put(queue, object, true, NULL, NULL);
+}
+MSQ_NODISCARD MSQ_INLINE msq_code msq_queue_push_for(msq_queue *queue, void *object, uint64_t ns) {
+    const msq_moment until = msq_moment_in(ns);
+    return msq_queue_put(queue, object, false, &until, NULL);
+}
+MSQ_NODISCARD MSQ_INLINE msq_code msq_queue_push_until(msq_queue *queue, void *object, const struct timespec *at) {
+    msq_moment until;
+    memcpy(&until, at, sizeof until);
+    return msq_queue_put(queue, object, false, &until, NULL);
+}
+
+/* Pops the object at the front, which is written at MSQ_OK alone. MSQ_OK, MSQ_CLOSED or MSQ_WORN; the try also MSQ_EMPTY or
+ * MSQ_BUSY, and those with a time MSQ_TIMED_OUT. */
+MSQ_NODISCARD MSQ_INLINE msq_code msq_queue_pop(msq_queue *queue, void **object) {
+    return msq_queue_get(queue, object, false, NULL, NULL);
+}
+MSQ_NODISCARD MSQ_INLINE msq_code msq_queue_try_pop(msq_queue *queue, void **object) {
+    return msq_queue_get(queue, object, true, NULL, NULL);
+}
+MSQ_NODISCARD MSQ_INLINE msq_code msq_queue_pop_for(msq_queue *queue, void **object, uint64_t ns) {
+    const msq_moment until = msq_moment_in(ns);
+    return msq_queue_get(queue, object, false, &until, NULL);
+}
+MSQ_NODISCARD MSQ_INLINE msq_code msq_queue_pop_until(msq_queue *queue, void **object, const struct timespec *at) {
+    msq_moment until;
+    memcpy(&until, at, sizeof until);
+    return msq_queue_get(queue, object, false, &until, NULL);
+}
+
+/* No more pushes: what is in the queue stays to be popped, and all that sleep are told. Of a closed queue nothing. */
+MSQ_INLINE void msq_queue_close(msq_queue *queue) {
+    struct msq_going shut;
+    msq_start(&shut, MSQ_SHUTS, false, 0);
+    msq_go_on(queue, &shut, false);
+    msq_finish(queue, &shut, NULL, NULL);
+    __atomic_store_n(&queue->is_closed, true, __ATOMIC_RELAXED);
+}
+
+/* Whether no push is done any more: a close is over, or a call was told MSQ_CLOSED or MSQ_WORN. */
+MSQ_INLINE bool msq_queue_is_closed(const msq_queue *queue) {
+    return __atomic_load_n(&queue->is_closed, __ATOMIC_RELAXED);
+}
+
+/* How many objects the queue holds, never more than its capacity; exact while no call is under way. */
+MSQ_INLINE size_t msq_queue_len(const msq_queue *queue) {
+    struct msq_place *place = msq_take_once_free(queue);
+    uint64_t len = 0;
+    (void)msq_share_len(&place->share, &len);
+    msq_give(place);
+    return (size_t)len;
+}
+MSQ_INLINE size_t msq_queue_capacity(const msq_queue *queue) {
+    return queue->capacity;
+}
+
+/* One reference less; of NULL nothing. */
+MSQ_INLINE void msq_queue_unref(msq_queue *queue) {
+    void *object;
+    msq_code code;
+    if (queue == NULL || __atomic_fetch_sub(&queue->references, 1, __ATOMIC_ACQ_REL) != 1) {
+        return;
+    }
+    while ((code = msq_queue_get(queue, &object, true, NULL, NULL)) == MSQ_OK) {
+        msq_queue_free_one(queue, object);
+    }
+    for (size_t k = 0; k < 2; k++) {
+        if (queue->watches[k].more > 0) {
+            syscall(SYS_close, (long)queue->watches[k].more - 1);
+        }
+    }
+    msq_queue_drop(queue, code == MSQ_WORN ? msq_queue_len(queue) : 0);
+    free(queue->places);
+    free(queue);
+}
+
+/* A descriptor, of the queue, that is readable after an object came, or room, or the queue was closed, and at first: whoever
+ * polls it reads its eight bytes and then tries until the queue is empty, or full. -1, and errno, where there can be none. */
+MSQ_INLINE int msq_queue_fd(msq_queue *queue, msq_side side) {
+    return msq_watch(queue, (uint8_t)side);
+}
+
+/* Does one of these cases, up to MSQ_MOST_CASES, and tells which, with its answer in its `code`: MSQ_OK, MSQ_CLOSED or MSQ_WORN.
+ * It waits for so many nanoseconds at most: 0 tries each, and MSQ_FOREVER is as long as it takes. -1 where none was done in
+ * time, or where there are more cases than that, or the `code` of one is MSQ_BAD_SIZE, whose pointer is from 2^48 on. Wants
+ * Linux 5.16 to sleep; before that it yields. */
+MSQ_NODISCARD MSQ_INLINE ptrdiff_t msq_select(msq_case *cases, size_t count, uint64_t ns) {
+    const msq_moment until = msq_moment_in(ns);
+    struct msq_going calls[MSQ_MOST_CASES];
+    size_t done;
+    if (count > MSQ_MOST_CASES) {
+        return -1;
+    }
+    for (size_t k = 0; k < count; k++) {
+        void *object = cases[k].side == MSQ_FOR_ROOM ? cases[k].object : NULL;
+        cases[k].code = (uint64_t)(uintptr_t)object >> 48 == 0 ? MSQ_TIMED_OUT : MSQ_BAD_SIZE;
+        if (cases[k].code == MSQ_BAD_SIZE) {
+            return -1;
+        }
+        msq_start(&calls[k], (uint8_t)cases[k].side, ns == 0, (uintptr_t)object);
+    }
+    done = msq_first_done(cases, calls, count, ns == MSQ_FOREVER ? NULL : &until, ns == 0);
+    msq_give_up_but(cases, calls, count, done);
+    return done < count ? (ptrdiff_t)done : -1;
 }
 
 MSQ_END

@@ -1,335 +1,247 @@
-// A queue of values of any type for C++14 and later, over the queues of pointers of msq_queue.h and of words of msq_words.h.
+// A queue of values of any type that moves, for any threads: first in, first out, with room for exactly as many as are asked for.
+// C++14 and later, over the queue of pointers of msq_queue.h.
 //
-// Any thread calls it, as often as it likes: no thread has a seat of its own. A value is moved in and moved out, and assigned
-// where it comes back: one of up to 24 bytes, aligned to 8 at most, that may be moved by its bytes, as a number, a pointer or a
-// unique_ptr, lies in the queue itself; any other is in a box, and in a ring each but numbers of up to six bytes and plain pointers.
-// (Before C++17 it is aligned to 16 at most, as what `new` gives.) Values of one thread come out in its order, each once, and what is
-// left is destroyed with the queue, or leaked where a word is worn and there is no memory. Only tested, as all of msq_queue.h.
+// A `queue` is a handle, and its copies share one queue, which goes with the last of them; what is left in it is destroyed. Several
+// threads may use one handle, or each its own. What a call answers is true in a condition where it is done, and else tells why not.
 //
-//     msq::queue<std::string> queue(1000);
-//     queue.push("a string");           // sleeps while the queue is full
-//     for (std::string &text : queue) { // sleeps while it is empty, until close()
-//         use(std::move(text));
-//     }
-//
-// push, pop, the constructor of a size and the loop throw msq::refused, and are there where exceptions are. All others throw only
-// what moves and copies of T, and `use`, throw: a value that a pop then has, or a refused push, is destroyed, and in the queue no
-// more. Without exceptions, create makes a queue.
+// A number of up to six bytes and a pointer lie in the queue; any other value is in a box, made by the global new as it is pushed.
+// A pointer from 2^48 on is refused. Of calls, what is proved of them and what is tested msq_queue.h says more.
 #ifndef MSQ_QUEUE_HPP
 #define MSQ_QUEUE_HPP
 
-#include "msq.hpp"
-#include "msq_words.h"
+#include "msq_queue.h"
 
+#include <algorithm>
+#include <chrono>
 #include <cstddef>
 #include <cstring>
 #include <iterator>
 #include <memory>
 #include <new>
+#include <stdexcept>
 #include <type_traits>
 #include <utility>
+#if __cplusplus >= 202002L && defined(__has_include)
+#if __has_include(<stop_token>)
+#include <stop_token>
+#endif
+#endif
+
+#if __cplusplus >= 201703L || !defined(__clang__)
+#define MSQ_TO_BE_SEEN [[nodiscard]]
+#else
+#define MSQ_TO_BE_SEEN __attribute__((warn_unused_result))
+#endif
 
 namespace msq {
+
+enum class status : unsigned char {
+    ok = MSQ_OK, empty = MSQ_EMPTY, full = MSQ_FULL, busy = MSQ_BUSY,
+    timed_out = MSQ_TIMED_OUT, closed = MSQ_CLOSED, worn = MSQ_WORN, bad_size = MSQ_BAD_SIZE
+};
+enum class kind : unsigned char { non_blocking = MSQ_NON_BLOCKING, two_lock = MSQ_TWO_LOCK, ring = MSQ_RING };
+
+// What a queue is made as, where nothing else is said.
+struct options {
+    msq::kind kind = msq::kind::ring;
+    unsigned calls = 0; // how many calls may be under way at one moment, beside those that sleep; 0 is what msq_queue_new takes
+};
+
 MSQ_BEGIN
-
-// Whether a value may be moved by its bytes alone, as if what is left of it were not there. Specialize it for a type of yours.
-template <class T> struct is_trivially_relocatable : std::is_trivially_copyable<T> {};
-template <class T> struct is_trivially_relocatable<std::unique_ptr<T>> : std::true_type {};
-template <class T> struct is_trivially_relocatable<std::shared_ptr<T>> : std::true_type {};
-
 namespace detail {
 
-// Whether a value lies in a queue of words.
+// Whether a value lies in the queue itself.
 template <class T>
-struct lies_in_place : std::integral_constant<bool, is_trivially_relocatable<T>::value &&
-                                                        sizeof(T) <= sizeof(msq_words) && alignof(T) <= alignof(msq_words)> {};
+struct lies_in_word : std::integral_constant<bool, ((std::is_arithmetic<T>::value || std::is_enum<T>::value) && sizeof(T) <= 6) ||
+                                                       std::is_pointer<T>::value> {};
 
-// Whether a value's bytes are a number below 2^48, whatever it is.
-template <class T>
-struct is_number : std::integral_constant<bool, (std::is_arithmetic<T>::value || std::is_enum<T>::value) && sizeof(T) <= 6> {};
-
-// Values that pass as the words that their bytes are. (As of each way below: a push or a pop that has no time doesn't sleep.)
-template <class T> struct by_words {
-    using words = std::conditional_t<sizeof(T) <= sizeof(uint64_t), uint64_t, msq_words>;
-    using item = std::conditional_t<sizeof(T) <= sizeof(uint64_t), msq_value, msq_item>;
-
-    static const msq_width *width() noexcept { return sizeof(T) <= sizeof(uint64_t) ? msq_one() : msq_three(); }
-
-    // The value stays where it isn't pushed; else its bytes are the queue's.
-    static uint32_t push(msq_seat_pool *seats, T &value, uint64_t ns) {
-        // (bytes that a move leaves as they are, as of a type without any, are zeros)
-        alignas(T) unsigned char raw[sizeof(T)] = {};
-        T *moved = ::new (static_cast<void *>(raw)) T(std::move(value));
-        words all{};
-        std::memcpy(&all, raw, sizeof raw);
-        const uint32_t code = msq_pool_call(width(), seats, &all, nullptr, ns);
-        if (code != MSQ_OK) {
-            struct ender {
-                T *value;
-                ~ender() { value->~T(); }
-            } end{moved};
-            value = std::move(*moved);
-        }
-        return code;
+// A value outside of a queue, in a box or as it is, or none. `peek` gives it to a queue as a pointer, `in` takes it from there.
+template <class T, bool in_word = lies_in_word<T>::value> class held {
+public:
+    template <class... A> static held made(A &&...from) { return in(::new T(std::forward<A>(from)...)); }
+    static held in(void *object) noexcept {
+        held it;
+        it.box_.reset(static_cast<T *>(object));
+        return it;
     }
-
-    template <class Use> static uint32_t pop(msq_seat_pool *seats, uint64_t ns, Use use) {
-        item all{};
-        const uint32_t code = msq_pool_call(width(), seats, nullptr, &all, ns);
-        if (code == MSQ_OK) {
-            let_go(&all, use);
-        }
-        return code;
-    }
-
-    static uint32_t left(msq_seat_pool *, msq_remaining *) noexcept { return MSQ_UNCOUNTED; }
-    static void end_one(const void *item, const void *) noexcept {
-        let_go(item, [](T &&) {});
-    }
+    void *peek() const noexcept { return box_.get(); }
+    void let_go() noexcept { box_.release(); }
+    T *get() noexcept { return box_.get(); }
 
 private:
-    // The value with these bytes, which ends once it was used.
-    template <class Use> static void let_go(const void *item, Use use) {
-        struct held {
-            alignas(T) unsigned char raw[sizeof(T)];
-            T &value() noexcept { return *reinterpret_cast<T *>(raw); }
-            ~held() { value().~T(); }
-        };
-        held it;
-        std::memcpy(it.raw, item, sizeof it.raw);
-        use(std::move(it.value()));
-    }
-};
-
-// Values that pass as the number that their bytes are: of up to six of them, or addresses, which are below 2^48.
-template <class T> struct by_numbers {
-    static const msq_width *width() noexcept { return msq_numbers(); }
-
-    static uint32_t push(msq_seat_pool *seats, T &value, uint64_t ns) {
-        uint64_t number = 0;
-        std::memcpy(&number, &value, sizeof value);
-        return msq_pool_call(width(), seats, &number, nullptr, ns);
-    }
-
-    template <class Use> static uint32_t pop(msq_seat_pool *seats, uint64_t ns, Use use) {
-        msq_value found{};
-        const uint32_t code = msq_pool_call(width(), seats, nullptr, &found, ns);
-        if (code == MSQ_OK) {
-            T value;
-            std::memcpy(&value, &found.body, sizeof value);
-            use(std::move(value));
-        }
-        return code;
-    }
-
-    static uint32_t left(msq_seat_pool *seats, msq_remaining *left) noexcept { return msq_pool_left(seats, left); }
-    static void end_one(const void *, const void *) noexcept {}
-};
-
-// Values that pass in boxes, by their addresses. A box is of the global new and delete, whatever its type has of its own.
-template <class T> struct by_boxes {
+#if !defined(__cpp_aligned_new)
+    static_assert(alignof(T) <= alignof(std::max_align_t), "a value of a greater alignment wants C++17");
+#endif
     struct freed {
         void operator()(T *value) const noexcept { ::delete value; }
     };
-    using box_of = std::unique_ptr<T, freed>;
-
-    static const msq_width *width() noexcept { return msq_numbers(); }
-
-    static uint32_t push(msq_seat_pool *seats, T &value, uint64_t ns) {
-        box_of box(::new (std::nothrow) T(std::move(value)));
-        if (box == nullptr) {
-            return MSQ_MEMORY;
-        }
-        const uint64_t body = reinterpret_cast<uintptr_t>(box.get());
-        const uint32_t code = msq_pool_call(width(), seats, &body, nullptr, ns);
-        if (code == MSQ_OK) {
-            box.release();
-        } else {
-            value = std::move(*box);
-        }
-        return code;
+    std::unique_ptr<T, freed> box_;
+};
+template <class T> class held<T, true> {
+public:
+    template <class... A> static held made(A &&...from) {
+        held it;
+        it.value_ = T(std::forward<A>(from)...);
+        return it;
     }
-
-    template <class Use> static uint32_t pop(msq_seat_pool *seats, uint64_t ns, Use use) {
-        msq_value found{};
-        const uint32_t code = msq_pool_call(width(), seats, nullptr, &found, ns);
-        if (code == MSQ_OK) {
-            box_of box(as(found.body));
-            use(std::move(*box));
-        }
-        return code;
+    static held in(void *object) noexcept {
+        held it;
+        const uint64_t word = reinterpret_cast<uintptr_t>(object);
+        std::memcpy(&it.value_, &word, sizeof it.value_);
+        return it;
     }
-
-    static uint32_t left(msq_seat_pool *seats, msq_remaining *left) noexcept { return msq_pool_left(seats, left); }
-    static void end_one(const void *item, const void *) noexcept { freed()(as(*static_cast<const uint64_t *>(item))); }
+    void *peek() const noexcept {
+        uint64_t word = 0;
+        std::memcpy(&word, &value_, sizeof value_);
+        return reinterpret_cast<void *>(static_cast<uintptr_t>(word));
+    }
+    void let_go() noexcept {}
+    T *get() noexcept { return &value_; }
 
 private:
-    static T *as(uint64_t body) noexcept { return reinterpret_cast<T *>(static_cast<uintptr_t>(body)); }
+    T value_{};
 };
 
-// How values pass through a ring, and through a queue of another kind. There is no ring of words.
-template <class T>
-using by_ring = std::conditional_t<is_number<T>::value || std::is_pointer<T>::value, by_numbers<T>, by_boxes<T>>;
-template <class T>
-using by_nodes = std::conditional_t<is_number<T>::value, by_numbers<T>,
-                                    std::conditional_t<lies_in_place<T>::value, by_words<T>, by_boxes<T>>>;
-
-// A queue by its seats, and whether it is a ring.
-struct home {
-    msq_seat_pool seats;
-    bool is_ring;
-};
-
-// A call of a queue, in the way in which its values pass.
-template <class T, class Call> auto passed(home &home, Call call) {
-    return home.is_ring ? call(by_ring<T>(), &home.seats) : call(by_nodes<T>(), &home.seats);
+// The moment in so much time: none below 0 nanoseconds, and at most about 292 years.
+template <class Rep, class Period> msq_moment moment_in(std::chrono::duration<Rep, Period> time) {
+    const long double ns = std::chrono::duration<long double, std::nano>(time).count();
+    return msq_moment_in(static_cast<uint64_t>(std::min(std::max(ns, 0.0L), 9.2e18L)));
 }
 
 } // namespace detail
 
-// A queue of values. It may be moved while no other call uses it, and be destroyed while none does but pushes whose values were
-// popped, and a close that a pop was told of: it waits until these have rung. A ring of pointers takes only those below 2^48: a push
-// of any other answers MSQ_BAD_SIZE.
-template <class T> class queue {
-    static_assert(std::is_object<T>::value, "a queue has values, so T is no reference, function or void");
+// What a status says in a few words.
+inline const char *to_string(status told) noexcept { return msq_strerror(static_cast<msq_code>(told)); }
 
-    struct ender {
-        void operator()(detail::home *home) const noexcept {
-#if !defined(__cpp_aligned_new)
-            static_assert(alignof(T) <= alignof(std::max_align_t), "a value of a greater alignment wants C++17");
-#endif
-            detail::passed<T>(*home, [](auto how, msq_seat_pool *at) {
-                return msq_pool_destroy(how.width(), at, how.end_one, nullptr);
-            });
-            delete home;
-        }
-    };
+// Whether a value was pushed; if not, why, and the value.
+template <class T> class MSQ_TO_BE_SEEN pushed {
+public:
+    explicit operator bool() const noexcept { return code_ == status::ok; }
+    status code() const noexcept { return code_; }
+    // There is one unless it was pushed.
+    T &&value() && noexcept { return std::move(*back_.get()); }
+
+private:
+    template <class U> friend class queue;
+    pushed(msq_code code, detail::held<T> back) : code_(static_cast<status>(code)), back_(std::move(back)) {}
+    status code_;
+    detail::held<T> back_;
+};
+
+// A value that was popped; if there is none, why.
+template <class T> class MSQ_TO_BE_SEEN popped {
+public:
+    explicit operator bool() const noexcept { return code_ == status::ok; }
+    status code() const noexcept { return code_; }
+    T &operator*() & noexcept { return *value_.get(); }
+    T &&operator*() && noexcept { return std::move(*value_.get()); }
+    T *operator->() noexcept { return value_.get(); }
+
+private:
+    template <class U> friend class queue;
+    popped(msq_code code, void *object) : code_(static_cast<status>(code)), value_(detail::held<T>::in(object)) {}
+    status code_;
+    detail::held<T> value_;
+};
+
+template <class T> class queue {
+    static_assert(std::is_nothrow_destructible<T>::value, "a destructor that throws would lose what else is left in a queue");
 
 public:
     using value_type = T;
 
-    // How many threads may be in a call at one time, before one waits for another to leave it. A thread that sleeps is in none.
-    static constexpr uint16_t usual_threads = 64;
-
-    // None: each call answers MSQ_NO_SEAT.
-    queue() noexcept = default;
-    queue(queue &&) noexcept = default;
-    queue &operator=(queue &&) noexcept = default;
-
-    // With room for `capacity` values at least: up to one more for each of `threads`, of a ring of one. None but at MSQ_OK: else
-    // MSQ_BAD_SIZE or MSQ_MEMORY.
-    static std::pair<msq_code, queue> create(uint32_t capacity, kind kind = kind::non_blocking,
-                                             uint16_t threads = usual_threads) noexcept {
-        static_assert(std::is_move_constructible<T>::value, "a value is moved into a queue, and T has no move and no copy");
-        queue made;
-        auto code = MSQ_MEMORY;
-        made.home_.reset(new (std::nothrow) detail::home{});
-        if (made.home_ != nullptr) {
-            made.home_->is_ring = kind == kind::ring;
-            const auto told = made.call([&](auto how, msq_seat_pool *at) {
-                return msq_pool_open(how.width(), at, static_cast<uint32_t>(kind), capacity, threads);
-            });
-            code = told.code();
+#if defined(__cpp_exceptions)
+    // With room for so many values, 1 or more. Throws std::length_error where a size is out of its range, and std::bad_alloc.
+    explicit queue(std::size_t capacity, options how = {}) {
+        const msq_code code = open(capacity, how);
+        if (code == MSQ_BAD_SIZE) {
+            throw std::length_error("msq::queue");
         }
-        return {code, code == MSQ_OK ? std::move(made) : queue()};
+        if (code != MSQ_OK) {
+            throw std::bad_alloc();
+        }
+    }
+#endif
+    // The same, and a handle of no queue where the other throws.
+    MSQ_TO_BE_SEEN static queue create(std::size_t capacity, options how = {}) noexcept {
+        queue made;
+        (void)!made.open(capacity, how);
+        return made;
+    }
+    queue(const queue &other) noexcept : at_(other.at_ != nullptr ? msq_queue_ref(other.at_) : nullptr) {}
+    queue(queue &&other) noexcept : at_(other.at_) { other.at_ = nullptr; }
+    queue &operator=(queue other) noexcept {
+        std::swap(at_, other.at_);
+        return *this;
+    }
+    ~queue() { msq_queue_unref(at_); }
+
+    // Whether it is a handle of a queue: one that was moved from isn't, and may only be assigned to and destroyed.
+    explicit operator bool() const noexcept { return at_ != nullptr; }
+    friend bool operator==(const queue &one, const queue &other) noexcept { return one.at_ == other.at_; }
+    friend bool operator!=(const queue &one, const queue &other) noexcept { return one.at_ != other.at_; }
+
+    // Pushes a value: ok, closed or worn; the try also full or busy, and those with a time timed_out.
+    pushed<T> push(T value) { return emplace(std::move(value)); }
+    template <class... A> pushed<T> emplace(A &&...from) { return put(held::made(std::forward<A>(from)...), false); }
+    pushed<T> try_push(T value) { return put(held::made(std::move(value)), true); }
+    template <class Rep, class Period> pushed<T> push_for(T value, std::chrono::duration<Rep, Period> time) {
+        const msq_moment until = detail::moment_in(time);
+        return put(held::made(std::move(value)), false, &until);
+    }
+    template <class Clock, class Duration> pushed<T> push_until(T value, std::chrono::time_point<Clock, Duration> at) {
+        return push_for(std::move(value), at - Clock::now());
     }
 
-    explicit operator bool() const noexcept { return home_ != nullptr; }
-
-    // Pushes a value, which stays as it was unless that is done: else MSQ_NO_NODE where the queue is full, MSQ_CLOSED,
-    // MSQ_BUSY, MSQ_MEMORY where there is none for a box, MSQ_BAD_SIZE of a pointer that a ring doesn't take, or a worn word.
-    MSQ_TO_BE_SEEN result try_push(T &&value) { return give(value, 0); }
-    MSQ_TO_BE_SEEN result try_push(const T &value) {
-        T copy(value);
-        return try_push(std::move(copy));
+    // Pops the value at the front: ok, closed or worn; the try also empty or busy, and those with a time timed_out.
+    popped<T> pop() { return get(false); }
+    popped<T> try_pop() { return get(true); }
+    template <class Rep, class Period> popped<T> pop_for(std::chrono::duration<Rep, Period> time) {
+        const msq_moment until = detail::moment_in(time);
+        return get(false, &until);
+    }
+    template <class Clock, class Duration> popped<T> pop_until(std::chrono::time_point<Clock, Duration> at) {
+        return pop_for(at - Clock::now());
     }
 
-    // The same, and sleeps while the queue is full: as long as it takes, or for some time.
-    MSQ_TO_BE_SEEN result push_wait(T &&value) { return give(value, MSQ_FOREVER); }
-    MSQ_TO_BE_SEEN result push_wait(const T &value) {
-        T copy(value);
-        return push_wait(std::move(copy));
+#if defined(__cpp_lib_jthread)
+    // The same as push and pop, until a stop is asked for: then timed_out.
+    pushed<T> push(T value, std::stop_token stop) {
+        uint32_t word = 0;
+        const std::stop_callback stops(std::move(stop), [&word]() noexcept { msq_stop(&word); });
+        return put(held::made(std::move(value)), false, nullptr, &word);
     }
-    template <class Rep, class Period>
-    MSQ_TO_BE_SEEN result push_wait_for(T &&value, std::chrono::duration<Rep, Period> time) {
-        return give(value, detail::nanoseconds(time));
+    popped<T> pop(std::stop_token stop) {
+        uint32_t word = 0;
+        const std::stop_callback stops(std::move(stop), [&word]() noexcept { msq_stop(&word); });
+        return get(false, nullptr, &word);
     }
-    template <class Rep, class Period>
-    MSQ_TO_BE_SEEN result push_wait_for(const T &value, std::chrono::duration<Rep, Period> time) {
-        T copy(value);
-        return push_wait_for(std::move(copy), time);
-    }
+#endif
 
-    // Pops the value at the front into `value`, which stays as it was unless that is done: else MSQ_EMPTY, MSQ_CLOSED where the
-    // queue is closed and empty, MSQ_BUSY, or a worn word.
-    MSQ_TO_BE_SEEN result try_pop(T &value) { return take_into(value, 0); }
-
-    // The same, and sleeps while the queue is empty: as long as it takes, or for some time.
-    MSQ_TO_BE_SEEN result pop_wait(T &value) { return take_into(value, MSQ_FOREVER); }
-    template <class Rep, class Period>
-    MSQ_TO_BE_SEEN result pop_wait_for(T &value, std::chrono::duration<Rep, Period> time) {
-        return take_into(value, detail::nanoseconds(time));
-    }
-
-    // Pops the value at the front, where there is one, and hands it to `use`, as a T &&: whether there was. It doesn't sleep, but
-    // tries again while others are in the way.
-    template <class Use> bool consume_one(Use &&use) { return static_cast<bool>(consumed(use)); }
-
-    // Hands one value after another to `use`, until the queue is found empty, or a word worn: how many there were. Likewise.
-    template <class Use> size_t consume_all(Use &&use) {
-        size_t count = 0;
-        while (consumed(use)) {
-            count++;
+    // Hands each value that is there to `use`, as a T &&, until a try finds none: how many there were.
+    template <class Use> std::size_t consume_all(Use &&use) {
+        std::size_t count = 0;
+        for (auto one = try_pop(); one || one.code() == status::busy; one = try_pop()) {
+            if (one) {
+                use(std::move(*one));
+                count++;
+            } else {
+                sched_yield();
+            }
         }
         return count;
     }
 
-    // The same, with the value in what they answer.
-    popped<T> try_pop() { return taken(0); }
-    popped<T> pop_wait() { return taken(MSQ_FOREVER); }
-    template <class Rep, class Period> popped<T> pop_wait_for(std::chrono::duration<Rep, Period> time) {
-        return taken(detail::nanoseconds(time));
-    }
+    // No more pushes: what is in the queue stays to be popped, and all that wait are told.
+    void close() noexcept { msq_queue_close(at_); }
+    bool is_closed() const noexcept { return msq_queue_is_closed(at_); }
 
-    // No value is pushed behind it, and what is in the queue stays to be popped; all that sleep are woken. MSQ_CLOSED where it
-    // was closed before; MSQ_WORN_TAIL where Tail is worn, and then it isn't closed.
-    result close() noexcept {
-        return call([](auto how, msq_seat_pool *at) { return msq_pool_shut(how.width(), at); });
-    }
+    // How many values there are, never more than the capacity; exact while no call is under way.
+    std::size_t size() const noexcept { return msq_queue_len(at_); }
+    std::size_t capacity() const noexcept { return msq_queue_capacity(at_); }
+    bool empty() const noexcept { return size() == 0; }
 
-    // MSQ_OK where the queue holds a value, else MSQ_EMPTY, MSQ_CLOSED or MSQ_BUSY.
-    MSQ_TO_BE_SEEN msq_code emptiness() noexcept {
-        return call([](auto how, msq_seat_pool *at) { return msq_pool_emptiness(how.width(), at); }).code();
-    }
-    // The bounds are there exactly at MSQ_OK: MSQ_UNCOUNTED of the two-lock queue.
-    MSQ_TO_BE_SEEN result len(msq_length &length) noexcept {
-        return call([&](auto how, msq_seat_pool *at) { return msq_pool_len(how.width(), at, &length); });
-    }
-    // How many pushes are left at least, told at MSQ_OK alone: MSQ_UNCOUNTED of values that lie in the queue, but for numbers of
-    // up to six bytes, and pointers in a ring.
-    MSQ_TO_BE_SEEN result left(msq_remaining &left) noexcept {
-        return call([&](auto how, msq_seat_pool *at) { return how.left(at, &left); });
-    }
-
-#if defined(__cpp_exceptions)
-    // With room for `capacity` values at least, as create. Throws refused, with MSQ_BAD_SIZE or MSQ_MEMORY.
-    explicit queue(uint32_t capacity, kind kind = kind::non_blocking, uint16_t threads = usual_threads)
-        : queue(made(create(capacity, kind, threads))) {}
-
-    // Pushes a value, and sleeps while the queue is full. Throws refused, with any code of
-    // push_wait but MSQ_OK.
-    void push(T &&value) { push_wait(std::move(value)).check(); }
-    void push(const T &value) {
-        T copy(value);
-        push(std::move(copy));
-    }
-
-    // Pops the value at the front, and sleeps while the queue is empty. Throws refused, with any code of
-    // pop_wait but MSQ_OK.
-    T pop() { return pop_wait().value(); }
-
-    // Pops values one by one, and sleeps while there is none, until the queue is closed and empty. Throws refused, with a worn
-    // word or MSQ_NO_SEAT; begin() also std::bad_alloc, before it pops.
+    // Pops values one by one, and waits while there is none, until the queue is closed and empty, or worn.
     class iterator {
     public:
         using iterator_category = std::input_iterator_tag;
@@ -339,82 +251,51 @@ public:
         using reference = T &;
 
         iterator() noexcept = default;
-        T &operator*() const noexcept { return **value_; }
-        T *operator->() const noexcept { return &**value_; }
+        T &operator*() const noexcept { return *value_; }
+        T *operator->() const noexcept { return &*value_; }
         iterator &operator++() {
-            next();
+            value_ = from_->pop();
             return *this;
         }
-        void operator++(int) { next(); }
+        void operator++(int) { ++*this; }
         // Two are the same where both are at the end, or neither.
-        bool operator==(const iterator &other) const noexcept { return (value_ == nullptr) == (other.value_ == nullptr); }
-        bool operator!=(const iterator &other) const noexcept { return !(*this == other); }
+        bool operator==(const iterator &other) const noexcept { return !value_ == !other.value_; }
+        bool operator!=(const iterator &other) const noexcept { return !value_ != !other.value_; }
 
     private:
         friend class queue;
-        // Its room is made before a value is popped.
-        explicit iterator(queue *from) : from_(from), value_(new popped<T>) { next(); }
-
-        void next() {
-            const auto code = value_->by([&](auto fill) { return from_->take(MSQ_FOREVER, fill); }).code();
-            if (code != MSQ_OK) {
-                value_.reset();
-            }
-            if (code != MSQ_OK && code != MSQ_CLOSED) {
-                throw refused(code);
-            }
-        }
-
+        explicit iterator(queue *from) : from_(from) { ++*this; }
         queue *from_ = nullptr;
-        std::unique_ptr<popped<T>> value_;
+        mutable popped<T> value_{MSQ_CLOSED, nullptr};
     };
-
     iterator begin() { return iterator(this); }
     iterator end() noexcept { return iterator(); }
-#endif
 
 private:
-    template <class Call> result call(Call call) const {
-        return result(home_ ? detail::passed<T>(*home_, call) : uint32_t(MSQ_NO_SEAT));
+    using held = detail::held<T>;
+
+    queue() noexcept = default;
+
+    msq_code open(std::size_t capacity, options how) noexcept {
+        return msq_queue_new_of(&at_, static_cast<msq_kind>(how.kind), capacity, how.calls, end_one, nullptr);
     }
-    result give(T &value, uint64_t ns) {
-        return call([&](auto how, msq_seat_pool *at) { return how.push(at, value, ns); });
-    }
-    template <class Use> result take(uint64_t ns, Use use) {
-        return call([&](auto how, msq_seat_pool *at) { return how.pop(at, ns, use); });
-    }
-    result take_into(T &value, uint64_t ns) {
-        return take(ns, [&](T &&it) { value = std::move(it); });
-    }
-    popped<T> taken(uint64_t ns) {
-        popped<T> found;
-        found.by([&](auto fill) { return take(ns, fill); });
-        return found;
-    }
-    // Where others are in the way it tries again.
-    template <class Use> result consumed(Use &use) {
-        for (;;) {
-            const auto told = take(0, [&](T &&it) { use(std::move(it)); });
-            if (told.code() != MSQ_BUSY) {
-                return told;
-            }
-            sched_yield();
+    static void end_one(void *object, void *) noexcept { held::in(object); }
+
+    pushed<T> put(held value, bool tries, const msq_moment *until = nullptr, const uint32_t *stop = nullptr) {
+        const msq_code code = msq_queue_put(at_, value.peek(), tries, until, stop);
+        if (code == MSQ_OK) {
+            value.let_go();
         }
+        return {code, std::move(value)};
+    }
+    popped<T> get(bool tries, const msq_moment *until = nullptr, const uint32_t *stop = nullptr) {
+        void *object = nullptr;
+        const msq_code code = msq_queue_get(at_, &object, tries, until, stop);
+        return {code, object};
     }
 
-#if defined(__cpp_exceptions)
-    static queue made(std::pair<msq_code, queue> answer) {
-        result(answer.first).check();
-        return std::move(answer.second);
-    }
-#endif
-
-    std::unique_ptr<detail::home, ender> home_;
+    msq_queue *at_ = nullptr;
 };
-
-#if __cplusplus < 201703L
-template <class T> constexpr uint16_t queue<T>::usual_threads;
-#endif
 
 MSQ_END
 } // namespace msq

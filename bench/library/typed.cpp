@@ -1,6 +1,6 @@
 // Times queues of values: `typed QUEUE TYPE KIND COUNT` prints how many nanoseconds the works of KIND took, each thread COUNT times.
 // QUEUE is non-blocking, two-lock or ring, which are msq::queue's, boost or moodycamel; TYPE is number, words or text, of which
-// boost's takes no text. KIND is one, four, pair or two; bench/queues/works.rs says what a thread does in each.
+// boost's takes no text. KIND is one, four, pair, two, three or one-three; bench/queues/works.rs says what a thread does in each.
 #include <boost/lockfree/queue.hpp>
 #include <chrono>
 #include <concurrentqueue/concurrentqueue.h>
@@ -27,9 +27,21 @@ template <> words made(uint64_t number) { return {number, number, number}; }
 template <> std::string made(uint64_t number) { return "a text that is in memory of its own, " + std::to_string(number); }
 
 template <class T> struct ours {
-    explicit ours(msq::kind kind) : queue(room, kind, 4) {}
-    bool push(T &value) { return queue.try_push(std::move(value)) == MSQ_OK; }
-    bool pop(T &value) { return queue.try_pop(value) == MSQ_OK; }
+    explicit ours(msq::kind kind) : queue(room, {kind, 4}) {}
+    bool push(T &value) {
+        auto told = queue.try_push(std::move(value));
+        if (!told) {
+            value = std::move(told).value();
+        }
+        return static_cast<bool>(told);
+    }
+    bool pop(T &value) {
+        auto found = queue.try_pop();
+        if (found) {
+            value = std::move(*found);
+        }
+        return static_cast<bool>(found);
+    }
     msq::queue<T> queue;
 };
 
@@ -65,8 +77,10 @@ private:
     unsigned step_ = 0;
 };
 
+// What a thread does, and how often while one of the others does its own once, where all that is pushed is popped.
 struct work {
     bool pushes, pops;
+    unsigned share;
 };
 
 struct kind {
@@ -75,10 +89,12 @@ struct kind {
 };
 
 const kind kinds[] = {
-    {"one", {{true, true}}},
-    {"four", {{true, true}, {true, true}, {true, true}, {true, true}}},
-    {"pair", {{true, false}, {false, true}}},
-    {"two", {{true, false}, {true, false}, {false, true}, {false, true}}},
+    {"one", {{true, true, 1}}},
+    {"four", {{true, true, 1}, {true, true, 1}, {true, true, 1}, {true, true, 1}}},
+    {"pair", {{true, false, 1}, {false, true, 1}}},
+    {"two", {{true, false, 1}, {true, false, 1}, {false, true, 1}, {false, true, 1}}},
+    {"three", {{true, false, 1}, {true, false, 1}, {true, false, 1}, {false, true, 3}}},
+    {"one-three", {{true, false, 3}, {false, true, 1}, {false, true, 1}, {false, true, 1}}},
 };
 
 template <class T, class Queue> void works(Queue &queue, work work, uint64_t count) {
@@ -101,7 +117,7 @@ template <class T, class Queue> int time_of(Queue &queue, const kind &kind, uint
     std::vector<std::thread> threads;
     const auto began = std::chrono::steady_clock::now();
     for (const work work : kind.works) {
-        threads.emplace_back([&queue, work, count] { works<T>(queue, work, count); });
+        threads.emplace_back([&queue, work, count] { works<T>(queue, work, work.share * count); });
     }
     for (std::thread &thread : threads) {
         thread.join();
@@ -145,6 +161,6 @@ int main(int argc, char **argv) {
             }
         }
     }
-    std::fprintf(stderr, "typed non-blocking|two-lock|ring|boost|moodycamel number|words|text one|four|pair|two COUNT\n");
+    std::fprintf(stderr, "typed non-blocking|two-lock|ring|boost|moodycamel number|words|text one|four|pair|two|three|one-three COUNT\n");
     return 2;
 }

@@ -1,13 +1,15 @@
 //! Times queues of values: `typed QUEUE TYPE KIND COUNT` prints how many nanoseconds the works of KIND took, each thread COUNT times.
 //!
-//! QUEUE is non-blocking, two-lock or ring, which are `msq::Queue`'s, channel or channel-ring, which are `msq::channel`'s, or
-//! crossbeam-channel; TYPE is number, words or text. KIND is one, four, pair or two; bench/queues/works.rs says what a thread does in
-//! each.
+//! QUEUE is non-blocking, two-lock or ring, which are `msq::Queue`'s, channel or channel-ring, which are `msq::channel`'s,
+//! crossbeam-channel, crossbeam-array, or std's channel, which has one receiver; TYPE is number, words or text. KIND is one, four, pair,
+//! two, three or one-three; bench/queues/works.rs says what a thread does in each.
 use std::process::exit;
+use std::sync::mpsc::{sync_channel, Receiver, SyncSender, TrySendError};
+use std::sync::Mutex;
 use std::thread;
 use std::time::Instant;
 
-const ROOM: u32 = 64;
+const ROOM: usize = 64;
 
 /// What goes through a queue.
 trait Value: Send + Sized {
@@ -40,11 +42,11 @@ trait Queue<T>: Sync {
 
 impl<T: Send> Queue<T> for msq::Queue<T> {
     fn push(&self, value: T) -> Result<(), T> {
-        self.push(value).map_err(|refused| refused.value)
+        self.try_push(value).map_err(|refused| refused.value)
     }
 
     fn pop(&self) -> Option<T> {
-        self.pop().unwrap_or(None)
+        self.try_pop().ok()
     }
 }
 
@@ -69,7 +71,40 @@ impl<T: Send> Queue<T> for (crossbeam_channel::Sender<T>, crossbeam_channel::Rec
     }
 }
 
-#[derive(Clone, Copy)]
+#[cfg(crossbeam)]
+impl<T: Send> Queue<T> for crossbeam_queue::ArrayQueue<T> {
+    fn push(&self, value: T) -> Result<(), T> {
+        crossbeam_queue::ArrayQueue::push(self, value)
+    }
+
+    fn pop(&self) -> Option<T> {
+        crossbeam_queue::ArrayQueue::pop(self)
+    }
+}
+
+/// A channel of std's, whose receiver one thread has at a time.
+struct Std<T>(SyncSender<T>, Mutex<Receiver<T>>);
+
+impl<T> Std<T> {
+    fn new() -> Std<T> {
+        let (sender, receiver) = sync_channel(ROOM);
+        Std(sender, Mutex::new(receiver))
+    }
+}
+
+impl<T: Send> Queue<T> for Std<T> {
+    fn push(&self, value: T) -> Result<(), T> {
+        self.0.try_send(value).map_err(|unsent| match unsent {
+            TrySendError::Full(value) | TrySendError::Disconnected(value) => value,
+        })
+    }
+
+    fn pop(&self) -> Option<T> {
+        self.1.try_lock().ok()?.try_recv().ok()
+    }
+}
+
+#[derive(Clone, Copy, PartialEq)]
 enum Work {
     Pairs,
     Pushes,
@@ -115,11 +150,22 @@ fn works<T: Value, Q: Queue<T>>(queue: &Q, work: Work, count: u64) {
     }
 }
 
+/// How often a thread of this work does it while one of the others does its own once, where all that is pushed is popped.
+fn share(kind: &[Work], work: Work) -> u64 {
+    let of = |which: Work| kind.iter().filter(|its| **its == which).count().max(1);
+    let share = match work {
+        Work::Pushes => of(Work::Pops) / of(Work::Pushes),
+        Work::Pops => of(Work::Pushes) / of(Work::Pops),
+        Work::Pairs => 1,
+    };
+    share.max(1) as u64
+}
+
 fn time_of<T: Value, Q: Queue<T>>(queue: &Q, kind: &[Work], count: u64) -> u128 {
     let began = Instant::now();
     thread::scope(|scope| {
         for &work in kind {
-            scope.spawn(move || works(queue, work, count));
+            scope.spawn(move || works(queue, work, count * share(kind, work)));
         }
     });
     began.elapsed().as_nanos()
@@ -134,7 +180,10 @@ fn time_in<T: Value>(name: &str, kind: &[Work], count: u64) -> Option<u128> {
         "channel" => time_of(&msq::channel::bounded_of::<T>(msq::Kind::NonBlocking, ROOM, 4).ok()?, kind, count),
         "channel-ring" => time_of(&msq::channel::bounded_of::<T>(msq::Kind::Ring, ROOM, 4).ok()?, kind, count),
         #[cfg(crossbeam)]
-        "crossbeam-channel" => time_of(&crossbeam_channel::bounded::<T>(ROOM as usize), kind, count),
+        "crossbeam-channel" => time_of(&crossbeam_channel::bounded::<T>(ROOM), kind, count),
+        #[cfg(crossbeam)]
+        "crossbeam-array" => time_of(&crossbeam_queue::ArrayQueue::<T>::new(ROOM), kind, count),
+        "std" => time_of(&Std::<T>::new(), kind, count),
         _ => return None,
     })
 }
@@ -142,13 +191,15 @@ fn time_in<T: Value>(name: &str, kind: &[Work], count: u64) -> Option<u128> {
 fn main() {
     let words: Vec<String> = std::env::args().skip(1).collect();
     let [queue, of, kind, count] = words.as_slice() else {
-        eprintln!("typed non-blocking|two-lock|ring|channel|channel-ring|crossbeam-channel number|words|text one|four|pair|two COUNT");
+        eprintln!("typed QUEUE number|words|text one|four|pair|two|three|one-three COUNT");
         exit(2)
     };
     let kind: &[Work] = match kind.as_str() {
         "one" => &[Work::Pairs],
         "four" => &[Work::Pairs; 4],
         "pair" => &[Work::Pushes, Work::Pops],
+        "three" => &[Work::Pushes, Work::Pushes, Work::Pushes, Work::Pops],
+        "one-three" => &[Work::Pushes, Work::Pops, Work::Pops, Work::Pops],
         _ => &[Work::Pushes, Work::Pushes, Work::Pops, Work::Pops],
     };
     let count = count.parse().unwrap_or(0);

@@ -382,7 +382,8 @@ static void codes_have_names(void) {
                  {4, "MSQ_MEMORY"},     {5, "MSQ_BAD_SIZE"},    {16, "MSQ_CLOSED"},    {32, "MSQ_EMPTY"},
                  {33, "MSQ_NO_SEAT"},   {34, "MSQ_NO_ROLE"},    {35, "MSQ_IN_USE"},    {36, "MSQ_RACED"},
                  {37, "MSQ_WORN_NEXT"}, {38, "MSQ_WORN_TAIL"},  {39, "MSQ_WORN_HEAD"}, {40, "MSQ_TWO_QUEUES"},
-                 {41, "MSQ_TWO_CALLS"},  {42, "MSQ_UNCOUNTED"}};
+                 {41, "MSQ_TWO_CALLS"}, {42, "MSQ_UNCOUNTED"},  {43, "MSQ_FULL"},
+                 {44, "MSQ_TIMED_OUT"}, {45, "MSQ_WORN"}};
     const size_t count = sizeof codes / sizeof *codes;
     size_t next = 0, same = 0;
     for (uint32_t code = 0; code < 100; code++) {

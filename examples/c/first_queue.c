@@ -3,26 +3,26 @@
 #include <pthread.h>
 #include <stdio.h>
 
-static msq_queue queue; /* all zeros: none yet; threads share it by its address */
-
-static void *work(void *unused) {
+static void *work(void *given) {
+    msq_queue *queue = (msq_queue *)given;
     void *job;
-    (void)unused;
-    while (msq_queue_pop_wait(&queue, &job) == MSQ_OK) {
+    while (msq_queue_pop(queue, &job) == MSQ_OK) {
         printf("%s\n", (const char *)job);
     }
-    return NULL; /* MSQ_CLOSED: it is shut and empty */
+    msq_queue_unref(queue);
+    return NULL; /* MSQ_CLOSED: it is closed and empty */
 }
 
 int main(void) {
+    msq_queue *queue;
     pthread_t worker;
-    if (msq_queue_open(&queue, MSQ_NON_BLOCKING, 1000, 8) != MSQ_OK || pthread_create(&worker, NULL, work, NULL) != 0) {
+    if (msq_queue_new(&queue, 1000, NULL, NULL) != MSQ_OK || pthread_create(&worker, NULL, work, msq_queue_ref(queue)) != 0) {
         return 1;
     }
-    if (msq_queue_push_wait(&queue, "a job") != MSQ_OK || msq_queue_push_wait(&queue, "another job") != MSQ_OK) {
+    if (msq_queue_push(queue, "a job") != MSQ_OK || msq_queue_push(queue, "another job") != MSQ_OK) {
         return 1;
     }
-    msq_queue_shut(&queue);
-    pthread_join(worker, NULL);
-    return msq_destroy(&queue, NULL, NULL) != MSQ_OK;
+    msq_queue_close(queue);
+    msq_queue_unref(queue);
+    return pthread_join(worker, NULL);
 }

@@ -20,7 +20,7 @@ struct object {
 };
 
 struct worker {
-    _Alignas(64) msq_seat seat;
+    __attribute__((aligned(64))) msq_seat seat;
     uint64_t values; /* how many objects a giver hands over */
     uint64_t sum;    /* of the numbers that a taker read */
     bool failed;

@@ -1,17 +1,22 @@
 /* What the calls that take memory answer where there is none: MSQ_MEMORY, and all stays as it was, so that the same call is done
- * once there is some. Each allocation of a call is refused in turn, for which the program is linked with --wrap of malloc, calloc and
- * realloc. Prints how many were refused, and how many answers weren't as they should be. */
+ * once there is some. Each allocation of a call is refused in turn, for which the program is linked with --wrap of malloc, calloc,
+ * realloc and free. And how much memory a queue takes. Prints how many were refused, and how many answers weren't as they should be. */
+#include "msq_queue.h"
 #include "msq_words.h"
 
+#include <malloc.h>
 #include <stdio.h>
 
 void *__real_malloc(size_t size);
 void *__real_calloc(size_t count, size_t size);
 void *__real_realloc(void *old, size_t size);
+void __real_free(void *old);
 void *__wrap_malloc(size_t size);
 void *__wrap_calloc(size_t count, size_t size);
 void *__wrap_realloc(void *old, size_t size);
+void __wrap_free(void *old);
 
+static size_t taken;     /* how many bytes are taken, each block with one word for its length */
 static long before = -1; /* how many allocations are done before the one that is refused; none is where it is below 0 */
 static unsigned refused, wrong;
 
@@ -19,16 +24,31 @@ static bool is_refused(void) {
     return before >= 0 && before-- == 0;
 }
 
+/* Counts a block that is taken, or given back. */
+static void *counted(void *block) {
+    taken += block == NULL ? 0 : malloc_usable_size(block) + sizeof(size_t);
+    return block;
+}
+
+static void *uncounted(void *block) {
+    taken -= block == NULL ? 0 : malloc_usable_size(block) + sizeof(size_t);
+    return block;
+}
+
 void *__wrap_malloc(size_t size) {
-    return is_refused() ? NULL : __real_malloc(size);
+    return is_refused() ? NULL : counted(__real_malloc(size));
 }
 
 void *__wrap_calloc(size_t count, size_t size) {
-    return is_refused() ? NULL : __real_calloc(count, size);
+    return is_refused() ? NULL : counted(__real_calloc(count, size));
 }
 
 void *__wrap_realloc(void *old, size_t size) {
-    return is_refused() ? NULL : __real_realloc(old, size);
+    return is_refused() ? NULL : counted(__real_realloc(uncounted(old), size));
+}
+
+void __wrap_free(void *old) {
+    __real_free(uncounted(old));
 }
 
 static void expect(const char *what, uint64_t found, uint64_t due) {
@@ -64,9 +84,7 @@ static msq_word_seat single_seats[2];
 static msq_value values[8];
 static msq_item items[8];
 static msq_rest rest;
-static msq_queue queue;
-static msq_words_queue word_queue;
-static msq_word_queue single_queue;
+static msq_queue *queue;
 static int freed;
 
 static uint32_t create(uint32_t kind) {
@@ -96,56 +114,13 @@ static uint32_t close_singles(uint32_t kind) {
     return msq_word_close(single_seats, 2, values, 8, &rest);
 }
 
-/* With the limit 1 its pops end before it is empty. */
-static uint32_t create_queue(uint32_t kind) {
-    return msq_seat_pool_create(&queue.seats, kind, 8, 1, roles, 2);
-}
-
-static uint32_t close_queue(uint32_t kind) {
-    (void)kind;
-    return msq_seat_pool_close(&queue.seats, values, sizeof values / sizeof *values, &rest);
-}
-
-static uint32_t open_queue(uint32_t kind) {
-    return msq_queue_open(&queue, kind, 8, 2);
-}
-
-static uint32_t open_words(uint32_t kind) {
-    return msq_words_open(&word_queue, kind, 8, 2);
-}
-
-static uint32_t open_singles(uint32_t kind) {
-    return msq_word_open(&single_queue, kind, 8, 2);
-}
-
 static void count_one(void *object, void *context) {
     (void)object, (void)context;
     freed++;
 }
 
-static uint32_t destroy(uint32_t kind) {
-    (void)kind;
-    return msq_destroy(&queue, count_one, NULL);
-}
-
-static void count_words(const msq_words *words, void *context) {
-    (void)words, (void)context;
-    freed++;
-}
-
-static uint32_t destroy_words(uint32_t kind) {
-    (void)kind;
-    return msq_words_destroy(&word_queue, count_words, NULL);
-}
-
-static void count_word(uint64_t word, void *context) {
-    (void)word, (void)context;
-    freed++;
-}
-
-static uint32_t destroy_singles(uint32_t kind) {
-    (void)kind;
-    return msq_word_destroy(&single_queue, count_word, NULL);
+static uint32_t new_queue(uint32_t kind) {
+    return msq_queue_new_of(&queue, (msq_kind)kind, 8, 2, count_one, NULL);
 }
 
 static void seats_with_numbers(uint32_t kind) {
@@ -165,8 +140,6 @@ static void seats_with_words(uint32_t kind) {
     }
     is_done_at_last("close", close_words, kind);
     expect("what is left", rest.left, VALUES);
-    is_done_at_last("open", open_words, kind);
-    expect("its end", msq_words_destroy(&word_queue, NULL, NULL), MSQ_OK);
 }
 
 static void seats_with_one_word(uint32_t kind) {
@@ -176,71 +149,41 @@ static void seats_with_one_word(uint32_t kind) {
     }
     is_done_at_last("close", close_singles, kind);
     expect("what is left", rest.left, VALUES);
-    is_done_at_last("open", open_singles, kind);
-    expect("its end", msq_word_destroy(&single_queue, NULL, NULL), MSQ_OK);
 }
 
+/* Calls of a queue that was made take no memory: one that is refused would be wrong. */
 static void queues_of_pointers(uint32_t kind) {
-    is_done_at_last("open", open_queue, kind);
-    expect("its end", msq_destroy(&queue, NULL, NULL), MSQ_OK);
-    is_done_at_last("create", create_queue, kind);
-    expect("a push", msq_queue_push(&queue, &queue), MSQ_OK);
-    is_done_at_last("close", close_queue, kind);
-    expect("what is left", rest.left, 1);
-}
-
-/* Two pointers were pushed, and one pop wears the queue out. */
-static void worn_queues(uint32_t kind) {
-    expect("create", create_queue(kind), MSQ_OK);
-    expect("a push", msq_queue_push(&queue, &queue), MSQ_OK);
-    expect("a push", msq_queue_push(&queue, &queue), MSQ_OK);
-    freed = 0;
-    is_done_at_last("its end", destroy, kind);
-    expect("each is freed once", (uint64_t)freed, 2);
-}
-
-/* The same of words, by seats with a limit, which take the places of those of a queue that has none. */
-static void worn_queues_of_words(uint32_t kind) {
-    const msq_words words = {{1, 2, 3}};
-    expect("open", open_words(kind), MSQ_OK);
-    expect("create", msq_words_create(kind, 8, 1, roles, 2, word_seats, 2), MSQ_OK);
-    for (size_t k = 0; k < 2; k++) {
-        msq_words_drop(msq_as_words(&word_queue.seats.places[k].seat));
-        word_queue.seats.places[k].seat = word_seats[k].seat;
-        word_seats[k].seat.full = false;
+    void *object;
+    is_done_at_last("new", new_queue, kind);
+    before = 0;
+    for (int k = 0; k < VALUES; k++) {
+        expect("a push", msq_queue_push(queue, &freed), MSQ_OK);
     }
-    expect("a push", msq_words_queue_push(&word_queue, &words), MSQ_OK);
-    expect("a push", msq_words_queue_push(&word_queue, &words), MSQ_OK);
+    expect("a pop", msq_queue_pop(queue, &object), MSQ_OK);
     freed = 0;
-    is_done_at_last("its end", destroy_words, kind);
-    expect("each is freed once", (uint64_t)freed, 2);
+    msq_queue_unref(queue);
+    expect("no allocation", (uint64_t)before, 0);
+    before = -1;
+    expect("each that is left is freed", (uint64_t)freed, VALUES - 1);
 }
 
-static void worn_queues_of_one_word(uint32_t kind) {
-    expect("open", open_singles(kind), MSQ_OK);
-    expect("create", msq_word_create(kind, 8, 1, roles, 2, single_seats, 2), MSQ_OK);
-    for (size_t k = 0; k < 2; k++) {
-        msq_word_drop(msq_as_word(&single_queue.seats.places[k].seat));
-        single_queue.seats.places[k].seat = single_seats[k].seat;
-        single_seats[k].seat.full = false;
-    }
-    expect("a push", msq_word_queue_push(&single_queue, 1), MSQ_OK);
-    expect("a push", msq_word_queue_push(&single_queue, 2), MSQ_OK);
-    freed = 0;
-    is_done_at_last("its end", destroy_singles, kind);
-    expect("each is freed once", (uint64_t)freed, 2);
+/* A queue with room for one takes at most two kilobytes, and gives all of it back. */
+static void small_queues_are_small(uint32_t kind) {
+    const size_t others = taken;
+    expect("new", msq_queue_new_of(&queue, (msq_kind)kind, 1, 0, NULL, NULL), MSQ_OK);
+    expect("two kilobytes", taken - others <= 2000, true);
+    msq_queue_unref(queue);
+    expect("none is left", taken, others);
 }
 
 int main(void) {
     for (uint32_t kind = MSQ_NON_BLOCKING; kind <= MSQ_RING; kind++) {
         seats_with_numbers(kind);
         queues_of_pointers(kind);
+        small_queues_are_small(kind);
         if (kind != MSQ_RING) {
             seats_with_words(kind);
-            worn_queues(kind);
-            worn_queues_of_words(kind);
             seats_with_one_word(kind);
-            worn_queues_of_one_word(kind);
         }
     }
     printf("%u allocations were refused, and %u answers were not as they should be\n", refused, wrong);

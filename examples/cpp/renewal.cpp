@@ -43,8 +43,9 @@ struct whole {
 
     // A further queue for all members; none where memory is refused.
     std::unique_ptr<segment> make(uint32_t nodes) const {
-        auto [code, seats] = msq::create(kind, nodes, roles, limit);
-        if (code != MSQ_OK) {
+        auto created = msq::create(kind, nodes, roles, limit);
+        auto &seats = created.second;
+        if (created.first != MSQ_OK) {
             return nullptr;
         }
         auto made = std::make_unique<segment>(nodes);
@@ -81,11 +82,11 @@ public:
     }
 
     // MSQ_OK, MSQ_EMPTY, MSQ_BUSY, or MSQ_CLOSED where the whole is shut and empty.
-    msq::popped<msq_value> take() {
+    msq::result take(msq_value &value) {
         for (;;) {
-            auto taken = seat().try_pop();
-            if (taken != MSQ_CLOSED || !go_on()) {
-                return taken;
+            const auto told = seat().try_pop(value);
+            if (told != MSQ_CLOSED || !go_on()) {
+                return told;
             }
         }
     }
@@ -183,15 +184,16 @@ struct worker {
     void pop_all() {
         std::vector<uint64_t> next(seen.size() / values + 1);
         for (;;) {
-            auto value = self.take();
-            if (value) {
-                good = good && value->body >= next[value->from] && value->body < values;
-                next[value->from] = value->body + 1;
-                seen[(value->from - 1) * values + value->body]++;
-            } else if (value == MSQ_EMPTY || value == MSQ_BUSY) {
+            msq_value value{};
+            const auto told = self.take(value);
+            if (told) {
+                good = good && value.body >= next[value.from] && value.body < values;
+                next[value.from] = value.body + 1;
+                seen[(value.from - 1) * values + value.body]++;
+            } else if (told == MSQ_EMPTY || told == MSQ_BUSY) {
                 std::this_thread::yield();
             } else {
-                good = good && value == MSQ_CLOSED;
+                good = good && told == MSQ_CLOSED;
                 return;
             }
         }

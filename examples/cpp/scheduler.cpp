@@ -14,13 +14,13 @@
 
 class scheduler {
 public:
-    explicit scheduler(msq::kind kind) : tasks_(room, kind) {}
+    explicit scheduler(msq::kind kind) : tasks_(room, {kind}) {}
 
-    // Has a closure run by one of the workers. It sleeps while there is no room, and throws msq::refused once the scheduler is closed.
+    // Has a closure run by one of the workers. It sleeps while there is no room. Once the scheduler is closed the future is broken.
     template <class Closure> auto submit(Closure closure) {
         std::packaged_task<decltype(closure())()> whole(std::move(closure));
         auto answer = whole.get_future();
-        tasks_.push(task(std::move(whole)));
+        (void)tasks_.emplace(std::move(whole)).code();
         return answer;
     }
 
@@ -28,8 +28,13 @@ public:
     // tasks were taken. It sleeps while there is none. Answers how many it ran.
     size_t work(size_t most = SIZE_MAX) {
         size_t done = 0;
-        for (task it; done < most && tasks_.pop_wait(it) == MSQ_OK; done++) {
-            it();
+        while (done < most) {
+            auto it = tasks_.pop();
+            if (!it) {
+                break;
+            }
+            (*it)();
+            done++;
         }
         return done;
     }
@@ -47,6 +52,16 @@ namespace {
 
 // Four workers stay to the end; beside them twelve come one after another, and go after fifty tasks each.
 constexpr size_t staying = 4, visitors = 12, a_visit = 50;
+
+// Whether no worker will run a task.
+bool is_broken(std::future<void> answer) {
+    try {
+        answer.get();
+    } catch (const std::future_error &error) {
+        return error.code() == std::future_errc::broken_promise;
+    }
+    return false;
+}
 
 // Whether each task of so many answers its own number's square.
 bool all_run(msq::kind kind, size_t count) {
@@ -76,13 +91,7 @@ bool all_run(msq::kind kind, size_t count) {
         right = false;
     } catch (const std::runtime_error &) {
     }
-    try {
-        all.submit([] {});
-        right = false;
-    } catch (const msq::refused &refused) {
-        right = right && refused.code() == MSQ_CLOSED;
-    }
-    return right;
+    return right && is_broken(all.submit([] {}));
 }
 
 // A task that no worker took ends with its scheduler, and its future says so.
@@ -92,12 +101,7 @@ bool what_is_left_ends(msq::kind kind) {
         scheduler none(kind);
         answer = none.submit([] {});
     }
-    try {
-        answer.get();
-    } catch (const std::future_error &error) {
-        return error.code() == std::future_errc::broken_promise;
-    }
-    return false;
+    return is_broken(std::move(answer));
 }
 
 } // namespace

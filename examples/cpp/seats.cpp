@@ -1,5 +1,5 @@
-// What becomes of seats and of pools of seats that are made, meet and are closed. Prints how many answers were as they should be.
-#include "msq_lease.hpp"
+// What becomes of seats that are made, meet and are closed. Prints how many answers were as they should be.
+#include "msq.hpp"
 
 #include <cstdio>
 #include <utility>
@@ -43,30 +43,7 @@ void seats_meet_and_close(msq::kind kind) {
     expect("a push behind what was refused", one[0].try_push(7), MSQ_OK);
     const auto ended = msq::close(one);
     expect("a close by all", ended.code, MSQ_OK);
-    expect("what is left", ended.left.size() == 1 && ended.left[0].body == 7 && ended.lost == 0, true);
-}
-
-void seats_are_leased(msq::kind kind) {
-    expect("a pool with one node", msq::seat_pool::create(kind, 1, two).first, MSQ_BAD_SIZE);
-    expect("a pool without a seat", msq::seat_pool::create(kind, 8, {}).first, MSQ_BAD_SIZE);
-    auto pool = msq::seat_pool::create(kind, 8, two).second;
-    auto other = msq::seat_pool::create(kind, 8, two).second;
-    msq::lease none;
-    {
-        auto giver = pool.lease(msq::role::giver), taker = pool.lease(msq::role::taker), further = other.lease(msq::role::taker);
-        expect("leases", giver && taker && further, true);
-        expect("no further lease", !pool.lease(msq::role::giver), true);
-        expect("a meeting", giver.meet(taker), MSQ_OK);
-        expect("a meeting of two queues", giver.meet(further), MSQ_TWO_QUEUES);
-        expect("a meeting without a seat", giver.meet(none), MSQ_NO_SEAT);
-        expect("a push", giver.try_push(7), MSQ_OK);
-        expect("a close beside a lease", pool.close().code, MSQ_IN_USE);
-    }
-    const auto ended = pool.close();
-    expect("a close", ended.code, MSQ_OK);
     expect("what is left", ended.left.size() == 1 && ended.left[0].body == 7, true);
-    expect("a second close", pool.close().code, MSQ_NO_SEAT);
-    expect("a close of none", msq::seat_pool().close().code, MSQ_NO_SEAT);
 }
 
 } // namespace
@@ -74,7 +51,6 @@ void seats_are_leased(msq::kind kind) {
 int main() {
     for (auto kind : {msq::kind::non_blocking, msq::kind::two_lock, msq::kind::ring}) {
         seats_meet_and_close(kind);
-        seats_are_leased(kind);
     }
     std::printf("%u answers as they should be, %u not\n", right, wrong);
     return wrong != 0;

@@ -15,7 +15,7 @@ fn fibonacci(sender: Sender<u64>) {
 }
 
 fn main() {
-    let (s, r) = bounded(1).unwrap();
+    let (s, r) = bounded(1);
     thread::spawn(|| fibonacci(s));
 
     // Print the first 20 Fibonacci numbers.

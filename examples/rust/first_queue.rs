@@ -3,7 +3,7 @@ use msq::channel;
 use std::thread;
 
 fn main() {
-    let (sender, receiver) = channel::bounded(1000).unwrap();
+    let (sender, receiver) = channel::bounded(1000);
     let worker = thread::spawn(move || {
         // It sleeps while the channel is empty, until each sender is gone.
         for text in receiver {

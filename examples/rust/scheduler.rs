@@ -2,7 +2,8 @@
 //! has run once.
 //!
 //!     scheduler TASKS: so many tasks, over a queue of each kind. Prints a line each.
-use msq::{Kind, PushError, Queue, Refusal};
+use msq::{Kind, Missed, PushError, Queue};
+use std::error::Error;
 use std::env;
 use std::iter;
 use std::process::ExitCode;
@@ -20,31 +21,31 @@ struct Scheduler<'a> {
 
 impl<'a> Scheduler<'a> {
     /// There is room for so many tasks.
-    const ROOM: u32 = 256;
+    const ROOM: usize = 256;
     /// So many threads are in a call at one time. One that sleeps is in none.
     const CALLS: u16 = 8;
 
-    fn new(kind: Kind) -> Result<Scheduler<'a>, Refusal> {
+    fn new(kind: Kind) -> Result<Scheduler<'a>, msq::Refusal> {
         let tasks = Queue::of(kind, Self::ROOM, Self::CALLS)?;
         Ok(Scheduler { tasks })
     }
 
-    /// Has a closure run by one of the workers. It sleeps while there is no room. The task comes back, refused `Closed`, once the
+    /// Has a closure run by one of the workers. It sleeps while there is no room. The task comes back, for `Closed`, once the
     /// scheduler is closed.
     fn submit(&self, task: impl FnOnce() + Send + 'a) -> Result<(), PushError<Task<'a>>> {
-        self.tasks.push_wait(Box::new(task))
+        self.tasks.push(Box::new(task))
     }
 
     /// Works in the thread that calls it: runs so many tasks and lets the thread go, or ends once the scheduler is closed and all its
     /// tasks were taken. It sleeps while there is none. Answers how many it ran.
     fn work(&self, most: usize) -> usize {
-        let tasks = iter::from_fn(|| self.tasks.pop_wait().ok());
+        let tasks = iter::from_fn(|| self.tasks.pop().ok());
         tasks.take(most).map(|task| task()).count()
     }
 
     /// No task is submitted any more, and those that were still run. One that no worker takes is dropped with the scheduler.
-    fn close(&self) -> Result<(), Refusal> {
-        self.tasks.close()
+    fn close(&self) {
+        self.tasks.close();
     }
 }
 
@@ -54,7 +55,7 @@ const VISITORS: usize = 12;
 const A_VISIT: usize = 50;
 
 // Has each count raised by a task.
-fn raise_all(kind: Kind, counts: &[AtomicU32]) -> Result<(), Refusal> {
+fn raise_all(kind: Kind, counts: &[AtomicU32]) -> Result<(), Box<dyn Error>> {
     let scheduler = &Scheduler::new(kind)?;
     let raise = |count: &'_ AtomicU32| {
         count.fetch_add(1, Ordering::SeqCst);
@@ -68,21 +69,21 @@ fn raise_all(kind: Kind, counts: &[AtomicU32]) -> Result<(), Refusal> {
             let mut counts = visit.iter();
             counts.try_for_each(|count| scheduler.submit(move || raise(count)))
         });
-        let closed = scheduler.close();
-        submitted.map_err(|unpushed| unpushed.refusal).and(closed)
+        scheduler.close();
+        Ok(submitted.map_err(|unpushed| unpushed.why)?)
     })
 }
 
 // Whether a scheduler that is closed hands a task back, and one that is dropped drops the tasks that no worker took.
-fn ends_clean(kind: Kind) -> Result<bool, Refusal> {
+fn ends_clean(kind: Kind) -> Result<bool, Box<dyn Error>> {
     let scheduler = Scheduler::new(kind)?;
     let owned = Arc::new(());
     let owner = Arc::clone(&owned);
-    scheduler.submit(move || drop(owner)).map_err(|it| it.refusal)?;
-    scheduler.close()?;
+    scheduler.submit(move || drop(owner)).map_err(|it| it.why)?;
+    scheduler.close();
     let late = scheduler.submit(|| {});
     drop(scheduler);
-    Ok(late.is_err_and(|it| it.refusal == Refusal::Closed) && Arc::strong_count(&owned) == 1)
+    Ok(late.is_err_and(|it| it.why == Missed::Closed) && Arc::strong_count(&owned) == 1)
 }
 
 fn main() -> ExitCode {
@@ -94,7 +95,7 @@ fn main() -> ExitCode {
     let kinds = [("non-blocking", Kind::NonBlocking), ("two-lock", Kind::TwoLock), ("ring", Kind::Ring)];
     for (name, kind) in kinds {
         let done = raise_all(kind, &counts).and_then(|()| ends_clean(kind));
-        if done != Ok(true) || !counts.iter().all(|count| count.swap(0, Ordering::SeqCst) == 1) {
+        if !matches!(done, Ok(true)) || !counts.iter().all(|count| count.swap(0, Ordering::SeqCst) == 1) {
             eprintln!("scheduler: {done:?}");
             return ExitCode::FAILURE;
         }

@@ -1,7 +1,7 @@
 //! Strings that pass through a queue and a channel: half of the threads push, the others pop, until the last sender goes.
 //!
 //!     strings THREADS VALUES: so many strings pass through each. Prints a line each.
-use msq::channel::bounded_for;
+use msq::channel::bounded_of;
 use msq::{Kind, Queue};
 use std::env;
 use std::process::ExitCode;
@@ -49,29 +49,28 @@ fn passes_a_queue(kind: Kind, threads: usize, came: &Came) -> bool {
             let queue = &queue;
             let each = came[giver].len();
             scope.spawn(move || {
-                (0..each).all(|number| queue.push_wait(text_of(giver, number)).is_ok())
+                (0..each).all(|number| queue.push(text_of(giver, number)).is_ok())
             })
         };
         let giving: Vec<_> = (0..givers).map(give).collect();
         let taking: Vec<_> = (givers..threads)
-            .map(|_| scope.spawn(|| take(std::iter::from_fn(|| queue.pop_wait().ok()), came)))
+            .map(|_| scope.spawn(|| take(std::iter::from_fn(|| queue.pop().ok()), came)))
             .collect();
         let gave = giving
             .into_iter()
             .all(|thread| thread.join().unwrap_or(false));
-        let closed = queue.close().is_ok();
+        queue.close();
         taking
             .into_iter()
             .all(|thread| thread.join().unwrap_or(false))
             && gave
-            && closed
     })
 }
 
 // The same of a channel, each of whose threads has an end of its own.
 fn passes_a_channel(threads: usize, came: &Came) -> bool {
     let givers = came.len();
-    let Ok((sender, receiver)) = bounded_for(1000, 3) else {
+    let Ok((sender, receiver)) = bounded_of(Kind::Ring, 1000, 3) else {
         return false;
     };
     thread::scope(|scope| {

@@ -19,6 +19,9 @@ const SHOWN: usize = 100;
 /// What is found where a text has no byte.
 const EMPTY: &str = "the text is empty; msq --help tells which command reads which text";
 
+/// What is found where a line ends as other systems end theirs.
+const CARRIED: &str = "a carriage return ends the line; a line feed alone is due there";
+
 /// Tells on standard error what a fault is about, a line each.
 pub(crate) fn tell_cause<R: Runtime + AllocGlobal>(
     rt: &R,
@@ -63,7 +66,11 @@ fn tell_text<R: Runtime>(
     let told = is_other || tell_found(rt, command, notes, line, cause)?;
     if !told {
         let is_empty = line == 1 && cause == TextCause::End && text.is_empty();
-        let found = if is_empty { EMPTY } else { found(cause) };
+        let found = match notes.text.line(line) {
+            _ if is_empty => EMPTY,
+            Some(said) if cause == TextCause::Form && said.ends_with(b"\r") => CARRIED,
+            _ => found(cause),
+        };
         eprint!(rt; "  found: {found}\n")?;
     }
     if is_other || cause != TextCause::Extra && !(told && cause == TextCause::Form) {

@@ -101,8 +101,27 @@ fn spelled(command: &Command) -> &'static str {
     }
 }
 
+/// What a text is called that a command writes and none reads, by its beginning.
+fn written(text: &[u8]) -> Option<&'static str> {
+    if text.starts_with(b"msq trace 1\n") {
+        Some("a trace")
+    } else if text.starts_with(b"yes\n") || text.starts_with(b"no ") {
+        Some("a verdict")
+    } else if text.starts_with(b"results ") {
+        Some("a list of results")
+    } else if text.starts_with(b"letters ") {
+        Some("a list of letters")
+    } else {
+        None
+    }
+}
+
 /// Tells that a text is one of another kind than a command reads; whether it was told.
 pub(crate) fn tell_kind<R: Runtime>(rt: &R, command: &Command, text: &[u8]) -> io::Result<bool> {
+    if let Some(name) = written(text) {
+        eprint!(rt; "  found: this is {name}, which msq writes and no command reads\n")?;
+        return Ok(true);
+    }
     let Some(kind) = TextKind::of(text) else {
         return Ok(false);
     };

@@ -7,3 +7,6 @@ pub mod Sizes
 pub mod Written
 pub mod Batches
 pub mod AtOnce
+pub mod NewShares
+pub mod ShareEnds
+pub mod FirstSteps

@@ -25,8 +25,9 @@ use Rattle.msq_c.specs.Queues.{Queue, SeatOf, known_of, permits_of}
 use Rattle.msq_c.specs.declared.seat_blocks.SeatBlock.{SeatBlock}
 use Rattle.msq_c.specs.declared.handles.MsqSeat.{MsqSeat}
 use Rattle.msq_c.specs.Blocks.{Owned, queue_of, owned_in}
-use Rattle.msq_c.specs.Seats.{block_at, known_at}
-use Rattle.msq_c.specs.Made.{IsNew, AreUnused, ArePut, AreAsked, plan_for, places_for, kind_number, role_number, ring_role_number, seat_at}
+use Rattle.msq_c.specs.Seats.{is_full, block_at, known_at}
+use Rattle.msq_c.specs.WordEnds.{ArePut}
+use Rattle.msq_c.specs.Made.{IsNew, AreUnused, AreAsked, plan_for, places_for, kind_number, role_number, ring_role_number, seat_at}
 
 -- a new queue of nodes, and its seats, as those of one of any kind
 module _ (kind nodes limit : ℕ) (numbers : List ℕ) (k : Kind) (roles : List Role) (kinds : kind_number k ≡ kind) (those : map role_number roles ≡ numbers)
@@ -69,7 +70,7 @@ module _ (kind nodes limit : ℕ) (numbers : List ℕ) where
   }
 
   all_asked : (owned : List Owned) (seats : List SeatBlock) (slots : List MsqSeat)
-      → map owned_in seats ≡ owned → AreUnused kind nodes limit numbers owned → ArePut seats slots → AreAsked kind nodes limit numbers slots
+      → map owned_in seats ≡ owned → AreUnused kind nodes limit numbers owned → ArePut is_full block_at seats slots → AreAsked kind nodes limit numbers slots
   all_asked owned seats slots e u p =
       let same : owned ≡ map (λ (h : MsqSeat). owned_in (block_at h)) slots =
       sym e ∙ ap (map owned_in) (sym p.those) ∙ map-map owned_in block_at slots in
@@ -86,7 +87,7 @@ module _ (kind nodes limit : ℕ) (numbers : List ℕ) where
 
   -- handles that blocks with the seats of a new queue were put into
   pub asked_if : {V E B : Type 0} (out : Result V E) (items : V → List MsqSeat) (value : B → SeatBlock) (boxes : List B) (owned : List Owned)
-      → map (λ b. owned_in (value b)) boxes ≡ owned → AreUnused kind nodes limit numbers owned → IfOk out (λ v. ArePut (map value boxes) (items v))
+      → map (λ b. owned_in (value b)) boxes ≡ owned → AreUnused kind nodes limit numbers owned → IfOk out (λ v. ArePut is_full block_at (map value boxes) (items v))
       → IfOk out (λ v. AreAsked kind nodes limit numbers (items v))
   asked_if (Ok v) items value boxes owned e u p = all_asked owned (map value boxes) (items v) (map-map owned_in value boxes ∙ e) u p
   asked_if (Err refusal) items value boxes owned e u p = tt

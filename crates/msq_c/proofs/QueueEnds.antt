@@ -72,6 +72,16 @@ asks_so : (q : Queue) (ks : List Known) → IsEnough q (length ks) → EitherAsk
 asks_so (First p) ks enough = tt
 asks_so (Second r) ks enough = enough
 
+-- all seats of a queue, without their shares, and room for its end
+module _ (p q : Queue) (seats : List SeatOf) (others : ℕ) (same : q ≡ p) (many : length seats ≡ others + 1) (room : EndRoom)
+    (has : HasAnyRoom p (others + 1) room) where
+  pub room_of_all : HasEitherRoom (λ p. HasRoomFor (picked_arena_of p)) ring.HasRoomFor q (length seats) room.rest
+  room_of_all = subst (λ (n : ℕ). HasEitherRoom (λ p. HasRoomFor (picked_arena_of p)) ring.HasRoomFor q n room.rest) (sym many)
+      (subst (λ (p : Queue). HasEitherRoom (λ p. HasRoomFor (picked_arena_of p)) ring.HasRoomFor p (others + 1) room.rest) (sym same) has.rest)
+
+  pub all_asked : EitherAsks (λ p x. Unit {0}) (λ r x. length x ≡ length (permits_in r)) q (map known_of seats)
+  all_asked = asks_so q (map known_of seats) (subst (IsEnough q) (sym (length-map seats known_of ∙ many)) (subst (λ (p : Queue). IsEnough p (others + 1)) (sym same) has.enough))
+
 -- the seats of a queue without their shares, the last one and others, and room for its end
 module _ (last : Owned) (others : List Owned) (q : Queue) (seats : List SeatOf) (same : q ≡ queue_of last) (those : seats ≡ map seat_of others ++ seat_of last ∷ []) (room : EndRoom)
     (has : HasAnyRoom (queue_of last) (length others + 1) room) where
@@ -79,11 +89,10 @@ module _ (last : Owned) (others : List Owned) (q : Queue) (seats : List SeatOf) 
   many = omega (arith, ap length those, length-append (map seat_of others) (seat_of last ∷ []), length-map others seat_of)
 
   pub rest_room : HasEitherRoom (λ p. HasRoomFor (picked_arena_of p)) ring.HasRoomFor q (length seats) room.rest
-  rest_room = subst (λ (n : ℕ). HasEitherRoom (λ p. HasRoomFor (picked_arena_of p)) ring.HasRoomFor q n room.rest) (sym many)
-      (subst (λ (p : Queue). HasEitherRoom (λ p. HasRoomFor (picked_arena_of p)) ring.HasRoomFor p (length others + 1) room.rest) (sym same) has.rest)
+  rest_room = room_of_all (queue_of last) q seats (length others) same many room has
 
   pub asked : EitherAsks (λ p x. Unit {0}) (λ r x. length x ≡ length (permits_in r)) q (map known_of seats)
-  asked = asks_so q (map known_of seats) (subst (IsEnough q) (sym (length-map seats known_of ∙ many)) (subst (λ (p : Queue). IsEnough p (length others + 1)) (sym same) has.enough))
+  asked = all_asked (queue_of last) q seats (length others) same many room has
 
   pub closes : (rest : Rest) → Closes (permits_of q) (map known_of seats) rest → Closes (permits_of (queue_of last)) (map (λ (s : Owned). known_of (seat_of s)) (others ++ last ∷ [])) rest
   closes rest c = subst (λ (ks : List Known). Closes (permits_of (queue_of last)) ks rest) (all_known others last seats those known_of)

@@ -20,7 +20,16 @@ use Rattle.msq_c.proofs.Sizes.{is_split, enough, some_count, few_counts}
 use Rattle.msq_c.specs.WordBlocks.{Owned, Own, owned_in}
 use Rattle.msq_c.specs.WordSeats.{known_at}
 use Rattle.msq_c.specs.Made.{Asks, kind_number, role_number}
-use Rattle.msq_c.specs.WordMade.{AreUnused, ArePut, AreMade, AreAsked, plan_for, seat_at}
+use Rattle.msq_c.specs.WordEnds.{ArePut}
+use Rattle.msq_c.specs.WordMade.{AreUnused, AreMade, AreAsked, plan_for, seat_at}
+
+-- a block more was put into a handle
+module _ {H O B : Type 0} (own : H → O) (was now : List H) (h : H) (more : now ≡ was ++ h ∷ []) (boxes : List B) (b : B) where
+  pub put_one : (value : B → O) → own h ≡ value b → map own was ≡ map value boxes → map own now ≡ map value (boxes ++ b ∷ [])
+  put_one value e those = ap (map own) more ∙ map_push own was h ∙ ap (λ xs. xs ++ own h ∷ []) those ∙ ap (λ x. map value boxes ++ x ∷ []) e ∙ sym (map_push value boxes b)
+
+  pub one_longer : length was ≡ length boxes → length now ≡ length (boxes ++ b ∷ [])
+  one_longer same = ap length more ∙ length_push was h ∙ ap (λ n. n + 1) same ∙ sym (length_push boxes b)
 
 -- the seats of a new queue of a plan, each with a share
 pub unused_of : {T : Type 0} {g : Ghosts (AnyValues T) T (Seat T)} (z : Layout) (q : AnyValues T) (seats : List (Seat T)) (owned : List (Owned T g))
@@ -49,14 +58,6 @@ module _ {H T : Type 0} {g : Ghosts (AnyValues T) T (Seat T)} (holds : H → Boo
         one = All-unmap (λ s. queue_of s ≡ u.queue) (λ (h : H). owned_in (own h)) slots (subst (All (λ s. queue_of s ≡ u.queue)) same u.one);
         unused = subst (λ ks. AreNewOf (permits_of u.queue) ks) known u.unused;
       }
-
-  -- a block more was put into a handle
-  module _ {B : Type 0} (was now : List H) (h : H) (more : now ≡ was ++ h ∷ []) (boxes : List B) (b : B) where
-    pub put_one : (value : B → Own T g) → own h ≡ value b → map own was ≡ map value boxes → map own now ≡ map value (boxes ++ b ∷ [])
-    put_one value e those = ap (map own) more ∙ map_push own was h ∙ ap (λ xs. xs ++ own h ∷ []) those ∙ ap (λ x. map value boxes ++ x ∷ []) e ∙ sym (map_push value boxes b)
-
-    pub one_longer : length was ≡ length boxes → length now ≡ length (boxes ++ b ∷ [])
-    one_longer same = ap length more ∙ length_push was h ∙ ap (λ n. n + 1) same ∙ sym (length_push boxes b)
 
   -- handles that blocks with the seats of a new queue were put into
   pub made_if : {V E B : Type 0} (out : Result V E) (items : V → List H) (value : B → Own T g) (boxes : List B) (owned : List (Owned T g))

@@ -1,5 +1,6 @@
 pub mod Batches
 pub mod Boxed
+pub mod Calls
 pub mod Codes
 pub mod Ends
 pub mod Queues
@@ -10,6 +11,8 @@ pub mod Many
 pub mod Blocks
 pub mod Rests
 pub mod Seats
+pub mod Shares
+pub mod NewShares
 pub mod Values
 pub mod Words
 pub mod WordBlocks
@@ -21,3 +24,4 @@ pub mod WordRests
 pub mod WordRows
 pub mod Three
 pub mod One
+pub mod ShareEnds

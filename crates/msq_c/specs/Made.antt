@@ -23,7 +23,6 @@ use Rattle.ring_queue.specs.declared.seats.Seat.{Seat as RingSeat}
 use Rattle.ring_queue.specs.NewRings as ring
 use Rattle.picked.specs.declared.either.EitherQueue.TheVariants.{First, Second}
 use Rattle.picked.specs.Either.{as_first, as_second}
-use Rattle.msq_c.specs.declared.seat_blocks.SeatBlock.{SeatBlock}
 use Rattle.msq_c.specs.declared.handles.MsqSeat.{MsqSeat}
 use Rattle.msq_c.specs.declared.troubles.Trouble.{Trouble}
 use Rattle.msq_c.specs.declared.troubles.Trouble.TheVariants.{Refused, BadSize, InUse}
@@ -128,11 +127,6 @@ pub record AreUnused (kind nodes limit : ℕ) (roles : List ℕ) (owned : List O
   pub made : IsNew kind nodes limit roles queue (map seat_of owned)
   pub one : All (λ s. queue_of s ≡ queue) owned
   pub unused : AreNew (permits_of queue) (map (λ s. known_of (seat_of s)) owned)
-
--- these handles are full of these seats, in their order
-pub record ArePut (seats : List SeatBlock) (slots : List MsqSeat) : Type 0 where
-  pub full : AreFull slots
-  pub those : map block_at slots ≡ seats
 
 -- the seat itself of a handle, where there is one
 abbrev pub seat_at : MsqSeat → SeatOf

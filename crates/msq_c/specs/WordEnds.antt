@@ -27,6 +27,11 @@ module _ {H : Type 0} (holds : H → Bool) where
   abbrev pub AreEmpty : List H → Type 0
   AreEmpty slots = All (λ h. holds h ≡ false) slots
 
+-- these handles are full of these blocks, in their order
+pub record ArePut {H O : Type 0} (holds : H → Bool) (own : H → O) (blocks : List O) (slots : List H) : Type 0 where
+  pub full : AreFull holds slots
+  pub those : map own slots ≡ blocks
+
 -- room for the end of a queue
 abbrev pub WordRoom : Type 0 → Type 0
 WordRoom T = EndRoom (AnyValues T) (Room T) (Ended T) T (Seat T)

@@ -59,11 +59,6 @@ module _ {H : Type 0} (holds : H → Bool) where
   RefusesCreate kind nodes limit roles slots _ = ⊥
 
 module _ {H T : Type 0} {g : Ghosts (AnyValues T) T (Seat T)} (holds : H → Bool) (own : H → Own T g) where
-  -- these handles are full of these seats, in their order
-  pub record ArePut (seats : List (Own T g)) (slots : List H) : Type 0 where
-    pub full : AreFull holds slots
-    pub those : map own slots ≡ seats
-
   -- these handles have all the seats of one new queue of a plan, in their order
   pub record AreMade (z : Layout) (slots : List H) : Type 0 where
     pub queue : AnyValues T

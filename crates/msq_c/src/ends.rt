@@ -1,5 +1,5 @@
 //! The end of a queue, by handles.
-ghost use Rattle.std.specs.Prelude.{◌≡◌, ◌+◌, ◌++◌, ◌∷◌, [], map, length, true, IfOk, IfErr, OnOk, MatchBool};
+ghost use Rattle.std.specs.Prelude.{◌≡◌, ◌+◌, ◌++◌, ◌∷◌, [], map, length, true, IfOk, IfErr, OnOk};
 ghost use Rattle.std.specs.List.{All};
 ghost use Rattle.history.specs.Ends.{Closes};
 ghost use Rattle.owned.specs.Owned.{seat_of};
@@ -11,7 +11,8 @@ ghost use Rattle.msq_c.specs.Ends.{HasAnyRoom, HasRoomOf, IsRoomless, RefusesRoo
 ghost use Rattle.msq_c.specs.Ends.{ClosesHandles, IsMemory, RefusesClose};
 
 use crate::handles::MsqSeat;
-use crate::seat_blocks::{EndRoom, Queue};
+use crate::seat_blocks::{EndRoom, Queue, SeatBlock};
+use crate::slots::{Slot, all_are_full, empties, lift};
 use crate::troubles::Trouble;
 use carriers::Numbers;
 use history::{Refusal, Rest};
@@ -23,13 +24,6 @@ use std::alloc::Global;
 /// What an end of a queue gives beside the rest.
 pub(crate) type End = EitherEnd<Ended, ()>;
 
-// Whether each handle is full.
-fn all_are_full(slots: &[MsqSeat]) -> bool
-    ensures { MatchBool result (AreFull slots.now) (¬ AreFull slots.now) }
-{
-    slots.iter().all(|slot| slot.is_full())
-}
-
 // Room for the end of the queue of a full handle by so many seats, which are all that have a share of it, and enough.
 fn room_at(alloc: Global, slot: &mut MsqSeat, count: usize) -> Result<EndRoom, Trouble>
     requires { is_full slot.old ≡ true }
@@ -38,7 +32,7 @@ fn room_at(alloc: Global, slot: &mut MsqSeat, count: usize) -> Result<EndRoom, T
     ensures room { IfOk result (HasAnyRoom (queue_at slot.old) count) }
     ensures refused { IfErr result IsRoomless }
 {
-    let own = slot.lift(alloc);
+    let own = lift(alloc, slot);
     let room = own.room(alloc, count);
     *slot = MsqSeat::of(own);
     room
@@ -58,21 +52,6 @@ fn room_of(alloc: Global, slots: &mut [MsqSeat]) -> Result<EndRoom, Trouble>
     room_at(alloc, &mut slots[0], count)
 }
 
-// As many empty handles.
-fn empties(alloc: Global, like: &[MsqSeat]) -> Result<Vec<MsqSeat>, Trouble>
-    ensures empty { IfOk result (λ handles. AreEmpty handles.items) }
-    ensures len { IfOk result (λ handles. length handles.items ≡ length like.now) }
-    ensures only_memory { IfErr result IsMemory }
-{
-    let mut handles = Vec::new(alloc);
-    for slot in like {
-        if handles.push(slot.empty_like()).is_err() {
-            return Err(Trouble::Refused(Refusal::Memory));
-        }
-    }
-    Ok(handles)
-}
-
 // The seats of full handles, which are left empty; where memory is refused, as they were.
 fn take_all(alloc: Global, slots: &mut [MsqSeat]) -> Result<Vec<OwnedSeat<Numbers<Queue>>>, Trouble>
     requires { AreFull slots.old }
@@ -83,7 +62,7 @@ fn take_all(alloc: Global, slots: &mut [MsqSeat]) -> Result<Vec<OwnedSeat<Number
     let Ok(mut owned) = Vec::with_capacity(alloc, slots.len()) else {
         return Err(Trouble::Refused(Refusal::Memory));
     };
-    let mut handles = empties(alloc, slots)?;
+    let mut handles = empties::<SeatBlock, MsqSeat>(alloc, slots)?;
     slots.swap_with_slice(&mut handles);
     for handle in handles {
         owned.push_reserved(Box::into_inner(handle.into_seat(alloc)).into_owned());
@@ -121,7 +100,7 @@ pub(crate) fn close(alloc: Global, slots: &mut [MsqSeat]) -> Result<(Rest, End),
     ensures empty { OnOk result (AreEmpty slots.new) }
     ensures refused { IfErr result (RefusesClose slots.old slots.new) }
 {
-    if !all_are_full(slots) {
+    if !all_are_full::<SeatBlock, MsqSeat>(slots) {
         return Err(Trouble::NoHandle);
     }
     let room = room_of(alloc, slots)?;

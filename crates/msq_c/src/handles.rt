@@ -6,9 +6,10 @@ ghost use Rattle.msq_c.specs.contracts.seat_blocks.SeatBlock.{the_row};
 
 use crate::parts::Parts;
 use crate::seat_blocks::SeatBlock;
+use crate::slots::Slot;
 use std::alloc::Global;
 use std::marker::Model;
-use std::{mem, ptr};
+use std::ptr;
 
 /// A pointer to a seat, where it is full; it then owns the seat's block.
 #[repr(C)]
@@ -60,47 +61,30 @@ pub struct MsqSeat {
     ghost tells: { handle.full ≡ full },
 }
 
-impl MsqSeat {
+impl Slot<SeatBlock> for MsqSeat {
     ghost use Rattle.msq_c.specs.Seats.{is_full, block_at};
 
-    /// Whether there is a seat.
-    pub(crate) fn is_full(&self) -> bool
-        ensures { result ≡ is_full self.now }
-    {
+    ghost holds = { is_full };
+
+    ghost own = { block_at };
+
+    fn is_full(&self) -> bool {
         self.full
     }
 
-    /// An empty handle.
-    pub(crate) fn empty_like(&self) -> MsqSeat
-        ensures { is_full result ≡ false }
-    {
+    fn empty_like(&self) -> MsqSeat {
         MsqSeat {
             handle: Handle::empty(&self.handle),
             full: false,
         }
     }
 
-    /// The seat of a full handle.
-    pub(crate) fn into_seat(self, alloc: Global) -> Box<SeatBlock, Global>
-        requires { is_full self ≡ true }
-        ensures { result.value ≡ block_at self }
-    {
+    fn into_seat(self, alloc: Global) -> Box<SeatBlock, Global> {
         let MsqSeat { handle, full: _ } = self;
         handle.into_parts(alloc).into_box()
     }
 
-    /// The seat of a full handle, which is left empty.
-    pub(crate) fn lift(&mut self, alloc: Global) -> Box<SeatBlock, Global>
-        requires { is_full self.old ≡ true }
-        ensures value { result.value ≡ block_at self.old }
-        ensures empty { is_full self.new ≡ false }
-    {
-        let empty = self.empty_like();
-        mem::replace(self, empty).into_seat(alloc)
-    }
-
-    /// A full handle of this seat.
-    pub(crate) fn of(seat: Box<SeatBlock, Global>) -> MsqSeat
+    fn of(seat: Box<SeatBlock, Global>) -> MsqSeat
         ensures value { block_at result ≡ seat.value }
         ensures full { is_full result ≡ true }
     {
@@ -111,7 +95,7 @@ impl MsqSeat {
     }
 }
 
-//= library/send: A handle, `MsqSeat`, `MsqWordSeat` or `MsqWordsSeat`, may go to another thread; the calls
-//=   that make queues need this.
+//= library/send: A handle, `MsqSeat`, `MsqWordSeat`, `MsqWordsSeat` or `MsqShare`, may go to another thread; the calls that
+//=   make queues need this.
 // SAFETY: proved, in proofs/handles/Handle/TheSendSync: the block may go, and a pointer is owned by one handle.
 unsafe impl Send for Handle {}

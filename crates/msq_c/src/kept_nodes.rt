@@ -3,6 +3,7 @@ ghost use Rattle.msq_c.specs.Keeps.{TellsKeeps, AnswersKeep};
 
 use crate::handles::MsqSeat;
 use crate::seat_blocks::{Queue, QueueSeat};
+use crate::slots::{Slot, lift};
 use crate::troubles::Trouble;
 use carriers::Numbers;
 use owned::Act;
@@ -38,7 +39,7 @@ pub(crate) fn keep_nodes(alloc: Global, slot: &mut MsqSeat, keeps: bool) -> Resu
     if !slot.is_full() {
         return Err(Trouble::NoHandle);
     }
-    let mut own = slot.lift(alloc);
+    let mut own = lift(alloc, slot);
     own.act(KeepsNodes { keeps });
     *slot = MsqSeat::of(own);
     Ok(())

@@ -14,7 +14,8 @@ ghost use Rattle.msq_c.specs.Ends.{AreOfOne};
 ghost use Rattle.msq_c.specs.Rests.{AnswersClose};
 
 mod bounds;
-mod calls;
+mod call_exports;
+mod call_words;
 mod ends;
 mod handles;
 mod kept_nodes;
@@ -23,10 +24,15 @@ mod many;
 mod many_calls;
 mod many_exports;
 mod new_queues;
+mod new_shares;
 mod parts;
 mod rests;
 mod ring_acts;
 mod seat_blocks;
+mod seat_calls;
+mod share_blocks;
+mod share_ends;
+mod share_handles;
 mod single_exports;
 mod single_handles;
 mod slots;
@@ -47,6 +53,7 @@ use crate::bounds::{MsqLeft, MsqLen};
 use crate::handles::MsqSeat;
 use crate::looks::{ForLength, ForPushes, ForValues, code_of_emptiness, look};
 use crate::rests::MsqRest;
+use crate::slots::{Slot, lift};
 use crate::troubles::{EMPTY, UNCOUNTED, code};
 use crate::values::MsqValue;
 use std::alloc::Global;
@@ -59,7 +66,7 @@ pub extern "C" fn msq_try_push(alloc: Global, slot: &mut MsqSeat, body: u64, tur
     //=   push, with no change. The handle stays full or empty, of the same queue.
     ensures { Tells done_code result (AnswersPush slot.old slot.new body turns) }
 {
-    code(calls::push(alloc, slot, body, turns))
+    code(seat_calls::push(alloc, slot, body, turns))
 }
 
 /// Takes the value at the front, in so many turns at most, 1 or more. It is written where there is one, and else `value` stays
@@ -76,7 +83,7 @@ pub extern "C" fn msq_try_pop(
     ensures { Tells pop_code result
         (λ out. AnswersPop slot.old slot.new turns out × IsWritten out value.old value.new) }
 {
-    match calls::pop(alloc, slot, turns) {
+    match seat_calls::pop(alloc, slot, turns) {
         Ok(Some(taken)) => {
             *value = MsqValue::of(taken);
             0
@@ -93,7 +100,7 @@ pub extern "C" fn msq_try_shut(alloc: Global, slot: &mut MsqSeat, turns: u32) ->
     //=   met, and else `MSQ_NO_SEAT`, only where one is empty, with no change; each stays full or empty, of the same queue.
     ensures { Tells done_code result (AnswersShut slot.old slot.new turns) }
 {
-    code(calls::shut(alloc, slot, turns))
+    code(seat_calls::shut(alloc, slot, turns))
 }
 
 /// Both seats, of one queue, have seen one history afterwards.
@@ -103,7 +110,7 @@ pub extern "C" fn msq_meet(alloc: Global, one: &mut MsqSeat, other: &mut MsqSeat
     //= library/shut
     ensures { Tells done_code result (AnswersMeet one.old other.old one.new other.new) }
 {
-    code(calls::meet(alloc, one, other))
+    code(seat_calls::meet(alloc, one, other))
 }
 
 /// Whether the queue is empty, and shut too, by a code.
@@ -209,6 +216,6 @@ pub extern "C" fn msq_drop(alloc: Global, slot: &mut MsqSeat)
     ensures { is_full slot.new ≡ false }
 {
     if slot.is_full() {
-        drop(slot.lift(alloc));
+        drop(lift(alloc, slot));
     }
 }

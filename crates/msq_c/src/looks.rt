@@ -5,6 +5,7 @@ ghost use Rattle.msq_c.specs.Looks.{TellsEmptiness, TellsLen, TellsLeft, Answers
 use crate::bounds::{MsqLeft, MsqLen};
 use crate::handles::MsqSeat;
 use crate::seat_blocks::{Queue, QueueSeat};
+use crate::slots::{Slot, lift};
 use crate::troubles::{EMPTY, Trouble};
 use carriers::Numbers;
 use history::Refusal;
@@ -88,7 +89,7 @@ pub(crate) fn look<L: Look<Numbers<Queue>>>(
     if !slot.is_full() {
         return Err(Trouble::NoHandle);
     }
-    let mut own = slot.lift(alloc);
+    let mut own = lift(alloc, slot);
     let told = own.look::<L>();
     *slot = MsqSeat::of(own);
     Ok(told)

@@ -2,6 +2,7 @@
 ghost use Rattle.msq_c.specs.Many.{AnswersPushAll, AnswersPopUpTo};
 
 use crate::handles::MsqSeat;
+use crate::slots::{Slot, lift};
 use crate::troubles::Trouble;
 use crate::values::MsqValue;
 use std::alloc::Global;
@@ -18,7 +19,7 @@ pub(crate) fn push_all(
     if !slot.is_full() {
         return (0, Err(Trouble::NoHandle));
     }
-    let mut own = slot.lift(alloc);
+    let mut own = lift(alloc, slot);
     let answer = own.push_all(bodies, turns);
     *slot = MsqSeat::of(own);
     answer
@@ -36,7 +37,7 @@ pub(crate) fn pop_up_to(
     if !slot.is_full() {
         return (0, Err(Trouble::NoHandle));
     }
-    let mut own = slot.lift(alloc);
+    let mut own = lift(alloc, slot);
     let answer = own.pop_up_to(alloc, values, turns);
     *slot = MsqSeat::of(own);
     answer

@@ -6,16 +6,17 @@ ghost use Rattle.picked.specs.Either.{IsEitherSeat};
 ghost use Rattle.picked.specs.Picked.{IsPickedSeat};
 ghost use Rattle.ring_queue.specs.Queues.{IsNumberSeat};
 ghost use Rattle.msq_c.specs.Queues.{known_of, permits_of};
-ghost use Rattle.msq_c.specs.Ends.{AreEmpty, IsMemory};
+ghost use Rattle.msq_c.specs.Ends.{IsMemory};
 ghost use Rattle.msq_c.specs.Made as made;
 ghost use Rattle.msq_c.specs.Made.{kind_number, role_number, ring_role_number, IsRole};
 ghost use Rattle.msq_c.specs.Made.{AreSizes, AreNoSizes, Asks, IsOutOfRange, MayMake, IsNew};
-ghost use Rattle.msq_c.specs.Made.{AreUnused, AreAsked, ArePut, RefusesCreate};
+ghost use Rattle.msq_c.specs.Made.{AreUnused, AreAsked, RefusesCreate};
 ghost use Rattle.msq_c.specs.Blocks.{owned_in};
 
 use crate::handles::MsqSeat;
 use crate::ring_acts::AT_ONCE;
 use crate::seat_blocks::{Queue, QueueSeat, SeatBlock};
+use crate::slots::{all_are_empty, sealed};
 use crate::troubles::Trouble;
 use carriers::Numbers;
 use history::{MOST_ACTOR, Refusal, Taken};
@@ -27,7 +28,7 @@ use ring_queue::{MOST_SEATS, RingQueue, Role as RingRole};
 use std::alloc::Global;
 
 /// The number of the ring.
-const RING: u32 = 2;
+pub(crate) const RING: u32 = 2;
 
 /// The kind of this number.
 pub(crate) fn kind_of(number: u32) -> Kind
@@ -223,8 +224,8 @@ fn new_ring(
     Ok(made)
 }
 
-// A new queue of the kind with this number, and its seats.
-fn new_queue(
+/// A new queue of the kind with this number, and its seats.
+pub(crate) fn new_queue(
     alloc: Global,
     kind: u32,
     nodes: u32,
@@ -301,21 +302,6 @@ fn boxed(
     Ok(boxes)
 }
 
-// A full handle of each seat.
-fn sealed(alloc: Global, boxes: Vec<Box<SeatBlock, Global>>) -> Result<Vec<MsqSeat>, Trouble>
-    ensures put { IfOk result (λ h. ArePut (map (λ b. b.value) boxes.items) h.items) }
-    ensures len { IfOk result (λ h. length h.items ≡ length boxes.items) }
-    ensures only_memory { IfErr result IsMemory }
-{
-    let Ok(mut handles) = Vec::with_capacity(alloc, boxes.len()) else {
-        return Err(Trouble::Refused(Refusal::Memory));
-    };
-    for boxed in boxes {
-        handles.push_reserved(MsqSeat::of(boxed));
-    }
-    Ok(handles)
-}
-
 // Handles with the seats of a new queue, as these numbers ask for it.
 fn handles_of(
     alloc: Global,
@@ -331,7 +317,7 @@ fn handles_of(
 {
     let (owned, _spacer) = seats_of(alloc, kind, nodes, limit, numbers)?;
     let boxes = boxed(alloc, owned)?;
-    sealed(alloc, boxes)
+    sealed::<SeatBlock, MsqSeat>(alloc, boxes)
 }
 
 // Hands over what may go to another thread.
@@ -340,13 +326,6 @@ pub(crate) fn hand_over<T: Send + Drop>(slots: &mut [T], handles: &mut [T])
     ensures { slots.new ≡ handles.old }
 {
     slots.swap_with_slice(handles);
-}
-
-// Whether each handle is empty.
-fn all_are_empty(slots: &[MsqSeat]) -> bool
-    ensures { MatchBool result (AreEmpty slots.now) (¬ AreEmpty slots.now) }
-{
-    slots.iter().all(|slot| !slot.is_full())
 }
 
 /// A new queue, whose seats fill these handles, one for each role.
@@ -363,7 +342,7 @@ pub(crate) fn create(
     ensures same { OnErr result (slots.new ≡ slots.old) }
     ensures refused { IfErr result (RefusesCreate kind nodes limit roles.now slots.old) }
 {
-    if !all_are_empty(slots) {
+    if !all_are_empty::<SeatBlock, MsqSeat>(slots) {
         return Err(Trouble::InUse);
     }
     if roles.len() != slots.len() || !are_asked(kind, nodes, limit, roles) {

@@ -1,6 +1,8 @@
 //! A seat of a queue of any kind, with its share, and its calls with plain numbers.
 ghost use Rattle.std.specs.Prelude.{◌≡◌, IfOk, IfErr, OnOk, MatchBool};
 ghost use Rattle.history.specs.Answers.{Pushed, PopAnswers, DidShut, Meets};
+ghost use Rattle.msq_c.specs.Queues.{IsEnough};
+ghost use Rattle.msq_c.specs.Ends.{HasAnyRoom, IsRoomless};
 
 use crate::troubles::Trouble;
 use carriers::Numbers;
@@ -24,6 +26,30 @@ pub struct EndRoom {
     pub(crate) seats: Vec<QueueSeat>,
 }
 
+// Whether so many seats are enough for an end of the queue.
+fn are_enough(queue: &Queue, count: usize) -> bool
+    ensures { MatchBool result (IsEnough queue.now count) (¬ IsEnough queue.now count) }
+{
+    match queue {
+        EitherQueue::First(_) => true,
+        EitherQueue::Second(ring) => count == ring.seat_count(),
+    }
+}
+
+/// Room for the end of a queue by so many seats, where they are enough.
+pub(crate) fn room_for_end(alloc: Global, queue: &Queue, count: usize) -> Result<EndRoom, Trouble>
+    ensures room { IfOk result (HasAnyRoom queue.now count) }
+    ensures refused { IfErr result IsRoomless }
+{
+    if !are_enough(queue, count) {
+        return Err(Trouble::InUse);
+    }
+    match (queue.room(alloc, count), Vec::with_capacity(alloc, count)) {
+        (Ok(rest), Ok(seats)) => Ok(EndRoom { rest, seats }),
+        _ => Err(Trouble::Refused(Refusal::Memory)),
+    }
+}
+
 /// How many words keep two seats apart whose blocks lie next to each other: each call writes its seat, and no two may be on
 /// one line of the cache, or on two that are fetched together.
 pub(crate) const APART: usize = 16;
@@ -41,8 +67,7 @@ pub struct SeatBlock {
 impl SeatBlock {
     ghost use Rattle.msq_c.specs.Blocks.{numbers_in, queue_in, seat_in, known_in, owned_in};
     ghost use Rattle.msq_c.specs.Blocks.{RefusesPush, RefusesPop, RefusesShut};
-    ghost use Rattle.msq_c.specs.Queues.{IsEnough, IsRing};
-    ghost use Rattle.msq_c.specs.Ends.{HasAnyRoom, IsRoomless};
+    ghost use Rattle.msq_c.specs.Queues.{IsRing};
 
     pub(crate) fn new(owned: OwnedSeat<Numbers<Queue>>, room: Vec<Taken>) -> SeatBlock
         ensures { owned_in result ≡ owned }
@@ -156,31 +181,14 @@ impl SeatBlock {
         self.owned.act(act)
     }
 
-    // Whether so many seats are enough for an end of the queue.
-    fn are_enough(&self, count: usize) -> bool
-        ensures { MatchBool result (IsEnough (queue_in self.now) count)
-            (¬ IsEnough (queue_in self.now) count) }
-    {
-        match self.owned.queue().queue() {
-            EitherQueue::First(_) => true,
-            EitherQueue::Second(ring) => count == ring.seat_count(),
-        }
-    }
-
     /// Room for the end of the queue by so many seats, where there are no further shares of it, and they are enough.
     pub(crate) fn room(&self, alloc: Global, count: usize) -> Result<EndRoom, Trouble>
         ensures room { IfOk result (HasAnyRoom (queue_in self.now) count) }
         ensures refused { IfErr result IsRoomless }
     {
-        if self.owned.shares() != count || !self.are_enough(count) {
+        if self.owned.shares() != count {
             return Err(Trouble::InUse);
         }
-        match (
-            self.owned.queue().queue().room(alloc, count),
-            Vec::with_capacity(alloc, count),
-        ) {
-            (Ok(rest), Ok(seats)) => Ok(EndRoom { rest, seats }),
-            _ => Err(Trouble::Refused(Refusal::Memory)),
-        }
+        room_for_end(alloc, self.owned.queue().queue(), count)
     }
 }

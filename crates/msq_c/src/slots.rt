@@ -1,6 +1,10 @@
 //! What C holds of a seat of a queue of words, whatever its values are.
-ghost use Rattle.std.specs.Prelude.{◌≡◌, Bool, true, false};
+ghost use Rattle.std.specs.Prelude.{◌≡◌, Bool, MatchBool, IfOk, IfErr, length, map, true, false};
+ghost use Rattle.msq_c.specs.Ends.{IsMemory};
+ghost use Rattle.msq_c.specs.WordEnds.{AreFull, AreEmpty, ArePut};
 
+use crate::troubles::Trouble;
+use history::Refusal;
 use std::alloc::Global;
 use std::mem;
 
@@ -39,4 +43,52 @@ pub(crate) fn lift<O: Drop, H: Slot<O>>(alloc: Global, slot: &mut H) -> Box<O, G
 {
     let empty = slot.empty_like();
     mem::replace(slot, empty).into_seat(alloc)
+}
+
+/// Whether each handle is empty.
+pub(crate) fn all_are_empty<O: Drop, H: Slot<O>>(slots: &[H]) -> bool
+    ensures { MatchBool result (AreEmpty H.holds slots.now) (¬ AreEmpty H.holds slots.now) }
+{
+    slots.iter().all(|slot| !slot.is_full())
+}
+
+/// Whether each handle is full.
+pub(crate) fn all_are_full<O: Drop, H: Slot<O>>(slots: &[H]) -> bool
+    ensures { MatchBool result (AreFull H.holds slots.now) (¬ AreFull H.holds slots.now) }
+{
+    slots.iter().all(|slot| slot.is_full())
+}
+
+/// As many empty handles.
+pub(crate) fn empties<O: Drop, H: Slot<O>>(alloc: Global, like: &[H]) -> Result<Vec<H>, Trouble>
+    ensures empty { IfOk result (λ handles. AreEmpty H.holds handles.items) }
+    ensures len { IfOk result (λ handles. length handles.items ≡ length like.now) }
+    ensures only_memory { IfErr result IsMemory }
+{
+    let mut handles = Vec::new(alloc);
+    for slot in like {
+        if handles.push(slot.empty_like()).is_err() {
+            return Err(Trouble::Refused(Refusal::Memory));
+        }
+    }
+    Ok(handles)
+}
+
+/// A full handle of each block. There is memory for all before the first one is made, since a handle that is dropped frees nothing.
+pub(crate) fn sealed<O: Drop, H: Slot<O>>(
+    alloc: Global,
+    boxes: Vec<Box<O, Global>>,
+) -> Result<Vec<H>, Trouble>
+    ensures put { IfOk result
+        (λ h. ArePut H.holds H.own (map (λ b. b.value) boxes.items) h.items) }
+    ensures len { IfOk result (λ h. length h.items ≡ length boxes.items) }
+    ensures only_memory { IfErr result IsMemory }
+{
+    let Ok(mut handles) = Vec::with_capacity(alloc, boxes.len()) else {
+        return Err(Trouble::Refused(Refusal::Memory));
+    };
+    for boxed in boxes {
+        handles.push_reserved(H::of(boxed));
+    }
+    Ok(handles)
 }

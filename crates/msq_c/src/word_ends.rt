@@ -1,5 +1,5 @@
 //! The end of a queue of words, by handles.
-ghost use Rattle.std.specs.Prelude.{◌≡◌, ◌++◌, ◌∷◌, [], map, length, true, IfOk, IfErr, OnOk, MatchBool};
+ghost use Rattle.std.specs.Prelude.{◌≡◌, ◌++◌, ◌∷◌, [], map, length, true, IfOk, IfErr, OnOk};
 ghost use Rattle.std.specs.List.{All};
 ghost use Rattle.carriers.specs.Ends.{ClosesOf};
 ghost use Rattle.value_queue.specs.ValuesSeen.{known_by};
@@ -12,7 +12,7 @@ ghost use Rattle.msq_c.specs.WordEnds.{AreFull, AreEmpty, AreOfOne, KeepSeats, o
 ghost use Rattle.msq_c.specs.WordEnds.{HasAnyRoom, HasRoomOf, RefusesRoom};
 ghost use Rattle.msq_c.specs.WordEnds.{ClosesHandles, RefusesClose};
 
-use crate::slots::{Slot, lift};
+use crate::slots::{Slot, all_are_full, empties, lift};
 use crate::troubles::Trouble;
 use crate::word_blocks::WordsBlock;
 use carriers::RestOf;
@@ -21,13 +21,6 @@ use node_arena::Ended;
 use owned::{EndRoom, OwnedSeat};
 use picked::AnyValues;
 use std::alloc::Global;
-
-// Whether each handle is full.
-fn all_are_full<T: Send + Drop, H: Slot<WordsBlock<AnyValues<T>>>>(slots: &[H]) -> bool
-    ensures { MatchBool result (AreFull H.holds slots.now) (¬ AreFull H.holds slots.now) }
-{
-    slots.iter().all(|slot| slot.is_full())
-}
 
 // How many shares there are of the queue of a full handle.
 fn shares_at<T: Send + Drop, H: Slot<WordsBlock<AnyValues<T>>>>(
@@ -93,24 +86,6 @@ fn room_of<T: Send + Drop, H: Slot<WordsBlock<AnyValues<T>>>>(
     room_at::<T, H>(alloc, &mut slots[0], others)
 }
 
-// As many empty handles.
-fn empties<T: Send + Drop, H: Slot<WordsBlock<AnyValues<T>>>>(
-    alloc: Global,
-    like: &[H],
-) -> Result<Vec<H>, Trouble>
-    ensures empty { IfOk result (λ handles. AreEmpty H.holds handles.items) }
-    ensures len { IfOk result (λ handles. length handles.items ≡ length like.now) }
-    ensures only_memory { IfErr result IsMemory }
-{
-    let mut handles = Vec::new(alloc);
-    for slot in like {
-        if handles.push(slot.empty_like()).is_err() {
-            return Err(Trouble::Refused(Refusal::Memory));
-        }
-    }
-    Ok(handles)
-}
-
 // The seats of full handles, which are left empty; where memory is refused, as they were.
 fn take_all<T: Send + Drop, H: Slot<WordsBlock<AnyValues<T>>>>(
     alloc: Global,
@@ -124,7 +99,7 @@ fn take_all<T: Send + Drop, H: Slot<WordsBlock<AnyValues<T>>>>(
     let Ok(mut owned) = Vec::with_capacity(alloc, slots.len()) else {
         return Err(Trouble::Refused(Refusal::Memory));
     };
-    let mut handles = empties::<T, H>(alloc, slots)?;
+    let mut handles = empties::<WordsBlock<AnyValues<T>>, H>(alloc, slots)?;
     slots.swap_with_slice(&mut handles);
     for handle in handles {
         owned.push_reserved(Box::into_inner(handle.into_seat(alloc)).into_owned());
@@ -161,7 +136,7 @@ pub(crate) fn close<T: Send + Drop, H: Slot<WordsBlock<AnyValues<T>>>>(
     ensures empty { OnOk result (AreEmpty H.holds slots.new) }
     ensures refused { IfErr result (RefusesClose H.holds H.own slots.old slots.new) }
 {
-    if !all_are_full::<T, H>(slots) {
+    if !all_are_full::<WordsBlock<AnyValues<T>>, H>(slots) {
         return Err(Trouble::NoHandle);
     }
     if shares_of::<T, H>(alloc, slots) != slots.len() {

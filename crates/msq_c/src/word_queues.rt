@@ -1,14 +1,13 @@
 //! A new queue of words, and a handle for each of its seats.
-ghost use Rattle.std.specs.Prelude.{◌≡◌, ◌≤◌, map, length, IfOk, IfErr, OnOk, OnErr, MatchBool};
+ghost use Rattle.std.specs.Prelude.{◌≡◌, ◌≤◌, map, length, IfOk, IfErr, OnOk, OnErr};
 ghost use Rattle.node_arena.specs.Plans.{Layout, IsPlanned};
 ghost use Rattle.msq_c.specs.Ends.{IsMemory};
 ghost use Rattle.msq_c.specs.Made.{Asks};
 ghost use Rattle.msq_c.specs.WordBlocks.{owned_in};
-ghost use Rattle.msq_c.specs.WordEnds.{AreEmpty};
-ghost use Rattle.msq_c.specs.WordMade.{plan_for, MayMake, AreUnused, AreMade, AreAsked, ArePut, RefusesCreate};
+ghost use Rattle.msq_c.specs.WordMade.{plan_for, MayMake, AreUnused, AreMade, AreAsked, RefusesCreate};
 
 use crate::new_queues::{Spacer, are_asked, count_for, hand_over, kind_of, roles_of, spacer_for};
-use crate::slots::Slot;
+use crate::slots::{Slot, all_are_empty, sealed};
 use crate::troubles::Trouble;
 use crate::word_blocks::WordsBlock;
 use history::Refusal;
@@ -65,25 +64,6 @@ fn boxed<T: Send + Drop>(
     Ok(boxes)
 }
 
-// A full handle of each seat.
-fn sealed<T: Send + Drop, H: Slot<WordsBlock<AnyValues<T>>>>(
-    alloc: Global,
-    boxes: Vec<Box<WordsBlock<AnyValues<T>>, Global>>,
-) -> Result<Vec<H>, Trouble>
-    ensures put { IfOk result
-        (λ h. ArePut H.holds H.own (map (λ b. b.value) boxes.items) h.items) }
-    ensures len { IfOk result (λ h. length h.items ≡ length boxes.items) }
-    ensures only_memory { IfErr result IsMemory }
-{
-    let Ok(mut handles) = Vec::with_capacity(alloc, boxes.len()) else {
-        return Err(Trouble::Refused(Refusal::Memory));
-    };
-    for boxed in boxes {
-        handles.push_reserved(H::of(boxed));
-    }
-    Ok(handles)
-}
-
 // Handles with the seats of a new queue.
 fn made<T: Send + Drop, H: Slot<WordsBlock<AnyValues<T>>>>(
     alloc: Global,
@@ -94,7 +74,7 @@ fn made<T: Send + Drop, H: Slot<WordsBlock<AnyValues<T>>>>(
     ensures only_memory { IfErr result IsMemory }
 {
     let boxes = boxed(alloc, owned)?;
-    sealed::<T, H>(alloc, boxes)
+    sealed::<WordsBlock<AnyValues<T>>, H>(alloc, boxes)
 }
 
 // Handles with the seats of a new queue, as these numbers ask for it.
@@ -117,13 +97,6 @@ fn handles_of<T: Send + Drop, H: Slot<WordsBlock<AnyValues<T>>>>(
     made::<T, H>(alloc, owned)
 }
 
-// Whether each handle is empty.
-fn all_are_empty<T: Send + Drop, H: Slot<WordsBlock<AnyValues<T>>>>(slots: &[H]) -> bool
-    ensures { MatchBool result (AreEmpty H.holds slots.now) (¬ AreEmpty H.holds slots.now) }
-{
-    slots.iter().all(|slot| !slot.is_full())
-}
-
 /// A new queue, whose seats fill these handles, one for each role.
 pub(crate) fn create<T: Send + Drop, H: Slot<WordsBlock<AnyValues<T>>>>(
     alloc: Global,
@@ -138,7 +111,7 @@ pub(crate) fn create<T: Send + Drop, H: Slot<WordsBlock<AnyValues<T>>>>(
     ensures same { OnErr result (slots.new ≡ slots.old) }
     ensures refused { IfErr result (RefusesCreate H.holds kind nodes limit roles.now slots.old) }
 {
-    if !all_are_empty::<T, H>(slots) {
+    if !all_are_empty::<WordsBlock<AnyValues<T>>, H>(slots) {
         return Err(Trouble::InUse);
     }
     if kind > TWO_LOCK || roles.len() != slots.len() || !are_asked(kind, nodes, limit, roles) {

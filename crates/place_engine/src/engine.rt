@@ -42,8 +42,9 @@ pub fn place_text<R: Source, W: Sink>(
 ) -> Result<Told, Refusal>
     //= program/place (ok, quiet): `place_text` answers points, a reason or that it is open, for the history read or the
     //=   recording's, and its text is written. With points the history is one of a queue, with a reason it isn't. It is
-    //=   open only where no operation is wrong by itself: the states that steps lead to are too many for the room, or the
-    //=   search found an order by which a history of at most 2,147,483,648 operations isn't one of a queue.
+    //=   open only where no operation is wrong by itself: states that the search reaches, each listed once, take as many
+    //=   bytes as the room or more, or it found an order by which a history of at most 2,147,483,648 operations isn't one
+    //=   of a queue.
     //= program/judge_refusals (ok, text, prefix, write, unwritten, refusal, reader)
     //= program/why (ok, prefix): Where they are asked for, `place_text` writes behind the line of a reason, for each operation of it,
     //=   the number of its line in the text and that line itself, byte for byte (`why_text`).

@@ -20,8 +20,8 @@ IsAnswer ops (History new) = IsSpread ops new.items × (verdict new.items ≡ Ye
 IsAnswer ops (Impossible reason) = IsReason ops reason
 IsAnswer ops (Open cause) = All IsFaultless ops
 
--- Why neither was found, by a search whose states may take so many bytes: those that are reached are too many, or it found an
--- order by which a history of at most 2147483648 operations isn't one of a queue.
+-- Why neither was found, by a search whose states may take so many bytes: those that are reached take as many or more, or it
+-- found an order by which a history of at most 2147483648 operations isn't one of a queue.
 abbrev pub IsCause : List Stamped → (room : ℕ) → Unknown → Type 0
 IsCause ops room Room = TakesRoom ops room
 IsCause ops room Unplaced = (order : List ℕ) × (length ops ≤ 2147483648 → IsOrder ops order → ⊥)

@@ -48,8 +48,9 @@ pub fn place(alloc: Global, history: &[Stamped], room: u64) -> Result<Placed, Re
     //=   stamps as they were or spread, by a reason that holds, or that neither was found, which is said of none with
     //=   an operation that is wrong by itself. Or Memory.
     ensures answer { IfOk result (IsAnswer history.now) }
-    //= judge/open: Open is told as `Room` only where the states that steps lead to are too many for the room; or as
-    //=   `Unplaced`, with an order by which a history of at most 2,147,483,648 operations isn't one of a queue.
+    //= judge/open: Open is told as `Room` only where states of the search, each reached from the start and listed once,
+    //=   take as many bytes as the room or more (`TakesRoom`); or as `Unplaced`, with an order by which a history of at
+    //=   most 2,147,483,648 operations isn't one of a queue.
     ensures cause { IfOk result (HasCause history.now room) }
     ensures only_memory { IfErr result (λ refusal. refusal ≡ Refusal.Memory) }
 {

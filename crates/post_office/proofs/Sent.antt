@@ -1,13 +1,11 @@
 -- A sender and a receiver of an office that was opened may go to a thread where its letters may.
 use denote.Hole.{as_row}
 use denote.Param.Send.{IsSend}
-use denote.Param.SendFields.{as_row_send}
 use denote.RattleType.{RattleType}
 use Rattle.carriers.specs.declared.queues.Carrier.{Ghosts}
 use Rattle.shared_queue.specs.contracts.sender.Sender as sender
 use Rattle.shared_queue.specs.contracts.receiver.Receiver as receiver
-use Rattle.shared_queue.proofs.sender.Sender.TheSendSync.{the_send as sender_send, the_field_send as held_sender_send}
-use Rattle.shared_queue.proofs.receiver.Receiver.TheSendSync.{the_send as receiver_send, the_field_send as held_receiver_send}
+use Rattle.post_office.proofs.SharedSends.{sender_send, receiver_send}
 use Rattle.node_arena.specs.contracts.seats.Seat as seat
 use Rattle.node_arena.proofs.seats.Seat.TheSendSync.{the_send as seat_send}
 use Rattle.picked.proofs.Threads.{queue_row, queue_send, queue_sync}
@@ -21,11 +19,7 @@ module _ (T : RattleType) (send : IsSend T) (g : Ghosts (queue_row T).Denot T.De
 
   -- and so may one that a closure holds
   pub sender_held : IsSend (as_row (sender.the_field (queue_row T) T (seat.the_row T) g))
-  sender_held =
-      as_row_send (sender.the_field (queue_row T) T (seat.the_row T) g)
-      (held_sender_send (queue_row T) T (seat.the_row T) g (queue_send T send) (seat_send T send) (queue_sync T send))
+  sender_held = sender_goes
 
   pub receiver_held : IsSend (as_row (receiver.the_field (queue_row T) T (seat.the_row T) g))
-  receiver_held =
-      as_row_send (receiver.the_field (queue_row T) T (seat.the_row T) g)
-      (held_receiver_send (queue_row T) T (seat.the_row T) g (queue_send T send) (seat_send T send) (queue_sync T send))
+  receiver_held = receiver_goes

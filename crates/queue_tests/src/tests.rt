@@ -13,6 +13,7 @@ mod ring_batches;
 mod rings;
 mod runs;
 mod seats;
+mod shares;
 mod sleepers;
 mod slots;
 mod threads;

@@ -9,7 +9,7 @@ use Rattle.atomic_table.specs.Seated.{TableId}
 use Rattle.history.specs.Ends.{AreAll}
 use Rattle.ring_queue.specs.declared.seats.Seat.{Seat}
 use Rattle.ring_queue.specs.Plans.{Layout, permit_of, permits_of}
-use Rattle.ring_queue.specs.Seats.{IsReady, known_of, view}
+use Rattle.ring_queue.specs.Seats.{Sits, known_of, view}
 use Rattle.ring_queue.proofs.RingEnds.{at_place}
 
 -- a number is among these, or each of them is another
@@ -79,12 +79,12 @@ known_there [] i n s e is = absurd (none-some s e)
 known_there (x ∷ xs) zero n s e is = ap (λ (y : Seat _). (view y).number) (same_Some x s e) ∙ is
 known_there (x ∷ xs) (suc i) n s e is = known_there xs i n s e is
 
-module _ {T : Type 0} (z : Layout) (t : TableId) (seats : List (Seat T)) (ready : All (IsReady z t) seats)
+module _ {T : Type 0} (z : Layout) (t : TableId) (seats : List (Seat T)) (ready : All (Sits z t) seats)
     (apart : (k l : ℕ) (a b : Seat T) → slice_get seats k ≡ Some a → slice_get seats l ≡ Some b → (view a).number ≡ (view b).number → k ≡ l) where
   -- the number of a seat that is handed in
   in_range : (i : ℕ) (s : Seat T) → slice_get seats i ≡ Some s → (1 ≤ (view s).number) × ((view s).number - 1 < length z.roles)
   in_range i s got =
-      let sits = (at_place (IsReady z t) seats i s ready got).sits in
+      let sits = at_place (Sits z t) seats i s ready got in
       let from = sits.from in
       let number = sits.number in
       let within = slice_get_within z.roles (s.number - 1) s.role sits.role in

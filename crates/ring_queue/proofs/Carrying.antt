@@ -31,6 +31,7 @@ use Rattle.ring_queue.specs.Rule.{Ring, Run, put}
 use Rattle.ring_queue.specs.Beside.{Beside, plain_of, plain_state, hand_in, hand_at, Begins, Carried, HoldsValues, KnowsValues, Effect, IsReadyFor}
 use Rattle.ring_queue.proofs.Tables.{HoldsWith, Extends, its_seat, one_seat}
 use Rattle.ring_queue.proofs.Calls.{Does}
+use Rattle.ring_queue.specs.Placed.{Placing}
 use Rattle.ring_queue.specs.Paths.{Try, accessed}
 use Rattle.ring_queue.proofs.Runs.{Made, run_on, knew_of}
 
@@ -59,12 +60,12 @@ knows_first z seen w ds rest begins matches q shut runs there =
     record { matches = matches; values = first.0; shut = first.1; runs = first.2; there = there }
 
 module _ {T : Type 0} (z : Layout) (s : State (Option T) (Beside T)) (H : HoldsValues z s) (count : length s.homes ≡ z.slots) (id : ℕ) (v : SeatView)
-    (ds : List (Deed T)) (hd : maybe.Option ℕ) (os : List (List (Deed T))) (ts : List Try)
-    (mine : get_elem? s.views id ≡ some (record { plain = seated v; deeds = ds; hand = hd; others = os; tries = ts })) (p : ℕ) (f : ℕ → ℕ) (all : List Entry)
+    (ds : List (Deed T)) (hd : maybe.Option ℕ) (os : List (List (Deed T))) (ts : List Try) (pl : Placing)
+    (mine : get_elem? s.views id ≡ some (record { plain = seated v; deeds = ds; hand = hd; others = os; tries = ts; placing = pl })) (p : ℕ) (f : ℕ → ℕ) (all : List Entry)
     (fact : SeatView → ℕ → SeatView → Type 0) (line : Does z p v f all fact) (within : p < words_of z)
     (ran : (n : ℕ) (v' : SeatView) → fact v n v' → Made z p n (f n) v v') where
   abbrev w : Beside T
-  w = record { plain = seated v; deeds = ds; hand = hd; others = os; tries = ts }
+  w = record { plain = seated v; deeds = ds; hand = hd; others = os; tries = ts; placing = pl }
 
   abbrev m : ℕ
   m = words_of z
@@ -128,7 +129,7 @@ module _ {T : Type 0} (z : Layout) (s : State (Option T) (Beside T)) (H : HoldsV
   sees = is_first extends.seen
 
   abbrev seat_after : List (Deed T) → maybe.Option ℕ → Beside T
-  seat_after d h = record { plain = seated v'; deeds = if sees then rides.deeds ++ d else ds; hand = h; others = []; tries = ts }
+  seat_after d h = record { plain = seated v'; deeds = if sees then rides.deeds ++ d else ds; hand = h; others = []; tries = ts; placing = pl }
 
   hands : (d : List (Deed T)) (h : maybe.Option ℕ) → Changes (hand_at s.views) (hand_at (set s.views id (seat_after d h))) id h
   hands d h = (ap hand_in (set_at s.views id w (seat_after d h) mine), λ i ne. ap hand_in (set_else s.views id i (seat_after d h) ne))
@@ -206,7 +207,7 @@ module _ {T : Type 0} (z : Layout) (s : State (Option T) (Beside T)) (H : HoldsV
 
   -- what the step tells, at the word that it found
   abbrev Told : (held : List (ℕ × Option T)) (k : ℕ) → Beside T × List (ℕ × Option T) → Type 0
-  Told held k o = (o.0.plain ≡ seated (knows o.0.plain)) × fact v k (knows o.0.plain)
+  Told held k o = (o.0.plain ≡ seated (knows o.0.plain)) × fact v k (knows o.0.plain) × (o.0.placing ≡ pl)
       × ((fs : List Entry) × ((fs ≡ []) ⊎ (fs ≡ all)) × ((knows o.0.plain).mine ≡ v.mine ++ fs) × Effect v.number fs w held o.0 o.1)
 
   told0 : fact v (get_or s.words p 0) v'
@@ -236,7 +237,7 @@ module _ {T : Type 0} (z : Layout) (s : State (Option T) (Beside T)) (H : HoldsV
   stays_put : (held : List (ℕ × Option T)) (d : List (Deed T)) (fs : List Entry) → es ≡ fs → At d hd s.homes fs → Effect v.number fs w held (seat_after d hd) held → Result held
   stays_put held d fs is r effect =
       let r' = subst (At d hd s.homes) (sym is) r in
-      (seat_after d hd, keeps, tt, built d hd s.homes r'.0 r'.1, (refl, told0, (fs, which fs is, own fs is, effect)))
+      (seat_after d hd, keeps, tt, built d hd s.homes r'.0 r'.1, (refl, told0, refl, (fs, which fs is, own fs is, effect)))
 
   by_none : (held : List (ℕ × Option T)) → es ≡ [] → Result held
   by_none held is =
@@ -268,7 +269,7 @@ module _ {T : Type 0} (z : Layout) (s : State (Option T) (Beside T)) (H : HoldsV
         gives,
         tt,
         built d none homes' r'.0 r'.1,
-        (refl, told0, (Push v.number b ∷ [], which (Push v.number b ∷ []) is, own (Push v.number b ∷ []) is, (y, refl, refl, refl, (fit.rest, all_seen d (some_entry (Push v.number b) is))))),
+        (refl, told0, refl, (Push v.number b ∷ [], which (Push v.number b ∷ []) is, own (Push v.number b ∷ []) is, (y, refl, refl, refl, (fit.rest, all_seen d (some_entry (Push v.number b) is))))),
       )
 
   by_pop : (t : Taken) (held : List (ℕ × Option T)) → hd ≡ none → es ≡ Pop v.number t ∷ [] → Result held
@@ -286,7 +287,7 @@ module _ {T : Type 0} (z : Layout) (s : State (Option T) (Beside T)) (H : HoldsV
         takes b (Some it.0),
         it.2,
         built d (some b) homes' r'.0 r'.1,
-        (refl, told0, (Pop v.number t ∷ [], which (Pop v.number t ∷ []) is, own (Pop v.number t ∷ []) is, (it.0, refl, refl, (fit.rest, all_seen d (some_entry (Pop v.number t) is), stood)))),
+        (refl, told0, refl, (Pop v.number t ∷ [], which (Pop v.number t ∷ []) is, own (Pop v.number t ∷ []) is, (it.0, refl, refl, (fit.rest, all_seen d (some_entry (Pop v.number t) is), stood)))),
       )
 
   -- whatever the line may add, the slots and the values go with it: a push gives the slot that the seat holds, a pop takes that of the
@@ -323,21 +324,21 @@ module _ {T : Type 0} (z : Layout) (s : State (Option T) (Beside T)) (H : HoldsV
 -- history of values, and that what the seat then knows of these is so
 abbrev pub TellsValues : {T : Type 0} (z : Layout) (v : SeatView) (w : Beside T) (held : List (ℕ × Option T)) (all : List Entry)
     → (SeatView → ℕ → SeatView → Type 0) → ℕ → Me (Option T) (Beside T) → Type 0
-TellsValues z v w held all fact k o = ((o.0.plain ≡ seated (knows o.0.plain)) × fact v k (knows o.0.plain)
+TellsValues z v w held all fact k o = ((o.0.plain ≡ seated (knows o.0.plain)) × fact v k (knows o.0.plain) × (o.0.placing ≡ w.placing)
     × ((fs : List Entry) × ((fs ≡ []) ⊎ (fs ≡ all)) × ((knows o.0.plain).mine ≡ v.mine ++ fs) × Effect v.number fs w held o.0 o.1))
     × KnowsValues z (knows o.0.plain).seen o.0
 
-module _ {T : Type 0} (z : Layout) (id p : ℕ) (v : SeatView) (ds : List (Deed T)) (hd : maybe.Option ℕ) (os : List (List (Deed T))) (ts : List Try) (f : ℕ → ℕ)
+module _ {T : Type 0} (z : Layout) (id p : ℕ) (v : SeatView) (ds : List (Deed T)) (hd : maybe.Option ℕ) (os : List (List (Deed T))) (ts : List Try) (pl : Placing) (f : ℕ → ℕ)
     (all : List Entry) (fact : SeatView → ℕ → SeatView → Type 0) (line : Does z p v f all fact) (within : p < words_of z)
     (ran : (n : ℕ) (v' : SeatView) → fact v n v' → Made z p n (f n) v v') where
   abbrev before : Beside T
-  before = record { plain = seated v; deeds = ds; hand = hd; others = os; tries = ts }
+  before = record { plain = seated v; deeds = ds; hand = hd; others = os; tries = ts; placing = pl }
 
   -- what a line asks of a table that carries values
   pub allows_values : (held : List (ℕ × Option T)) → IsReadyFor z.slots v.number all before held
       → Allows {S = Option T} (HoldsValues z) z.slots id (before, held) p f (TellsValues z v before held all fact)
   allows_values held ready s H count mine small =
-      let q = keeps_values z s H count id v ds hd os ts mine p f all fact line within ran held ready in
+      let q = keeps_values z s H count id v ds hd os ts pl mine p f all fact line within ran held ready in
       (q.0, q.1, q.2, q.3, (q.4, q.5))
 
 module _ {T : Type 0} (z : Layout) (id : ℕ) where
@@ -353,10 +354,10 @@ module _ {T : Type 0} (z : Layout) (id : ℕ) where
 
   -- what is known of the values, where a seat has another slot
   known_again : (s : State (Option T) (Beside T)) (w : Beside T) (hand' : maybe.Option ℕ) (ts' : List Try) (H : HoldsValues z s) → get_elem? s.views id ≡ some w
-      → (j : ℕ) (o : Beside T) → get_elem? (set s.views id (record { plain = w.plain; deeds = w.deeds; hand = hand'; others = w.others; tries = ts' })) j ≡ some o
+      → (j : ℕ) (o : Beside T) → get_elem? (set s.views id (record { plain = w.plain; deeds = w.deeds; hand = hand'; others = w.others; tries = ts'; placing = w.placing })) j ≡ some o
       → Begins H.values.rides.deeds o
   known_again s w hand' ts' H mine j o at = ⊎_elim
-      (λ (e : (j ≡ id) × (record { plain = w.plain; deeds = w.deeds; hand = hand'; others = w.others; tries = ts' } ≡ o)). subst (Begins H.values.rides.deeds) e.1
+      (λ (e : (j ≡ id) × (record { plain = w.plain; deeds = w.deeds; hand = hand'; others = w.others; tries = ts'; placing = w.placing } ≡ o)). subst (Begins H.values.rides.deeds) e.1
       (let g = H.values.known id w mine in let h : Begins H.values.rides.deeds (record {
         plain = w.plain;
         deeds = w.deeds;
@@ -364,19 +365,20 @@ module _ {T : Type 0} (z : Layout) (id : ℕ) where
         others =
             w.others;
         tries = ts';
+        placing = w.placing;
       }) = record { rest = g.rest; begins = g.begins; matches = g.matches; pair = g.pair; others = g.others } in h))
       (λ (e : (j ≢ id) × (get_elem? s.views j ≡ some o)). H.values.known j o e.1)
-      (at_set s.views id j (record { plain = w.plain; deeds = w.deeds; hand = hand'; others = w.others; tries = ts' }) o at)
+      (at_set s.views id j (record { plain = w.plain; deeds = w.deeds; hand = hand'; others = w.others; tries = ts'; placing = w.placing }) o at)
 
   -- the slots moved, and the history is as it was
   moved_slots : (s : State (Option T) (Beside T)) (w : Beside T) (hand' : maybe.Option ℕ) (ts' : List Try) (p x : ℕ) (homes' : List (maybe.Option (Option T)))
       (H : HoldsValues z s) → get_elem? s.views id ≡ some w → words_of z ≤ p
       → Slotted z.slots (flag_at (words_of z) (set s.words p x)) (home_at homes')
-      (hand_at (set s.views id (record { plain = w.plain; deeds = w.deeds; hand = hand'; others = w.others; tries = ts' }))) H.values.rides.pops
+      (hand_at (set s.views id (record { plain = w.plain; deeds = w.deeds; hand = hand'; others = w.others; tries = ts'; placing = w.placing }))) H.values.rides.pops
       H.values.rides.q
-      → HoldsValues z record { words = set s.words p x; homes = homes'; views = set s.views id (record { plain = w.plain; deeds = w.deeds; hand = hand'; others = w.others; tries = ts' }) }
+      → HoldsValues z record { words = set s.words p x; homes = homes'; views = set s.views id (record { plain = w.plain; deeds = w.deeds; hand = hand'; others = w.others; tries = ts'; placing = w.placing }) }
   moved_slots s w hand' ts' p x homes' H mine behind slotted =
-      let w' : Beside T = record { plain = w.plain; deeds = w.deeds; hand = hand'; others = w.others; tries = ts' } in
+      let w' : Beside T = record { plain = w.plain; deeds = w.deeds; hand = hand'; others = w.others; tries = ts'; placing = w.placing } in
       let r = H.values.rides in
       let base = same_base s w w' (set s.words p x) homes' H mine refl (take-set-le (words_of z) s.words p x behind) in
       record {
@@ -391,9 +393,9 @@ module _ {T : Type 0} (z : Layout) (id : ℕ) where
   -- a free slot is got, by its flag
   pub gets_slot : (w : Beside T) (ts' : List Try) (i : ℕ) → i < z.slots → w.hand ≡ none → (s : State (Option T) (Beside T)) (H : HoldsValues z s) → length s.homes ≡ z.slots
       → get_elem? s.views id ≡ some w → get_or s.words (words_of z + i) 0 ≡ 0
-      → (get_elem? s.homes i ≡ some (some None)) × HoldsValues z (stepped s (words_of z + i) 1 id [] (record { plain = w.plain; deeds = w.deeds; hand = some i; others = w.others; tries = ts' }) (takes i None))
+      → (get_elem? s.homes i ≡ some (some None)) × HoldsValues z (stepped s (words_of z + i) 1 id [] (record { plain = w.plain; deeds = w.deeds; hand = some i; others = w.others; tries = ts'; placing = w.placing }) (takes i None))
   gets_slot w ts' i lt empty s H count mine down =
-      let w' : Beside T = record { plain = w.plain; deeds = w.deeds; hand = some i; others = w.others; tries = ts' } in
+      let w' : Beside T = record { plain = w.plain; deeds = w.deeds; hand = some i; others = w.others; tries = ts'; placing = w.placing } in
       let p = words_of z + i in
       let homes' = set s.homes i none in
       let r = H.values.rides in
@@ -407,9 +409,9 @@ module _ {T : Type 0} (z : Layout) (id : ℕ) where
 
   -- an empty slot is given back
   pub frees_slot : (w : Beside T) (k : ℕ) → k < z.slots → w.hand ≡ some k → (s : State (Option T) (Beside T)) (H : HoldsValues z s) → length s.homes ≡ z.slots → get_elem? s.views id ≡ some w
-      → HoldsValues z (stepped s (words_of z + k) 0 id ((k, None) ∷ []) (record { plain = w.plain; deeds = w.deeds; hand = none; others = w.others; tries = w.tries }) gives)
+      → HoldsValues z (stepped s (words_of z + k) 0 id ((k, None) ∷ []) (record { plain = w.plain; deeds = w.deeds; hand = none; others = w.others; tries = w.tries; placing = w.placing }) gives)
   frees_slot w k lt hand s H count mine =
-      let w' : Beside T = record { plain = w.plain; deeds = w.deeds; hand = none; others = w.others; tries = w.tries } in
+      let w' : Beside T = record { plain = w.plain; deeds = w.deeds; hand = none; others = w.others; tries = w.tries; placing = w.placing } in
       let p = words_of z + k in
       let homes' = set s.homes k (some None) in
       let r = H.values.rides in
@@ -423,9 +425,9 @@ module _ {T : Type 0} (z : Layout) (id : ℕ) where
 
   -- a try that missed: nothing changes but the seat's tries
   pub misses_slot : (w : Beside T) (ts' : List Try) (i : ℕ) (s : State (Option T) (Beside T)) (H : HoldsValues z s) → get_elem? s.views id ≡ some w
-      → HoldsValues z (stepped s (words_of z + i) (get_or s.words (words_of z + i) 0) id [] (record { plain = w.plain; deeds = w.deeds; hand = w.hand; others = w.others; tries = ts' }) keeps)
+      → HoldsValues z (stepped s (words_of z + i) (get_or s.words (words_of z + i) 0) id [] (record { plain = w.plain; deeds = w.deeds; hand = w.hand; others = w.others; tries = ts'; placing = w.placing }) keeps)
   misses_slot w ts' i s H mine =
-      let w' : Beside T = record { plain = w.plain; deeds = w.deeds; hand = w.hand; others = w.others; tries = ts' } in
+      let w' : Beside T = record { plain = w.plain; deeds = w.deeds; hand = w.hand; others = w.others; tries = ts'; placing = w.placing } in
       let p = words_of z + i in
       let r = H.values.rides in
       let flags : (j : ℕ) → flag_at (words_of z) s.words j ≡ flag_at (words_of z) (set s.words p (get_or s.words p 0)) j = λ j. ap (λ (ws : List ℕ). get_or ws (words_of z + j) 0) (sym (set-get_or s.words p 0)) in

@@ -1,5 +1,8 @@
 -- The end of a ring by all its seats, at the names of a call.
-use Rattle.std.proofs.Common.{◌≡◌, ℕ, ◌+◌, ◌-◌, ◌≤◌, Bool, true, false, if◌then◌else◌, List, length, map, Option, sym, subst, ap, ◌∙◌, arith}
+use Rattle.std.proofs.Common.{◌≡◌, ℕ, ◌+◌, ◌-◌, ◌%◌, ◌^◌, ◌≤◌, Bool, true, false, if◌then◌else◌, List, [], length, map, Option, sym, refl, subst, ap, ◌∙◌, arith}
+use mathlib.Core.Option.{some, some-ne-none}
+use Rattle.atomic_table.proofs.Lists.{at_map}
+use Rattle.ring_queue.specs.Plans.{Layout}
 use Rattle.std.specs.List.{All}
 use Rattle.std.proofs.lemmas.List.{length-map}
 use Rattle.atomic_table.specs.Table.{Final, Seen}
@@ -19,9 +22,15 @@ use Rattle.ring_queue.specs.Queues.{IsNumberSeat, IsRingSeat, permits_in}
 use Rattle.ring_queue.specs.Moments.{head_in, tail_in}
 use Rattle.ring_queue.specs.Remains.{values_from, HasWords, was_shut_in}
 use Rattle.ring_queue.specs.Ends.{ClosesValues, EachBegins}
+use Rattle.ring_queue.specs.Ends.{ClosesWords, EachSaid}
+use Rattle.ring_queue.specs.Placed.{queue_words, beside_from, HoldsPlaced}
+use Rattle.ring_queue.specs.PlacedSeats.{IsWordSeat}
+use Rattle.ring_queue.specs.Beside.{HoldsAs, placed_of, placed_state}
+use Rattle.ring_queue.proofs.Placing.{even_head, queue_words-get, queue_words-length}
+use Rattle.ring_queue.proofs.PlacedEnds.{placed_end, closes_placed}
 use Rattle.ring_queue.proofs.Alls.{are_all}
 use Rattle.ring_queue.proofs.RingEnds.{closes_all, has_words, head_is_low, few_left}
-use Rattle.ring_queue.proofs.Tokens.{carries_none, ends_alone}
+use Rattle.ring_queue.proofs.Tokens.{carries_none, placed_none, ends_alone}
 use Rattle.ring_queue.proofs.ValueEnds.{values_end_as, words_there, low_there, room_there, closes_values}
 
 -- words are those of a closed ring with so many slots: the values between Head and Tail have room in a list with room for one of
@@ -38,6 +47,9 @@ module _ {T : Type 0} (q : RingQueue T) (seats : List (Seat T)) (ready : All (Is
   numbers : q.plan.carries ≡ false
   numbers = let roles = length-map q.plan.roles permit_of in let seated = q.laid.planned.seated in carries_none q seats ready (omega (arith, all, roles, seated))
 
+  unplaced : q.plan.placed ≡ false
+  unplaced = let roles = length-map q.plan.roles permit_of in let seated = q.laid.planned.seated in placed_none q seats ready (omega (arith, all, roles, seated))
+
   -- its table has no slots
   pub no_slots : q.table.shared.table_id.slots ≡ 0
   no_slots = q.laid.slots ∙ ap (λ (b : Bool). if b then q.plan.slots else 0) numbers
@@ -48,9 +60,9 @@ module _ {T : Type 0} (q : RingQueue T) (seats : List (Seat T)) (ready : All (Is
       → Final {S = Option T} (Seen (HoldsBy q.table.shared.key) id w) words inside
       → IsClosed slots words (Closes (permits_in q) (map known_of seats))
   numbers_closed slots id w words inside same count is f =
-      let end = ends_alone q.plan q.table.shared.key q.table.shared.table_id seats id w words inside q.laid numbers count is f in
+      let end = ends_alone q.plan q.table.shared.key q.table.shared.table_id seats id w words inside q.laid numbers unplaced count is f in
       let rested : All (λ s. Rests (view s).stage) seats = λ k d lt. (ready k d lt).ready.rests in
-      let every = are_all q.plan q.table.shared.table_id seats (λ k d lt. (ready k d lt).ready) end.apart all in
+      let every = are_all q.plan q.table.shared.table_id seats (λ k d lt. (ready k d lt).ready.sits) end.apart all in
       subst (λ (m : ℕ). IsClosed m words (Closes (permits_in q) (map known_of seats))) (sym same) (record {
         there = has_words q.plan words seats end rested every;
         low = head_is_low q.plan words seats end rested every;
@@ -66,11 +78,42 @@ module _ {T : Type 0} (q : RingQueue T) (seats : List (Seat T)) (ready : All (Is
   values_closed slots id w words kept inside came same words_same out is begin f =
       let end = values_end_as q.plan q.table.shared.key seats id w words inside q.laid.key carries is f in
       let rested : All (λ s. Rests (view s).stage) seats = λ k d lt. (ready k d lt).rests in
-      let every = are_all q.plan q.table.shared.table_id seats ready end.ends.apart all in
+      let every = are_all q.plan q.table.shared.table_id seats (λ k d lt. (ready k d lt).sits) end.ends.apart all in
       let P : ℕ × List ℕ × List (Option T) → Type 0 = λ y. IsClosed y.0 y.1 (λ rest. ClosesValues q seats rest y.2) in
       subst P (λ i. (sym same i, sym words_same i, sym out i)) (record {
         there = words_there q seats words inside w end rested every;
         low = low_there q seats words inside w end rested every;
         few = room_there q seats words inside w end rested every;
         closes = λ rest left taken whole shut. closes_values q seats words inside w end rested every rest begin left taken whole shut;
+      })
+
+-- a ring whose values are words in their places
+module _ {T : Type 0} (q : RingQueue T) (seats : List (Seat T)) (ready : All (IsWordSeat q) seats) (all : length seats ≡ length (permits_in q)) (placed : q.plan.placed ≡ true) where
+  -- its table has no slots
+  pub no_word_slots : q.table.shared.table_id.slots ≡ 0
+  no_word_slots = q.laid.slots ∙ ap (λ (b : Bool). if b then q.plan.slots else 0) (q.laid.planned.apart placed)
+
+  -- and is closed by all its seats
+  pub words_closed : (slots id : ℕ) (w : Beside T) (words : List ℕ) (inside : List (Option T)) → slots ≡ q.plan.slots → w.plain ≡ gathered (map view seats)
+      → ((ds : List (Deed ℕ)) → AllBegin w.placing.others ds → EachSaid seats ds)
+      → Final {S = Option T} (Seen (HoldsBy q.table.shared.key) id w) words inside
+      → IsClosed slots words (λ rest. (values : List ℕ) → values ≡ beside_from slots words (head_in words) (tail_in words - head_in words) → ClosesWords q seats rest values)
+  words_closed slots id w words inside same is begin f =
+      let z = q.plan in
+      let holds : HoldsPlaced z (placed_state f.0) = subst (λ (b : Bool). HoldsAs b z f.0) placed (subst (λ (y : Layout). HoldsBy y f.0) q.laid.key f.1.0) in
+      let end = placed_end z seats id (placed_of w) words [] is (placed_state f.0, (holds, at_map placed_of f.0.views id w f.1.1), f.2, refl, λ k y e. absurd (some-ne-none (some y) (sym e))) in
+      let rested : All (λ s. Rests (view s).stage) seats = λ k d lt. (ready k d lt).ready.rests in
+      let every = are_all z q.table.shared.table_id seats (λ k d lt. (ready k d lt).ready.sits) end.ends.apart all in
+      let few = has_words z (queue_words words) seats end.ends rested every in
+      let long = queue_words-length words in
+      let wide = few.wide in
+      let low = head_is_low z (queue_words words) seats end.ends rested every in
+      let room = few_left z (queue_words words) seats end.ends rested every in
+      let head = queue_words-get words 16 even_head in
+      let tail : tail_in (queue_words words) ≡ tail_in words = ap (λ n. n % 2 ^ 62) (queue_words-get words 0 tt) in
+      subst (λ (m : ℕ). IsClosed m words (λ rest. (values : List ℕ) → values ≡ beside_from m words (head_in words) (tail_in words - head_in words) → ClosesWords q seats rest values)) (sym same) (record {
+        there = record { some = few.some; wide = omega (arith, wide, long) };
+        low = omega (arith, low, head);
+        few = omega (arith, room, head, tail);
+        closes = λ rest left taken whole shut values read. closes_placed q seats words (placed_of w) end rested every rest values begin left taken whole shut read;
       })

@@ -14,7 +14,7 @@ use Rattle.atomic_table.specs.Seated.{TableId}
 use Rattle.ring_queue.specs.declared.roles.Role.{Role}
 use Rattle.ring_queue.specs.declared.queue.RingQueue.{RingQueue}
 use Rattle.ring_queue.specs.declared.seats.Seat.{Seat}
-use Rattle.ring_queue.specs.NewRings.{IsDealt, AreDealt, HasSlots, IsMade, IsMadeFor}
+use Rattle.ring_queue.specs.NewRings.{IsFresh, AreFresh, HasSlots, IsMade, IsMadeFor, IsMadeOf}
 use Rattle.ring_queue.specs.Words.{parity, slot_word}
 use Rattle.ring_queue.specs.Plans.{Layout, IsPlanned, permits_of}
 use Rattle.ring_queue.specs.Knowledge.{SeatView, View, keeper, seated, members, knowing, new_seat, known_by, dealt_left, dealt_right}
@@ -171,26 +171,41 @@ pub new_is_sound : (z : Layout) (n : ℕ) → IsSound (permits_of z) (known_by (
 new_is_sound z n = record { legal = (_, refl); permitted = All-nil (IsPermitted (permits_of z)); own = refl; noted = All-nil (IsNoted []) }
 
 -- a seat more that was just dealt
-pub one_more : {T : Type 0} (z : Layout) (t : TableId) (xs : List (Seat T)) (n : ℕ) (s : Seat T) → length xs ≡ n → AreDealt z t xs → IsDealt z t (n + 1) s → AreDealt z t (xs ++ s ∷ [])
+pub one_more : {T : Type 0} (z : Layout) (t : TableId) (xs : List (Seat T)) (n : ℕ) (s : Seat T) → length xs ≡ n → AreFresh z t xs → IsFresh z t (n + 1) s → AreFresh z t (xs ++ s ∷ [])
 one_more {T} z t xs n s len all new k y got = ⊎_elim (λ (h : slice_get xs k ≡ Some y). all k y h)
-    (λ (h : (k ≡ length xs) × (s ≡ y)). subst (λ (q : ℕ × (Seat T)). IsDealt z t (q.0 + 1) q.1) (λ i. (sym (h.0 ∙ len) i, h.1 i)) new)
+    (λ (h : (k ≡ length xs) × (s ≡ y)). subst (λ (q : ℕ × (Seat T)). IsFresh z t (q.0 + 1) q.1) (λ i. (sym (h.0 ∙ len) i, h.1 i)) new)
     (got_snoc xs s y k got)
 
 -- what is built of a plan is a ring of its sizes
-pub made : {T : Type 0} (carries : Bool) (most limit slots : ℕ) (roles copied : List Role) (q : RingQueue T) (seats : List (Seat T)) → copied ≡ roles → HasSlots carries most roles slots
-    → q.plan ≡ record { slots = slots; most = most; limit = limit; roles = copied; carries = carries } → length seats ≡ length copied
-    → AreDealt record { slots = slots; most = most; limit = limit; roles = copied; carries = carries } q.table.shared.table_id
-    seats → IsMadeFor carries most limit roles q seats
-made carries most limit slots roles copied q seats same has is count dealt_all =
+pub made : {T : Type 0} (carries placed : Bool) (most limit slots : ℕ) (roles copied : List Role) (q : RingQueue T) (seats : List (Seat T)) → copied ≡ roles → HasSlots carries most roles slots
+    → q.plan ≡ record { slots = slots; most = most; limit = limit; roles = copied; carries = carries; placed = placed } → length seats ≡ length copied
+    → AreFresh record { slots = slots; most = most; limit = limit; roles = copied; carries = carries; placed = placed } q.table.shared.table_id
+    seats → IsMadeOf carries placed most limit roles q seats
+made carries placed most limit slots roles copied q seats same has is count dealt_all =
     record {
       full_at = ap (λ (z : Layout). z.most) is;
       goes_to = ap (λ (z : Layout). z.limit) is;
       deals = ap (λ (z : Layout). z.roles) is ∙ same;
       values = ap (λ (z : Layout). z.carries) is;
+      words = ap (λ (z : Layout). z.placed) is;
       slots = subst (HasSlots carries most roles) (sym (ap (λ (z : Layout). z.slots) is)) has;
       count = count ∙ ap length same;
-      each = subst (λ (z : Layout). AreDealt z q.table.shared.table_id seats) (sym is) dealt_all;
+      each = subst (λ (z : Layout). AreFresh z q.table.shared.table_id seats) (sym is) dealt_all;
     }
+
+-- one whose values aren't words in their places
+pub made_for : {T : Type 0} (carries : Bool) (most limit : ℕ) (roles : List Role) (q : RingQueue T) (seats : List (Seat T))
+    → IsMadeOf carries false most limit roles q seats → IsMadeFor carries most limit roles q seats
+made_for carries most limit roles q seats m = record {
+  full_at = m.full_at;
+  goes_to = m.goes_to;
+  deals = m.deals;
+  values = m.values;
+  slots = m.slots;
+  count = m.count;
+  each = λ k s got. let d = m.each k s got in
+      record { ready = record { sits = d.ready.sits; rests = d.ready.rests; unplaced = m.words }; view = d.view; none_done = d.none_done; none_out = d.none_out; near = d.near };
+}
 
 -- one that carries no values is a ring of numbers
 pub made_numbers : {T : Type 0} (most limit : ℕ) (roles : List Role) (q : RingQueue T) (seats : List (Seat T))

@@ -19,9 +19,10 @@ use Rattle.ring_queue.specs.Plans.{Layout, IsTable, words_of, slots_of, permits_
 use Rattle.ring_queue.specs.Knowledge.{SeatView, seated, knows, known_by}
 use Rattle.ring_queue.specs.Paths.{Try}
 use Rattle.ring_queue.specs.Steps.{Rests}
-use Rattle.ring_queue.specs.Beside.{Beside, CarriedBy, HoldsValues, HoldsBy, KnowsBy, KnowsNow, with_hand, with_try}
+use Rattle.ring_queue.specs.Beside.{Beside, CarriedBy, HoldsAs, HoldsValues, HoldsBy, KnowsBy, KnowsNow, SaidBy, with_hand, with_try}
 use Rattle.ring_queue.specs.Seats.{IsReady, HasNoSlot, view}
 use Rattle.ring_queue.specs.Hands.{HasSlot, KeepsKnown, WasTaken, AllTaken, IsMissed, WereUp, HasTried, tries_of}
+use Rattle.ring_queue.proofs.PlacedKinds.{slotted, not_placed}
 use Rattle.ring_queue.proofs.Carrying.{gets_slot, misses_slot, frees_slot}
 
 -- what a try of the flag at a word tells: the slot is out with the seat, empty, or its flag was up
@@ -35,10 +36,11 @@ Frees me me' = me' ≡ (with_hand me.0 none, [])
 
 module _ {T : Type 0} (z : Layout) (carries : z.carries ≡ true) where
   inside : (s : State (Option T) (Beside T)) → HoldsBy z s → HoldsValues z s
-  inside s h = record { base = h.base; values = subst (λ (b : Bool). CarriedBy b z h.base.ring.history s) carries h.values }
+  inside s k = let h = slotted z carries s k in record { base = h.base; values = subst (λ (b : Bool). CarriedBy b z h.base.ring.history s) carries h.values }
 
   back : (s : State (Option T) (Beside T)) → HoldsValues z s → HoldsBy z s
-  back s h = record { base = h.base; values = subst (λ (b : Bool). CarriedBy b z h.base.ring.history s) (sym carries) h.values }
+  back s h = subst (λ (b : Bool). HoldsAs b z s) (sym (not_placed z carries h.base.ring.planned))
+      (record { base = h.base; values = subst (λ (b : Bool). CarriedBy b z h.base.ring.history s) (sym carries) h.values })
 
   gets : (id i : ℕ) (w : Beside T) → i < z.slots → w.hand ≡ none → Allows {S = Option T} (HoldsBy z) z.slots id (w, []) (words_of z + i) (λ n. either (nat_eq n 0) 1 n) (Tries z (words_of z + i) (w, []))
   gets id i w lt empty s h count mine small =
@@ -99,7 +101,7 @@ module _ {T : Type 0} (z about : Layout) (t : TableId) (s : Seat T) (slot word :
 
 -- a seat with this slot, or none, and these tries
 abbrev handed : {T : Type 0} → Beside T → maybe.Option ℕ → List Try → Beside T
-handed w h ts = record { plain = w.plain; deeds = w.deeds; hand = h; others = w.others; tries = ts }
+handed w h ts = record { plain = w.plain; deeds = w.deeds; hand = h; others = w.others; tries = ts; placing = w.placing }
 
 -- a seat with another slot, or none, that stores and knows the same
 module _ {T : Type 0} (z : Layout) (t : TableId) (s : Seat T) (k : Token (Option T) (Beside T)) (h : maybe.Option ℕ) (ts : List Try) (is : IsReady z t s)
@@ -110,7 +112,11 @@ module _ {T : Type 0} (z : Layout) (t : TableId) (s : Seat T) (k : Token (Option
 
   known : (b : Bool) → KnowsBy b z (view s).seen s.token.me.0 → KnowsBy b z (view s).seen (handed s.token.me.0 h ts)
   known true o = record { matches = o.matches; values = o.values; shut = o.shut; runs = o.runs; there = there }
-  known false o = tt
+  known false o = said z.placed o
+    where
+      said : (c : Bool) → SaidBy c (view s).seen s.token.me.0 → SaidBy c (view s).seen (handed s.token.me.0 h ts)
+      said true o = record { matches = o.matches; values = o.values; shut = o.shut; runs = o.runs }
+      said false o = tt
 
   pub still_ready : IsReady z t (record s { token = k })
   still_ready =
@@ -131,6 +137,7 @@ module _ {T : Type 0} (z : Layout) (t : TableId) (s : Seat T) (k : Token (Option
           valued = subst (λ (w : Beside T). ∥ KnowsNow z.carries z w ∥₁) (sym same) (∥∥₁_map sits.valued (known z.carries));
         };
         rests = subst (λ (v : SeatView). Rests v.stage) (sym knows_same) is.rests;
+        unplaced = is.unplaced;
       }
 
   pub still_known : KeepsKnown s (record s { token = k })

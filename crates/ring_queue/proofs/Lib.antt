@@ -38,3 +38,12 @@ pub mod ValueEnds
 pub mod Closed
 pub mod Courses
 pub mod Alone
+pub mod Placing
+pub mod Saying
+pub mod PlacedKinds
+pub mod PlacedLines
+pub mod PlacedAllows
+pub mod PlacedAsks
+pub mod PlacedEnds
+pub mod PlacedTurns
+pub mod PlacedViews

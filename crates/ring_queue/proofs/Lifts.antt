@@ -17,10 +17,11 @@ use Rattle.node_arena.proofs.Riding.{rides_same}
 use Rattle.ring_queue.specs.Plans.{Layout, words_of}
 use Rattle.ring_queue.specs.Knowledge.{SeatView, View, gathered, seated, paired, knows}
 use Rattle.ring_queue.specs.Rule.{Holds}
-use Rattle.ring_queue.specs.Beside.{Beside, plain_of, plain_state, hand_in, hand_at, Begins, Carried, CarriedBy, HoldsFor, HoldsValues, IsReadyBy}
-use Rattle.ring_queue.specs.Beside.{TellsBeside, MeetsBeside, alone, first_beside_of, second_beside_of}
+use Rattle.ring_queue.specs.Beside.{Beside, plain_of, plain_state, hand_in, hand_at, Begins, Carried, CarriedBy, HoldsFor, HoldsValues, IsReadyBy, SaidBy}
+use Rattle.ring_queue.specs.Beside.{GrowsPlaced, TellsBeside, MeetsBeside, alone, first_beside_of, second_beside_of}
 use Rattle.ring_queue.specs.Meets.{learned}
 use Rattle.ring_queue.specs.Paths.{Try}
+use Rattle.ring_queue.specs.Placed.{Placing}
 use Rattle.ring_queue.proofs.Tables.{HoldsWith, its_seat, one_seat}
 use Rattle.ring_queue.proofs.Calls.{Does}
 use Rattle.ring_queue.proofs.Runs.{Made, run_on, knew_of}
@@ -155,13 +156,19 @@ module _ {T : Type 0} (b : Bool) (z : Layout) where
   lift_final id w words slots f = (plain_state (words_of z) f.0, (f.1.0.base, at_map plain_of f.0.views id w f.1.1), ap (take (words_of z)) f.2, refl, λ k y e. absurd (some-ne-none (some y) (sym e)))
 
 -- a load of the first word by two seats that are one: both have seen the whole history, and that of the values
-module _ {T : Type 0} (key : Layout) (slots id : ℕ) (v u : SeatView) (ds : List (Deed T)) (hd : maybe.Option ℕ) (os : List (List (Deed T))) (ts : List Try) (held : List (ℕ × Option T)) where
+module _ {T : Type 0} (key : Layout) (slots id : ℕ) (v u : SeatView) (ds : List (Deed T)) (hd : maybe.Option ℕ) (os : List (List (Deed T))) (ts : List Try) (pl : Placing) (held : List (ℕ × Option T)) where
   abbrev pair : Beside T
-  pair = record { plain = paired v u; deeds = ds; hand = hd; others = os; tries = ts }
+  pair = record { plain = paired v u; deeds = ds; hand = hd; others = os; tries = ts; placing = pl }
 
-  pub lift_meets : (b : Bool) → Allows {S = Option T} (HoldsFor b key) slots id (pair, held) 0 (λ n. n) (λ n o. MeetsBeside b key (pair, held) o)
-  lift_meets b s h count mine small = go b h.base h.values
+  pub lift_meets : (b : Bool) → key.placed ≡ false → Allows {S = Option T} (HoldsFor b key) slots id (pair, held) 0 (λ n. n) (λ n o. MeetsBeside b key (pair, held) o)
+  lift_meets b unplaced s h count mine small = go b h.base h.values
     where
+      unseen : (w : Beside T) → GrowsPlaced key.placed pair w
+      unseen w = subst (λ (c : Bool). GrowsPlaced c pair w) (sym unplaced) tt
+
+      unsaid : (w : Beside T) (seen : List Entry) → SaidBy key.placed seen w
+      unsaid w seen = subst (λ (c : Bool). SaidBy c seen w) (sym unplaced) tt
+
       m : ℕ
       m = words_of key
 
@@ -178,15 +185,15 @@ module _ {T : Type 0} (key : Layout) (slots id : ℕ) (v u : SeatView) (ds : Lis
       go false base c =
           let q = meets_now key (plain_state m s) base id v u (at_map plain_of s.views id pair mine) in
           let es : List Entry = base.ring.history in
-          let w' : Beside T = record { plain = paired (learned es base.run.trace v) (learned es base.run.trace u); deeds = ds; hand = hd; others = []; tries = ts } in
+          let w' : Beside T = record { plain = paired (learned es base.run.trace v) (learned es base.run.trace u); deeds = ds; hand = hd; others = []; tries = ts; placing = pl } in
           let n = moved key es (take m s.words) (take m words) (set (map plain_of s.views) id w'.plain) (map plain_of (set s.views id w'))
           (ap (take m) same_words) (map_set plain_of s.views id w') q.0 in
-          (w', keeps, tt, record { base = n.0; values = tt }, (q.1, refl, refl, ∣ tt ∣₁, ∣ tt ∣₁, refl))
+          (w', keeps, tt, record { base = n.0; values = tt }, (q.1, refl, refl, ∣ unsaid (first_beside_of w') _ ∣₁, ∣ unsaid (second_beside_of w') _ ∣₁, refl, unseen w'))
       go true base c =
           let q = meets_now key (plain_state m s) base id v u (at_map plain_of s.views id pair mine) in
           let es : List Entry = base.ring.history in
           let all : List (Deed T) = c.rides.deeds in
-          let w' : Beside T = record { plain = paired (learned es base.run.trace v) (learned es base.run.trace u); deeds = all; hand = hd; others = []; tries = ts } in
+          let w' : Beside T = record { plain = paired (learned es base.run.trace v) (learned es base.run.trace u); deeds = all; hand = hd; others = []; tries = ts; placing = pl } in
           let n = moved key es (take m s.words) (take m words) (set (map plain_of s.views) id w'.plain) (map plain_of (set s.views id w'))
           (ap (take m) same_words) (map_set plain_of s.views id w') q.0 in
           let new : Begins all w' = record {
@@ -215,20 +222,24 @@ module _ {T : Type 0} (key : Layout) (slots id : ℕ) (v u : SeatView) (ds : Lis
                   c.rides.runs (λ i k. (c.rides.slotted.out id i (ap hand_in mine ∙ k)).0) ∣₁,
               ∣ knows_first key es (second_beside_of w') all [] (sym (append-nil all)) c.rides.matches (map item_of c.rides.q) c.rides.shut c.rides.runs (λ i k. absurd (some-ne-none i (sym k))) ∣₁,
               ((fit.rest, fit.begins), fit.others),
+              unseen w',
             ),
           )
 
 -- what a line asks of a table, whether it carries values or not
-module _ {T : Type 0} (z : Layout) (slots id p : ℕ) (v : SeatView) (ds : List (Deed T)) (hd : maybe.Option ℕ) (os : List (List (Deed T))) (ts : List Try)
+module _ {T : Type 0} (z : Layout) (slots id p : ℕ) (v : SeatView) (ds : List (Deed T)) (hd : maybe.Option ℕ) (os : List (List (Deed T))) (ts : List Try) (pl : Placing)
     (held : List (ℕ × Option T)) (f : ℕ → ℕ) (all : List Entry) (fact : SeatView → ℕ → SeatView → Type 0) (line : Does z p v f all fact)
     (within : p < words_of z) (ran : (n : ℕ) (v' : SeatView) → fact v n v' → Made z p n (f n) v v') where
   abbrev before : Me (Option T) (Beside T)
-  before = (record { plain = seated v; deeds = ds; hand = hd; others = os; tries = ts }, held)
+  before = (record { plain = seated v; deeds = ds; hand = hd; others = os; tries = ts; placing = pl }, held)
 
-  pub allows_beside : (b : Bool) → (b ≡ true → slots ≡ z.slots) → IsReadyBy b z.slots v.number all before
+  pub allows_beside : (b : Bool) → z.placed ≡ false → (b ≡ true → slots ≡ z.slots) → IsReadyBy b z.slots v.number all before
       → Allows {S = Option T} (HoldsFor b z) slots id before p f (λ n o. TellsBeside b z all fact before n o)
-  allows_beside b sized ready s h count mine small = go b sized ready h.base h.values
+  allows_beside b unplaced sized ready s h count mine small = go b sized ready h.base h.values
     where
+      unsaid : (w : Beside T) (seen : List Entry) → SaidBy z.placed seen w
+      unsaid w seen = subst (λ (c : Bool). SaidBy c seen w) (sym unplaced) tt
+
       m : ℕ
       m = words_of z
 
@@ -239,8 +250,18 @@ module _ {T : Type 0} (z : Layout) (slots id p : ℕ) (v : SeatView) (ds : List 
       go : (b : Bool) → (b ≡ true → slots ≡ z.slots) → IsReadyBy b z.slots v.number all before → (base : Holds z (plain_state m s)) → CarriedBy b z base.ring.history s → Out b
       go true sized ready base c =
           let H : HoldsValues z s = record { base = base; values = c } in
-          let q = allows_values z id p v ds hd os ts f all fact line within ran held ready s H (count ∙ sized refl) mine small in
-          (q.0, q.1, q.2, record { base = q.3.base; values = q.3.values }, (q.4.0.0, q.4.0.1, q.4.0.2, ∣ q.4.1 ∣₁))
+          let q = allows_values z id p v ds hd os ts pl f all fact line within ran held ready s H (count ∙ sized refl) mine small in (
+            q.0,
+            q.1,
+            q.2,
+            record { base = q.3.base; values = q.3.values },
+            (
+              q.4.0.0,
+              q.4.0.1,
+              (q.4.0.3.0, q.4.0.3.1, q.4.0.3.2, q.4.0.3.3, ([], ap (λ (y : Placing). y.deeds) q.4.0.2 ∙ sym (append-nil pl.deeds))),
+              ∣ q.4.1 ∣₁,
+            ),
+          )
       go false sized ready base c =
           let mine0 = at_map plain_of s.views id before.0 mine in
           let same : get_or (take m s.words) p 0 ≡ get_or s.words p 0 = get_or-take m s.words p 0 within in
@@ -248,7 +269,7 @@ module _ {T : Type 0} (z : Layout) (slots id p : ℕ) (v : SeatView) (ds : List 
           let q = line (take m s.words) base.seats base.ring its base.run.trace base.run.adds (knew_of z (take m s.words) base.seats base.ring.history v its base.run) in
           let made = ran (get_or (take m s.words) p 0) q.0 q.4 in
           let runs = run_on z (take m s.words) base.seats base.ring.history v q.0 all q.2.history p (f (get_or (take m s.words) p 0)) its base.run q.3 made in
-          let w' : Beside T = record { plain = seated q.0; deeds = ds; hand = hd; others = os; tries = ts } in
+          let w' : Beside T = record { plain = seated q.0; deeds = ds; hand = hd; others = os; tries = ts; placing = pl } in
           let words = set s.words p (f (get_or s.words p 0)) in
           let n = moved z q.2.history (set (take m s.words) p (f (get_or (take m s.words) p 0))) (take m words) (set (map plain_of s.views) id (seated q.0)) (map plain_of (set s.views id w'))
           (take-set-lt m s.words p (f (get_or s.words p 0)) within ∙ ap (λ (k : ℕ). set (take m s.words) p (f k)) (sym same)) (map_set plain_of s.views id w') (
@@ -259,5 +280,5 @@ module _ {T : Type 0} (z : Layout) (slots id p : ℕ) (v : SeatView) (ds : List 
             keeps,
             tt,
             record { base = n.0; values = tt },
-            (refl, subst (λ (k : ℕ). fact v k q.0) same q.4, (q.3.added, q.3.which, q.3.own, (refl, refl, refl)), ∣ tt ∣₁),
+            (refl, subst (λ (k : ℕ). fact v k q.0) same q.4, (q.3.added, q.3.which, q.3.own, (refl, refl, refl), ([], sym (append-nil pl.deeds))), ∣ unsaid w' (knows w'.plain).seen ∣₁),
           )

@@ -30,7 +30,7 @@ module _ (z : Layout) (words : List ℕ) (seats : ℕ → SeatView) (r : Ring z 
   room = let a = r.roomy in let b = r.planned in let c = b.room in omega (arith, a, c)
 
   -- who stands with a place claimed fills its cell
-  its_cell : (k p : ℕ) (x : Option Taken) → HasClaimed (seats k).stage p x → r.cells (p % z.slots) ≡ cell p (Some k)
+  pub its_cell : (k p : ℕ) (x : Option Taken) → HasClaimed (seats k).stage p x → r.cells (p % z.slots) ≡ cell p (Some k)
   its_cell k p x h = let seat = r.each_seat k in go (seats k).stage seat.stage h ∙ ap (λ j. cell p (Some j)) seat.number
     where
       go : (st : Stage) → Stands z.slots r.head r.tail r.log r.cells (seats k) st → HasClaimed st p x → r.cells (p % z.slots) ≡ cell p (Some (seats k).number)

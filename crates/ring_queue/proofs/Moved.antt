@@ -40,7 +40,7 @@ ready_pop true slots n (w ∷ x ∷ ws) me one empty = absurd (let e : suc (suc 
 ready_pop false slots n words me one empty = tt
 
 -- what is as long as before is the same
-nothing_between : {T : Type 0} (ds es : List (Deed T)) → length (ds ++ es) ≡ length ds → ds ++ es ≡ ds
+pub nothing_between : {T : Type 0} (ds es : List (Deed T)) → length (ds ++ es) ≡ length ds → ds ++ es ≡ ds
 nothing_between ds [] e = append-nil ds
 nothing_between ds (x ∷ xs) e = absurd (omega (arith, e, length-append ds (x ∷ xs)))
 
@@ -53,11 +53,12 @@ module _ {T : Type 0} where
         hand = g.hand ∙ f.hand;
         between = f.between ++ g.between;
         deeds = g.deeds ∙ (ap (λ ds. ds ++ g.between) f.deeds ∙ append_assoc (deeds_of s) f.between g.between);
+        said = (f.said.0 ++ g.said.0, g.said.1 ∙ (ap (λ ds. ds ++ g.said.0) f.said.1 ∙ append_assoc s.token.me.0.placing.deeds f.said.0 g.said.0));
       }
 
   -- nor did one at no step
   pub stays_here : (s : Seat T) → KeepsSlots s s
-  stays_here s = record { held = refl; hand = refl; between = []; deeds = sym (append-nil (deeds_of s)) }
+  stays_here s = record { held = refl; hand = refl; between = []; deeds = sym (append-nil (deeds_of s)); said = ([], sym (append-nil s.token.me.0.placing.deeds)) }
 
   -- so no slot is out that wasn't
   pub none_stays : (s t : Seat T) → KeepsSlots s t → HasNoSlot s → HasNoSlot t
@@ -90,8 +91,8 @@ module _ {T : Type 0} (z : Layout) where
   kept_none s t all m is = go z.carries (effect s t all [] m (is ∙ sym (append-nil (view s).mine)))
     where
       go : (b : Bool) → EffectBy b (view s).number [] s.token.me t.token.me → KeepsSlots s t
-      go true e = record { held = e.0; hand = e.1; between = e.2.0; deeds = e.2.1 }
-      go false e = record { held = e.0; hand = e.1; between = []; deeds = e.2 ∙ sym (append-nil (deeds_of s)) }
+      go true e = record { held = e.0; hand = e.1; between = e.2.0; deeds = e.2.1; said = m.4 }
+      go false e = record { held = e.0; hand = e.1; between = []; deeds = e.2 ∙ sym (append-nil (deeds_of s)); said = m.4 }
 
   -- one that pushed gave the seat's slot
   pub gave_slot : (s t : Seat T) (all : List Entry) (me body : ℕ) → Moves z.carries all s.token.me t.token.me → (view t).mine ≡ (view s).mine ++ Push me body ∷ [] → GivesSlot z body s t

@@ -1,5 +1,5 @@
 -- The seats of a new ring, in words of queues.
-use Rattle.std.proofs.Common.{◌≡◌, ℕ, suc, ◌+◌, List, [], ◌∷◌, length, map, Option, Some, None, Result, Ok, Err, IfOk, option_map, slice_get, refl, sym, ap, ◌∙◌}
+use Rattle.std.proofs.Common.{true, false, ◌≡◌, ℕ, suc, ◌+◌, List, [], ◌∷◌, length, map, Option, Some, None, Result, Ok, Err, IfOk, option_map, slice_get, refl, sym, ap, ◌∙◌}
 use Rattle.std.specs.List.{All}
 use Rattle.std.proofs.lemmas.List.{length-map}
 use Rattle.std.proofs.lemmas.List.Elements.{All-nil, All-cons}
@@ -13,7 +13,8 @@ use Rattle.ring_queue.specs.Plans.{permit_of, permits_by}
 use Rattle.ring_queue.specs.Knowledge.{known_by}
 use Rattle.ring_queue.specs.Seats.{known_of}
 use Rattle.ring_queue.specs.Queues.{IsNumberSeat, permits_in}
-use Rattle.ring_queue.specs.NewRings.{IsMade}
+use Rattle.ring_queue.specs.NewRings.{IsMade, IsMadeOf}
+use Rattle.ring_queue.specs.PlacedSeats.{IsWordSeat}
 
 -- what holds at each place of a list holds of all
 all_places : {A : Type 0} (P : A → Type 0) (xs : List A) → ((k : ℕ) (x : A) → slice_get xs k ≡ Some x → P x) → All P xs
@@ -45,3 +46,7 @@ module _ {T : Type 0} (most limit : ℕ) (roles : List Role) (q : RingQueue T) (
         count = length-map seats known_of ∙ m.count ∙ sym (length-map roles permit_of) ∙ ap length (sym made_permits);
         each = λ k c e. new_at k c (slice_get seats k) refl (sym (slice_get-map known_of seats k) ∙ e);
       }
+
+-- each seat of a new ring whose values are words in their places may begin a call
+pub made_words : {T : Type 0} (most limit : ℕ) (roles : List Role) (q : RingQueue T) (seats : List (Seat T)) → IsMadeOf false true most limit roles q seats → All (IsWordSeat q) seats
+made_words most limit roles q seats m = all_places (IsWordSeat q) seats (λ k s e. record { ready = (m.each k s e).ready; placed = m.words })

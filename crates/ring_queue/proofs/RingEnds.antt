@@ -109,7 +109,7 @@ module _ {T : Type 0} (z : Layout) (words : List ℕ) (seats : List (Seat T)) (e
   r = e.ring
 
   -- no seat stands with a place claimed
-  none_claims : (n : ℕ) → 1 ≤ n → n ≤ length z.roles → Rests (e.all n).stage
+  pub none_claims : (n : ℕ) → 1 ≤ n → n ≤ length z.roles → Rests (e.all n).stage
   none_claims n from to =
       let i = every n from (let l : length (permits_of z) ≡ length z.roles = length-map z.roles permit_of in omega (arith, to, l)) in
       let s = seat_with seats i.0 n i.1 in

@@ -14,6 +14,11 @@ use Rattle.ring_queue.specs.Knowledge.{SeatView, keeper, seated, paired}
 use Rattle.ring_queue.specs.Rule.{Holds, first_view}
 use Rattle.ring_queue.specs.NewRings.{AreFirst}
 use Rattle.ring_queue.specs.Beside.{Beside, hand_at, Begins, CarriedBy, HoldsBy, first_beside}
+use Rattle.ring_queue.specs.Placed.{queue_words, queue_state, first_placed}
+use Rattle.ring_queue.proofs.Tables.{HoldsWith}
+use Rattle.ring_queue.proofs.Placing.{IsEven, even_head, even_slot, queue_words-get, queue_words-length}
+use Rattle.ring_queue.proofs.PlacedViews.{placed_start}
+use Rattle.ring_queue.proofs.PlacedKinds.{by_kind}
 use Rattle.ring_queue.proofs.Deals.{opened}
 
 module _ (T : Type 0) (z : Layout) where
@@ -41,11 +46,13 @@ module _ (T : Type 0) (z : Layout) where
 pub opens_first : (T : Type 0) (z : Layout) (slots flags : ℕ) (words given : List ℕ) → IsPlanned z → slots ≡ z.slots → flags ≡ slots_of z
     → given ≡ words → AreFirst slots flags words → HoldsBy {T = T} z (opening {S = Option T} given (replicate {A = Option T} flags None)
     (first_beside z))
-opens_first T z slots flags words given planned same flagged is first = record {
-  base = h.0;
-  values = subst (λ (es : List Entry). CarriedBy {T = T} z.carries z es
-      (opening {S = Option T} given (replicate {A = Option T} flags None) (first_beside z))) (sym h.1) (go z.carries flagged);
-}
+opens_first T z slots flags words given planned same flagged is first = by_kind {T = T} z (λ H. H (opening {S = Option T} given (replicate {A = Option T} flags None) (first_beside z)))
+    (λ _. record {
+      base = h.0;
+      values = subst (λ (es : List Entry). CarriedBy {T = T} z.carries z es
+          (opening {S = Option T} given (replicate {A = Option T} flags None) (first_beside z))) (sym h.1) (go z.carries flagged);
+    })
+    (λ placed. placed_start z given (in_places (planned.apart placed)))
   where
     m : ℕ
     m = words_of z
@@ -59,6 +66,17 @@ opens_first T z slots flags words given planned same flagged is first = record {
     h : (o : Holds z (opening {S = ℕ} (take m given) [] (first_view z))) × (o.ring.history ≡ [])
     h = opened z (take m given) planned (length-take-le m given (omega (arith, long))) (word 0 z.slots (omega arith) (first.tail ∙ same)) (word 16 z.slots (omega arith) (first.head ∙ same))
         (λ i lt. word (slot_word i) 0 (omega (arith, lt)) (first.blank i (omega (arith, lt, same))))
+
+    -- with no flags the words are those of the queue, and none lies beside them
+    in_places : z.carries ≡ false → HoldsWith z [] (queue_state (record { words = given; homes = []; views = first_placed z ∷ [] }))
+    in_places numbers =
+        let none : flags ≡ 0 = flagged ∙ ap (λ (b : Bool). if b then z.slots else 0) numbers in
+        let wide = first.wide in
+        let count = ap length is in
+        let at : (i n : ℕ) → IsEven i → get_or words i 0 ≡ n → get_or (queue_words given) i 0 ≡ n =
+        λ i n even e. queue_words-get given i even ∙ (ap (λ (ws : List ℕ). get_or ws i 0) is ∙ e) in
+        opened z (queue_words given) planned (queue_words-length given ∙ (let l : length given ≡ 32 + 2 * z.slots = omega (arith, wide, same, count, none) in l)) (at 0 z.slots tt (first.tail ∙ same))
+        (at 16 z.slots even_head (first.head ∙ same)) (λ i lt. at (slot_word i) 0 (even_slot i) (first.blank i (omega (arith, lt, same))))
 
     down : (i : ℕ) → flag_at m given i ≡ 0
     down i = ap (λ (ws : List ℕ). get_or ws (m + i) 0) is ∙ (ap (λ (k : ℕ). get_or words (32 + 2 * k + i) 0) (sym same) ∙ first.down i)

@@ -32,6 +32,7 @@ use Rattle.ring_queue.specs.Seats.{known_of, view}
 use Rattle.ring_queue.specs.Moments.{head_in, tail_in}
 use Rattle.ring_queue.specs.Remains.{word_of, values_from, HasWords, was_shut_in}
 use Rattle.ring_queue.specs.Ends.{ClosesValues, EachBegins}
+use Rattle.ring_queue.proofs.PlacedKinds.{slotted}
 use Rattle.ring_queue.proofs.RingEnds.{Ends, got_map, closes_all, has_words, head_is_low, few_left}
 
 -- what is left at the end of a table whose words and slots were these, by a token that gathered seats: the numbers left are those of
@@ -59,7 +60,7 @@ values_end : {T : Type 0} (z : Layout) (seats : List (Seat T)) (id : ℕ) (w : B
 unfolding pop_of
 values_end {T} z seats id w words slots carries is f =
     let s = f.0 in
-    let h = f.1.0 in
+    let h = slotted z carries s f.1.0 in
     let c : Carried z h.base.ring.history s = subst (λ (b : Bool). CarriedBy b z h.base.ring.history s) carries h.values in
     let u : View = gathered (map view seats) in
     let at_id : get_elem? (map plain_of s.views) id ≡ some u = at_map plain_of s.views id w f.1.1 ∙ ap some is in
@@ -94,7 +95,7 @@ values_end_as z key seats id w words slots same carries is f = subst (λ (y : La
     (values_end key seats id w words slots (ap (λ (y : Layout). y.carries) same ∙ carries) is f)
 
 -- a history leads to one list of values, shut or not
-leads_one : (es : List Entry) (s t : Bool) (us vs : List Taken) → Leads es s us → Leads es t vs → (us ≡ vs) × (s ≡ t)
+pub leads_one : (es : List Entry) (s t : Bool) (us vs : List Taken) → Leads es s us → Leads es t vs → (us ≡ vs) × (s ≡ t)
 leads_one es s t us vs h k =
     let e = plays_on empty _ _ es [] h (subst (λ (xs : List Entry). Leads xs t vs) (sym (append-nil es)) k) in
     (ap (λ (y : Queue). y.values) e, ap (λ (y : Queue). y.shut) e)

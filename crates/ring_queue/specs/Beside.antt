@@ -15,15 +15,17 @@ use Rattle.ring_queue.specs.Plans.{Layout, words_of}
 use Rattle.ring_queue.specs.Rule.{Holds, Opens, first_view}
 use Rattle.ring_queue.specs.Meets.{Met}
 use Rattle.ring_queue.specs.Paths.{Try}
+use Rattle.ring_queue.specs.Placed.{Placing, no_placing, placed_view, PlacedView, KnowsSaid, HoldsPlaced, free, put_down}
 
 -- what a seat knows of its queue, a beginning of the history of values, the slot that is out with it, what seats that it took in
--- had seen of that history, and its tries at slots
+-- had seen of that history, its tries at slots, and what it knows of values that are words in their places
 pub record Beside (T : Type 0) : Type 0 where
   pub plain : View
   pub deeds : List (Deed T)
   pub hand : maybe.Option ℕ
   pub others : List (List (Deed T))
   pub tries : List Try
+  pub placing : Placing
 
 module _ {T : Type 0} where
   -- what is known of the queue alone
@@ -37,6 +39,14 @@ module _ {T : Type 0} where
   -- the state of the queue alone
   abbrev pub plain_state : ℕ → State (Option T) (Beside T) → State ℕ View
   plain_state m s = record { words = take m s.words; homes = []; views = map plain_of s.views }
+
+  -- what is known of the queue and of values that are words in their places
+  abbrev pub placed_of : Beside T → PlacedView
+  placed_of w = placed_view w.plain w.placing
+
+  -- the state of a table whose values are words in their places
+  abbrev pub placed_state : State (Option T) (Beside T) → State ℕ PlacedView
+  placed_state s = record { words = s.words; homes = []; views = map placed_of s.views }
 
   -- the slot that is out with the seat of a view
   abbrev pub hand_in : maybe.Option (Beside T) → maybe.Option ℕ
@@ -111,15 +121,20 @@ pub record HoldsFor {T : Type 0} (carries : Bool) (z : Layout) (s : State (Optio
   pub base : Holds z (plain_state (words_of z) s)
   pub values : CarriedBy carries z base.ring.history s
 
--- what a seat knows of the values is so, where they are carried
+-- what a seat knows of values that are words in their places is so, where they are
+abbrev pub SaidBy : {T : Type 0} → Bool → (seen : List Entry) → Beside T → Type 0
+SaidBy true seen w = KnowsSaid seen (placed_of w)
+SaidBy false seen w = Unit {0}
+
+-- what a seat knows of the values is so, where there are any
 abbrev pub KnowsBy : {T : Type 0} → Bool → Layout → (seen : List Entry) → Beside T → Type 0
 KnowsBy true z seen w = KnowsValues z seen w
-KnowsBy false z seen w = Unit {0}
+KnowsBy false z seen w = SaidBy z.placed seen w
 
 module _ {T : Type 0} where
   -- what is known of the queue, where nothing is known of values
   abbrev pub alone : View → Beside T
-  alone v = record { plain = v; deeds = []; hand = none; others = []; tries = [] }
+  alone v = record { plain = v; deeds = []; hand = none; others = []; tries = []; placing = no_placing }
 
   -- the first view deals number 1 first
   abbrev pub first_beside : Layout → Beside T
@@ -127,7 +142,7 @@ module _ {T : Type 0} where
 
   -- a view that goes on with the same values
   abbrev pub onward : (View → View) → Beside T → Beside T
-  onward f w = record { plain = f w.plain; deeds = w.deeds; hand = w.hand; others = w.others; tries = w.tries }
+  onward f w = record { plain = f w.plain; deeds = w.deeds; hand = w.hand; others = w.others; tries = w.tries; placing = put_down w.placing }
 
   -- the ring's own token once it dealt a seat
   abbrev pub left_dealt : Beside T → Beside T
@@ -147,7 +162,14 @@ module _ {T : Type 0} where
 
   -- two seats become one; one that gathers takes in a seat that is closed
   abbrev pub both_beside : Beside T → Beside T → Beside T
-  both_beside a b = record { plain = both_of a.plain b.plain; deeds = a.deeds; hand = a.hand; others = b.deeds ∷ a.others; tries = a.tries }
+  both_beside a b = record {
+    plain = both_of a.plain b.plain;
+    deeds = a.deeds;
+    hand = a.hand;
+    others = b.deeds ∷ a.others;
+    tries = a.tries;
+    placing = record { deeds = a.placing.deeds; hand = free; others = b.placing.deeds ∷ a.placing.others };
+  }
 
   -- the first of two seats that were one
   abbrev pub first_beside_of : Beside T → Beside T
@@ -155,7 +177,7 @@ module _ {T : Type 0} where
 
   -- the second of them
   abbrev pub second_beside_of : Beside T → Beside T
-  second_beside_of w = record { plain = second_of w.plain; deeds = w.deeds; hand = none; others = []; tries = [] }
+  second_beside_of w = record { plain = second_of w.plain; deeds = w.deeds; hand = none; others = []; tries = []; placing = record { deeds = w.placing.deeds; hand = free; others = [] } }
 
   -- what became of the slots and of the values by a step, by whether values are carried: where none are, no slot moves, and nothing
   -- is seen of values
@@ -163,9 +185,14 @@ module _ {T : Type 0} where
   EffectBy true n es me me' = Effect n es me.0 me.1 me'.0 me'.1
   EffectBy false n es me me' = (me'.1 ≡ me.1) × (me'.0.hand ≡ me.0.hand) × (me'.0.deeds ≡ me.0.deeds)
 
+  -- what is seen of values that are words in their places goes on
+  abbrev pub GrowsSaid : Beside T → Beside T → Type 0
+  GrowsSaid w w' = (between : List (Deed ℕ)) × (w'.placing.deeds ≡ w.placing.deeds ++ between)
+
   -- a step added nothing, or all of these, to the seat's own entries, and moved the slots that belong to what it added
   abbrev pub Moves : Bool → (all : List Entry) → Me (Option T) (Beside T) → Me (Option T) (Beside T) → Type 0
   Moves carries all me me' = (es : List Entry) × ((es ≡ []) ⊎ (es ≡ all)) × ((knows me'.0.plain).mine ≡ (knows me.0.plain).mine ++ es) × EffectBy carries (knows me.0.plain).number es me me'
+      × GrowsSaid me.0 me'.0
 
   -- what a seat knows of values is so, by what it has then seen
   abbrev pub KnowsNow : Bool → Layout → Beside T → Type 0
@@ -191,23 +218,30 @@ module _ {T : Type 0} where
     pub hand : me'.0.hand ≡ me.0.hand
     pub between : List (Deed T)
     pub deeds : me'.0.deeds ≡ me.0.deeds ++ between
+    pub said : GrowsSaid me.0 me'.0
 
   -- what a step tells that adds nothing
   abbrev pub TellsQuiet : Bool → Layout → (SeatView → ℕ → SeatView → Type 0) → Me (Option T) (Beside T) → ℕ → Me (Option T) (Beside T) → Type 0
   TellsQuiet carries z fact me n me' = (me'.0.plain ≡ seated (knows me'.0.plain)) × fact (knows me.0.plain) n (knows me'.0.plain) × Stays me me' × ∥ KnowsNow carries z me'.0 ∥₁
 
+  -- where values are words in their places, what is seen of them goes on from what each seat that was taken in had seen
+  abbrev pub GrowsPlaced : Bool → Beside T → Beside T → Type 0
+  GrowsPlaced true w w' = AllBegin (w.placing.deeds ∷ w.placing.others) w'.placing.deeds
+  GrowsPlaced false w w' = Unit {0}
+
   -- what two seats that are one are told when they meet: what each then knows of values is so
   abbrev pub MeetsBeside : Bool → Layout → Me (Option T) (Beside T) → Me (Option T) (Beside T) → Type 0
   MeetsBeside carries z me me' = Met z (knows me.0.plain) (knows_second me.0.plain) (plain_me me') × (me'.1 ≡ me.1) × (me'.0.hand ≡ me.0.hand)
       × ∥ KnowsNow carries z (first_beside_of me'.0) ∥₁ × ∥ KnowsNow carries z (second_beside_of me'.0) ∥₁ × GrowsBy carries me.0 me'.0
+      × GrowsPlaced z.placed me.0 me'.0
 
   -- a view that goes on, but with this slot out with its seat
   abbrev pub with_hand : Beside T → maybe.Option ℕ → Beside T
-  with_hand w h = record { plain = w.plain; deeds = w.deeds; hand = h; others = w.others; tries = w.tries }
+  with_hand w h = record { plain = w.plain; deeds = w.deeds; hand = h; others = w.others; tries = w.tries; placing = w.placing }
 
   -- the same, after a try at a slot
   abbrev pub with_try : Beside T → maybe.Option ℕ → (slot found : ℕ) → Beside T
-  with_try w h slot found = record { plain = w.plain; deeds = w.deeds; hand = h; others = w.others; tries = w.tries ++ record { slot = slot; found = found } ∷ [] }
+  with_try w h slot found = record { plain = w.plain; deeds = w.deeds; hand = h; others = w.others; tries = w.tries ++ record { slot = slot; found = found } ∷ []; placing = w.placing }
 
   -- a new token gathers, and has taken in none
   abbrev pub OpensBeside : Me (Option T) (Beside T) → Type 0
@@ -217,6 +251,11 @@ module _ {T : Type 0} where
   abbrev pub HasNone : Me (Option T) (Beside T) → Type 0
   HasNone me = (length me.1 ≡ 0) × (slots_in me.0.hand ≡ 0)
 
+-- the rule of a table, by whether its values are words in their places
+abbrev pub HoldsAs : {T : Type 0} → (placed : Bool) → Layout → State (Option T) (Beside T) → Type 0
+HoldsAs true z s = HoldsPlaced z (placed_state s)
+HoldsAs false z s = HoldsFor z.carries z s
+
 -- the rule of a table, by its plan
 abbrev pub HoldsBy : {T : Type 0} → Layout → State (Option T) (Beside T) → Type 0
-HoldsBy z s = HoldsFor z.carries z s
+HoldsBy z s = HoldsAs z.placed z s

@@ -26,3 +26,5 @@ pub mod Beside
 pub mod Hands
 pub mod Courses
 pub mod Alone
+pub mod Placed
+pub mod PlacedSeats

@@ -11,7 +11,8 @@ use Rattle.ring_queue.specs.Beside.{Beside}
 use Rattle.ring_queue.specs.Words.{slot_word}
 use Rattle.ring_queue.specs.Plans.{Layout}
 use Rattle.ring_queue.specs.Knowledge.{keeper, new_seat}
-use Rattle.ring_queue.specs.Seats.{IsReady, HasNoSlot, deeds_of, view}
+use Rattle.ring_queue.specs.PlacedSeats.{said_by}
+use Rattle.ring_queue.specs.Seats.{IsAtRest, IsReady, HasNoSlot, deeds_of, view}
 use Rattle.ring_queue.specs.Queues.{IsNumberSeat}
 
 -- the words at the start, with so many flags behind those of the queue
@@ -40,6 +41,20 @@ pub record IsDealt {T : Type 0} (z : Layout) (t : TableId) (n : ℕ) (s : Seat T
 -- seats that were just dealt, numbered from 1
 abbrev pub AreDealt : {T : Type 0} → Layout → TableId → List (Seat T) → Type 0
 AreDealt z t seats = (k : ℕ) (s : Seat _) → slice_get seats k ≡ Some s → IsDealt z t (k + 1) s
+
+-- a seat that was just dealt by a ring of any kind: it is in no call, and knows nothing, of values neither; no slot is out with it, and
+-- it begins to look for one apart from the others
+pub record IsFresh {T : Type 0} (z : Layout) (t : TableId) (n : ℕ) (s : Seat T) : Type 0 where
+  pub ready : IsAtRest z t s
+  pub view : view s ≡ new_seat z.slots n
+  pub none_done : deeds_of s ≡ []
+  pub none_said : said_by s ≡ []
+  pub none_out : HasNoSlot s
+  pub near : s.near ≡ 64 * n
+
+-- seats that were just dealt by a ring of any kind, numbered from 1
+abbrev pub AreFresh : {T : Type 0} → Layout → TableId → List (Seat T) → Type 0
+AreFresh z t seats = (k : ℕ) (s : Seat _) → slice_get seats k ≡ Some s → IsFresh z t (k + 1) s
 
 -- the least power of two that is no less than a number
 pub record IsLeastPower (least n : ℕ) : Type 0 where
@@ -81,6 +96,17 @@ pub record IsMadeFor {T : Type 0} (carries : Bool) (most limit : ℕ) (roles : L
   pub slots : HasSlots carries most roles q.plan.slots
   pub count : length seats ≡ length roles
   pub each : AreDealt q.plan q.table.shared.table_id seats
+
+-- a new ring of these sizes, of any kind, with a new seat for each role, numbered from 1
+pub record IsMadeOf {T : Type 0} (carries placed : Bool) (most limit : ℕ) (roles : List Role) (q : RingQueue T) (seats : List (Seat T)) : Type 0 where
+  pub full_at : q.plan.most ≡ most
+  pub goes_to : q.plan.limit ≡ limit
+  pub deals : q.plan.roles ≡ roles
+  pub values : q.plan.carries ≡ carries
+  pub words : q.plan.placed ≡ placed
+  pub slots : HasSlots carries most roles q.plan.slots
+  pub count : length seats ≡ length roles
+  pub each : AreFresh q.plan q.table.shared.table_id seats
 
 -- the sizes of a ring are in their ranges
 pub record IsSized (carries : Bool) (most limit : ℕ) (roles : List Role) : Type 0 where

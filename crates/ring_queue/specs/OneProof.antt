@@ -16,6 +16,7 @@ use Rattle.ring_queue.specs.Knowledge.{Stage, rests, claimed, found, unfilled, h
 use Rattle.ring_queue.specs.Paths.{Line, Event}
 use Rattle.ring_queue.specs.Steps.{Rests}
 use Rattle.ring_queue.specs.Seats.{Sits, IsReady}
+use Rattle.ring_queue.specs.PlacedSeats.{IsWordSeat}
 use Rattle.ring_queue.specs.Queues.{IsNumberSeat}
 
 Role-set : IsSet Role
@@ -56,3 +57,7 @@ IsReady-prop z t s = hlevel (props, Sits-prop, Rests-prop)
 -- a seat is a ring's, in no call
 pub IsNumberSeat-prop : {T : Type 0} (q : RingQueue T) (s : Seat T) → IsProp (IsNumberSeat q s)
 IsNumberSeat-prop q s = hlevel (props, Sits-prop, Rests-prop)
+
+-- a seat is one of a ring of words, in no call
+pub IsWordSeat-prop : {T : Type 0} (q : RingQueue T) (s : Seat T) → IsProp (IsWordSeat q s)
+IsWordSeat-prop q s = hlevel (props, Sits-prop, Rests-prop)

@@ -26,13 +26,15 @@ abbrev pub permits_by : List Role → List Permit
 permits_by roles = map permit_of roles
 
 -- the plan of a ring: how many slots it has, how many values it has room for, up to which place it goes, the role of each seat,
--- from number 1 on, and whether it carries values: each number pushed is then that of the slot in which its value lies
+-- from number 1 on, and whether it carries values: each number pushed is then that of the slot in which its value lies; or whether
+-- each value is a word in its place
 pub record Layout : Type 0 where
   pub slots : ℕ
   pub most : ℕ
   pub limit : ℕ
   pub roles : List Role
   pub carries : Bool
+  pub placed : Bool
 
 -- what each seat may do
 abbrev pub permits_of : Layout → List Permit
@@ -47,6 +49,7 @@ pub record IsPlanned (z : Layout) : Type 0 where
   pub limited : z.limit < 2 ^ 62
   pub seated : 1 ≤ length z.roles
   pub few : length z.roles < 2 ^ 15
+  pub apart : z.placed ≡ true → z.carries ≡ false
 
 -- the words of the queue, which lie first in the table, before a flag for each slot
 abbrev pub words_of : Layout → ℕ

@@ -46,10 +46,16 @@ pub record Sits {T : Type 0} (z : Layout) (t : TableId) (s : Seat T) : Type 0 wh
   pub sound : IsSound (permits_of z) (known_of s)
   pub valued : ∥ KnowsNow z.carries z s.token.me.0 ∥₁
 
--- a seat in no call
+-- a seat of any ring, in no call
+pub record IsAtRest {T : Type 0} (z : Layout) (t : TableId) (s : Seat T) : Type 0 where
+  pub sits : Sits z t s
+  pub rests : Rests (view s).stage
+
+-- a seat in no call, of a ring whose values aren't words in their places
 pub record IsReady {T : Type 0} (z : Layout) (t : TableId) (s : Seat T) : Type 0 where
   pub sits : Sits z t s
   pub rests : Rests (view s).stage
+  pub unplaced : z.placed ≡ false
 
 -- a seat is the same one by its number and its role
 pub record KeepsName {T : Type 0} (s t : Seat T) : Type 0 where

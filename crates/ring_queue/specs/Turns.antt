@@ -24,6 +24,13 @@ TurnSays z s t Empty = FoundEmpty (known_of s) (known_of t)
 TurnSays z s t Closed = FoundShutEmpty (known_of s) (known_of t)
 TurnSays z s t Failed = SeesMore (known_of s) (known_of t) × HaveFailed z (view s).seen s.head 1 t
 
+-- a turn took no value
+abbrev pub TookNone : Turn → Type 0
+TookNone (Took value) = ⊥
+TookNone Empty = Unit {0}
+TookNone Closed = Unit {0}
+TookNone Failed = Unit {0}
+
 -- whether a turn failed at an access, as a number: others had claimed places; or Head was read, as a place was claimed that isn't
 -- filled, or another had raised it
 abbrev pub failed_at : Line → (found left : ℕ) → ℕ

@@ -11,6 +11,7 @@ ghost use Rattle.ring_queue.specs.Beside.{IsReadyBy, Moves};
 ghost use Rattle.ring_queue.specs.Hands.{PopMoves};
 ghost use Rattle.ring_queue.specs.Turns.{Tried};
 ghost use Rattle.ring_queue.specs.Steps.{pops, pushes, taken_in, next_stage, HasRoom, AreSmall, PlacesClaimed, FrontsTaken};
+ghost use Rattle.ring_queue.specs.PlacedSeats.{HasStored};
 ghost use Rattle.ring_queue.specs.Seats.{Sits, IsReady, HasNoSlot, KeepsName, KeepsSlots, known_of, view};
 
 use crate::places::{HEAD, SHUT, SLOTS, TAIL};
@@ -45,6 +46,15 @@ pub(crate) fn payload_of(number: u16, body: Body) -> u64
     u64::from(number) * BODY_SPAN + body.number()
 }
 
+// What a place is filled with beside whose word its value lies: the number 0.
+pub(crate) fn payload_beside(number: u16) -> u64
+    requires { number < 2 ^ 15 }
+    ensures value { result ≡ words.payload (Some (record { from = number; body = 0 })) }
+    ensures small { result < 2 ^ 63 }
+{
+    u64::from(number) * BODY_SPAN
+}
+
 impl<T> RingQueue<T> {
     /// A push fills the first of the places that it claimed.
     pub(crate) fn fill(&self, seat: &mut Seat<T>, place: u64, payload: u64)
@@ -52,6 +62,7 @@ impl<T> RingQueue<T> {
         requires claimed { (x : Option TheTaken) × (xs : List (Option TheTaken))
             × ((view seat.old).stage ≡ claimed place (x ∷ xs)) × (payload ≡ words.payload x) }
         requires small { payload < 2 ^ 63 }
+        requires stored { self.now.plan.placed ≡ true → HasStored seat.old }
         ensures seat { Sits self.now.plan self.now.table.shared.table_id seat.new }
         ensures slots { KeepsSlots seat.old seat.new }
         ensures name { KeepsName seat.old seat.new }

@@ -2,12 +2,13 @@
 ghost use Rattle.std.specs.Prelude.{◌≡◌, ◌<◌, [], true, length, map, IfOk, IfErr};
 ghost use Rattle.std.specs.List.{All};
 ghost use Rattle.history.specs.Ends.{Closes};
-ghost use Rattle.ring_queue.specs.Ends.{HasToken, HasGathered, HasRoomFor, ClosesValues};
+ghost use Rattle.ring_queue.specs.Ends.{HasToken, HasGathered, HasRoomFor, ClosesValues, ClosesWords};
+ghost use Rattle.ring_queue.specs.PlacedSeats.{IsWordSeat};
 ghost use Rattle.ring_queue.specs.Queues.{IsNumberSeat, IsRingSeat, permits_in};
 ghost use Rattle.ring_queue.specs.Seats.{HasNoSlot, known_of};
 
 use crate::queue::RingQueue;
-use crate::remains::{rest_of, take_all};
+use crate::remains::{rest_of, take_all, words_left};
 use crate::seats::Seat;
 use crate::views::{Gather, Open, SeatToken, WordTable};
 use history::{Close, Refusal, Rest, Taken};
@@ -124,6 +125,57 @@ impl<T> RingQueue<T> {
         let rest = rest_of(&closed, plan.slots, numbers);
         closed.free();
         (rest, slots)
+    }
+
+    /// Memory for the numbers and for the values left in a ring whose values are words in their places.
+    ///
+    /// Refused by `Memory` alone. Takes that memory, and doesn't wait.
+    pub fn word_rooms(&self, alloc: Global) -> Result<(Vec<Taken>, Vec<u64>), Refusal>
+        //= ring/word_rooms (numbers, values, only_memory): Room for the rest of a ring whose values are words in their places is
+        //=   room for a number and a value of each slot. Or Memory.
+        ensures numbers { IfOk result (λ r. HasRoomFor self.now r.0) }
+        ensures values { IfOk result (λ r. HasRoomFor self.now r.1) }
+        ensures only_memory { IfErr result (λ refusal. refusal ≡ Refusal.Memory) }
+    {
+        let slots = self.sizes().slots as usize;
+        let Ok(numbers) = Vec::with_capacity(alloc, slots) else {
+            return Err(Refusal::Memory);
+        };
+        let Ok(values) = Vec::with_capacity(alloc, slots) else {
+            return Err(Refusal::Memory);
+        };
+        Ok((numbers, values))
+    }
+
+    /// Ends a ring whose values are words in their places with all its seats, each in no call: what `close_with` tells of the
+    /// numbers, each 0, and the values left, in order.
+    ///
+    /// Takes no memory and doesn't wait.
+    pub fn close_words(
+        self,
+        numbers: Vec<Taken>,
+        values: Vec<u64>,
+        seats: Vec<Seat<T>>,
+    ) -> (Rest, Vec<u64>)
+        requires numbers { HasRoomFor self numbers }
+        requires values { HasRoomFor self values }
+        requires seats { All (IsWordSeat self) seats.items }
+        requires placed { self.plan.placed ≡ true }
+        requires all { length seats.items ≡ length (permits_in self) }
+        //= ring/words_left: The values left in a closed ring whose values are words in their places are those to which their history
+        //=   leads, in order, each of the seat that pushed it. That history begins with what each seat had seen of it, and goes
+        //=   one by one with that of the numbers. What is said of any closed queue is so of the numbers.
+        ensures { ClosesWords self seats.items result.0 result.1.items }
+    {
+        let RingQueue { table, plan } = self;
+        let shared = &table.shared;
+        let mut token = shared.load_new_seat::<Open>(0).1;
+        gather(&table, &mut token, seats);
+        let closed = table.close_with(token);
+        let values = words_left(&closed, plan.slots, values);
+        let rest = rest_of(&closed, plan.slots, numbers);
+        closed.free();
+        (rest, values)
     }
 }
 

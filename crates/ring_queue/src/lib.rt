@@ -22,6 +22,7 @@ mod seat_meets;
 mod seats;
 mod slots;
 mod views;
+mod words;
 
 pub use batches::MOST_AT_ONCE;
 pub use new_rings::MOST_SEATS;

@@ -5,7 +5,7 @@ ghost use Rattle.ring_queue.specs.Knowledge.{rests, found, unfilled, head_due};
 ghost use Rattle.node_arena.specs.Looks.{LeadsToSome};
 ghost use Rattle.ring_queue.specs.Steps.{HoldsSoMany, WasLate};
 ghost use Rattle.ring_queue.specs.Lengths.{HeadCounts};
-ghost use Rattle.ring_queue.specs.Seats.{IsReady, KeepsName, KeepsSlots, known_of, view};
+ghost use Rattle.ring_queue.specs.Seats.{IsAtRest, IsReady, KeepsName, KeepsSlots, known_of, view};
 ghost use Rattle.ring_queue.specs.Turns.{Tried};
 ghost use Rattle.ring_queue.specs.Looks.{NextSays, TailSays, HeadSays, EndSays};
 
@@ -37,8 +37,8 @@ pub(crate) enum EndLook {
 impl<T> RingQueue<T> {
     /// A push reads Tail.
     pub(crate) fn look_at_tail(&self, seat: &mut Seat<T>) -> TailLook
-        requires { IsReady self.now.plan self.now.table.shared.table_id seat.old }
-        ensures seat { IsReady self.now.plan self.now.table.shared.table_id seat.new }
+        requires { IsAtRest self.now.plan self.now.table.shared.table_id seat.old }
+        ensures seat { IsAtRest self.now.plan self.now.table.shared.table_id seat.new }
         ensures slots { KeepsSlots seat.old seat.new }
         ensures name { KeepsName seat.old seat.new }
         ensures says { TailSays self.now.plan seat.old seat.new result }
@@ -59,9 +59,9 @@ impl<T> RingQueue<T> {
 
     /// A push reads Head: whether by its seat's tail the queue is full.
     pub(crate) fn finds_full(&self, seat: &mut Seat<T>) -> bool
-        requires ready { IsReady self.now.plan self.now.table.shared.table_id seat.old }
+        requires ready { IsAtRest self.now.plan self.now.table.shared.table_id seat.old }
         requires stage { (view seat.old).stage ≡ rests }
-        ensures seat { IsReady self.now.plan self.now.table.shared.table_id seat.new }
+        ensures seat { IsAtRest self.now.plan self.now.table.shared.table_id seat.new }
         ensures slots { KeepsSlots seat.old seat.new }
         ensures name { KeepsName seat.old seat.new }
         ensures says { HeadSays self.now.plan seat.old seat.new result }
@@ -76,8 +76,8 @@ impl<T> RingQueue<T> {
 
     /// A seat that looks how many values there are reads Tail.
     pub(crate) fn see_tail(&self, seat: &mut Seat<T>) -> u64
-        requires { IsReady self.now.plan self.now.table.shared.table_id seat.old }
-        ensures seat { IsReady self.now.plan self.now.table.shared.table_id seat.new }
+        requires { IsAtRest self.now.plan self.now.table.shared.table_id seat.old }
+        ensures seat { IsAtRest self.now.plan self.now.table.shared.table_id seat.new }
         ensures slots { KeepsSlots seat.old seat.new }
         ensures name { KeepsName seat.old seat.new }
         ensures sees { SeesMore (known_of seat.old) (known_of seat.new) }
@@ -92,8 +92,8 @@ impl<T> RingQueue<T> {
 
     /// A seat reads Head.
     pub(crate) fn look_at_head(&self, seat: &mut Seat<T>)
-        requires { IsReady self.now.plan self.now.table.shared.table_id seat.old }
-        ensures seat { IsReady self.now.plan self.now.table.shared.table_id seat.new }
+        requires { IsAtRest self.now.plan self.now.table.shared.table_id seat.old }
+        ensures seat { IsAtRest self.now.plan self.now.table.shared.table_id seat.new }
         ensures slots { KeepsSlots seat.old seat.new }
         ensures name { KeepsName seat.old seat.new }
         ensures sees { SeesMore (known_of seat.old) (known_of seat.new) }
@@ -108,8 +108,8 @@ impl<T> RingQueue<T> {
 
     /// A pop reads the word at its place, if this is filled.
     pub(crate) fn look_at_front(&self, seat: &mut Seat<T>) -> Option<u64>
-        requires { IsReady self.now.plan self.now.table.shared.table_id seat.old }
-        ensures seat { IsReady self.now.plan self.now.table.shared.table_id seat.new }
+        requires { IsAtRest self.now.plan self.now.table.shared.table_id seat.old }
+        ensures seat { IsAtRest self.now.plan self.now.table.shared.table_id seat.new }
         ensures slots { KeepsSlots seat.old seat.new }
         ensures name { KeepsName seat.old seat.new }
         ensures sees { SeesMore (known_of seat.old) (known_of seat.new) }
@@ -162,9 +162,9 @@ impl<T> RingQueue<T> {
 
     /// A pop that found its place not filled reads Tail.
     pub(crate) fn look_at_end(&self, seat: &mut Seat<T>) -> EndLook
-        requires ready { IsReady self.now.plan self.now.table.shared.table_id seat.old }
+        requires ready { IsAtRest self.now.plan self.now.table.shared.table_id seat.old }
         requires due { (view seat.old).stage ≡ unfilled }
-        ensures seat { IsReady self.now.plan self.now.table.shared.table_id seat.new }
+        ensures seat { IsAtRest self.now.plan self.now.table.shared.table_id seat.new }
         ensures slots { KeepsSlots seat.old seat.new }
         ensures name { KeepsName seat.old seat.new }
         ensures says { EndSays self.now.plan seat.old seat.new result }

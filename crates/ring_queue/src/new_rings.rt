@@ -4,8 +4,9 @@ ghost use Rattle.std.specs.List.{All};
 ghost use Rattle.history.specs.Openings.{AreNew};
 ghost use Rattle.ring_queue.specs.Plans.{IsPlanned, permits_by, slots_of};
 ghost use Rattle.ring_queue.specs.Seats.{known_of};
+ghost use Rattle.ring_queue.specs.PlacedSeats.{IsWordSeat};
 ghost use Rattle.ring_queue.specs.Queues.{IsNumberSeat, permits_in};
-ghost use Rattle.ring_queue.specs.NewRings.{AreFirst, AreDealt, IsLeastPower, slots_for, IsMade, IsMadeFor, RingRefused};
+ghost use Rattle.ring_queue.specs.NewRings.{AreFirst, AreFresh, IsLeastPower, slots_for, IsMade, IsMadeFor, IsMadeOf, RingRefused};
 
 use crate::new_seats::deal_all;
 use crate::places::{HEAD, SHUT, TAIL};
@@ -60,7 +61,7 @@ fn built<T>(alloc: Global, plan: Plan) -> Result<(RingQueue<T>, Vec<Seat<T>>), A
     requires small { plan.slots ≤ 2 ^ 49 }
     ensures plan { IfOk result (λ r. r.0.plan ≡ plan) }
     ensures count { IfOk result (λ r. length r.1.items ≡ length plan.roles) }
-    ensures seats { IfOk result (λ r. AreDealt plan r.0.table.shared.table_id r.1.items) }
+    ensures seats { IfOk result (λ r. AreFresh plan r.0.table.shared.table_id r.1.items) }
 {
     let flags = slot_count(&plan);
     let words = words_at_start(alloc, plan.slots, flags)?;
@@ -84,16 +85,18 @@ fn room_for(most: u32, roles: &[Role], carries: bool) -> u64
     }
 }
 
-// A ring of these sizes, which carries values or doesn't, and its seats.
+// A ring of these sizes, which carries values or has words in its places, or neither, and its seats.
 fn made<T>(
     alloc: Global,
     most: u32,
     limit: u64,
     roles: &[Role],
     carries: bool,
+    placed: bool,
 ) -> Result<(RingQueue<T>, Vec<Seat<T>>), Refusal>
+    requires apart { placed ≡ true → carries ≡ false }
     ensures ok { IfOk result
-        (λ r. IsMadeFor carries most limit roles.now r.0 r.1.items) }
+        (λ r. IsMadeOf carries placed most limit roles.now r.0 r.1.items) }
     ensures refused { IfErr result (RingRefused carries most limit roles.now) }
 {
     if most == 0 || roles.is_empty() || roles.len() > MOST_SEATS {
@@ -112,6 +115,7 @@ fn made<T>(
         limit,
         roles,
         carries,
+        placed,
     };
     let Ok(made) = built(alloc, plan) else {
         return Err(Refusal::Memory);
@@ -140,7 +144,7 @@ impl RingQueue {
         ensures unused { IfOk result (λ r. AreNew (permits_in r.0) (map known_of r.1.items)) }
         ensures refused { IfErr result (RingRefused false most limit roles.now) }
     {
-        made(alloc, most, limit, roles, false)
+        made(alloc, most, limit, roles, false, false)
     }
 }
 
@@ -161,6 +165,25 @@ impl<T> RingQueue<T> {
             (λ r. IsMadeFor true most limit roles.now r.0 r.1.items) }
         ensures refused { IfErr result (RingRefused true most limit roles.now) }
     {
-        made(alloc, most, limit, roles, true)
+        made(alloc, most, limit, roles, true, false)
+    }
+
+    /// A ring whose values are words in their places, of the sizes of `new`.
+    ///
+    /// Refusals: those of `new`. Takes memory for two words a slot, the seats and their roles, and doesn't wait.
+    pub fn with_words(
+        alloc: Global,
+        most: u32,
+        limit: u64,
+        roles: &[Role],
+    ) -> Result<(RingQueue<T>, Vec<Seat<T>>), Refusal>
+        //= ring/words (ok, seats, refused): A new ring whose values are words in their places is as a new ring of numbers, with
+        //=   each value beside the word of its place.
+        ensures ok { IfOk result
+            (λ r. IsMadeOf false true most limit roles.now r.0 r.1.items) }
+        ensures seats { IfOk result (λ r. All (IsWordSeat r.0) r.1.items) }
+        ensures refused { IfErr result (RingRefused false most limit roles.now) }
+    {
+        made(alloc, most, limit, roles, false, true)
     }
 }

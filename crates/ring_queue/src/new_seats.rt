@@ -1,7 +1,7 @@
 //! Seats are split off the ring's own token.
 ghost use Rattle.std.specs.Prelude.{◌≡◌, ◌+◌, ◌-◌, ◌≤◌, [], Some, length, slice_get, vec_capacity};
 ghost use Rattle.ring_queue.specs.Plans.{IsTable};
-ghost use Rattle.ring_queue.specs.NewRings.{IsKeeper, IsDealt, AreDealt};
+ghost use Rattle.ring_queue.specs.NewRings.{IsKeeper, IsFresh, AreFresh};
 
 use crate::plans::Plan;
 use crate::roles::Role;
@@ -24,7 +24,7 @@ fn deal<T>(
     requires number { 1 ≤ number }
     requires role { slice_get plan.now.roles (number - 1) ≡ Some role }
     ensures keeper { IsKeeper plan.now table.now.shared.table_id keeper.new (number + 1) }
-    ensures seat { IsDealt plan.now table.now.shared.table_id number result }
+    ensures seat { IsFresh plan.now table.now.shared.table_id number result }
 {
     let token = table.shared.split_seat::<Deal>(keeper);
     Seat {
@@ -49,7 +49,7 @@ pub(crate) fn deal_all<T>(
     requires room { length plan.now.roles ≤ vec_capacity seats }
     requires empty { seats.items ≡ [] }
     ensures count { length result.items ≡ length plan.now.roles }
-    ensures seats { AreDealt plan.now table.now.shared.table_id result.items }
+    ensures seats { AreFresh plan.now table.now.shared.table_id result.items }
 {
     let count = plan.roles.len();
     for i in 0..count {

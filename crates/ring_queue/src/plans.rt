@@ -2,8 +2,8 @@
 use crate::roles::Role;
 use std::marker::Model;
 
-/// How many slots a ring has, how many values it has room for, up to which place it goes, the role of each seat, and whether it
-/// carries values.
+/// How many slots a ring has, how many values it has room for, up to which place it goes, the role of each seat, whether it
+/// carries values, and whether each of its values is a word in its place.
 #[derive(Drop)]
 pub struct Plan {
     pub(crate) slots: u64,
@@ -11,6 +11,7 @@ pub struct Plan {
     pub(crate) limit: u64,
     pub(crate) roles: Vec<Role>,
     pub(crate) carries: bool,
+    pub(crate) placed: bool,
 }
 
 impl Model for Plan {
@@ -18,5 +19,5 @@ impl Model for Plan {
 
     ghost Value = { Layout };
 
-    ghost view = { λ p. record { slots = p.slots; most = p.most; limit = p.limit; roles = p.roles.items; carries = p.carries } };
+    ghost view = { λ p. record { slots = p.slots; most = p.most; limit = p.limit; roles = p.roles.items; carries = p.carries; placed = p.placed } };
 }

@@ -4,12 +4,12 @@ ghost use Rattle.ring_queue.specs.Steps.{WasLate};
 ghost use Rattle.history.specs.Seats.{MayPop};
 ghost use Rattle.history.specs.Answers.{PopAnswers, PopRefused, SeesMore, StopsPop};
 ghost use Rattle.ring_queue.specs.Plans.{permits_of};
-ghost use Rattle.ring_queue.specs.Seats.{IsReady, HasNoSlot, KeepsName, KeepsSlots, known_of, view};
+ghost use Rattle.ring_queue.specs.Seats.{IsAtRest, IsReady, HasNoSlot, KeepsName, KeepsSlots, known_of, view};
 ghost use Rattle.ring_queue.specs.Knowledge.{found, unfilled};
 ghost use Rattle.ring_queue.specs.Queues.{IsRingSeat, permits_in};
 ghost use Rattle.ring_queue.specs.Causes.{PopCaused};
 ghost use Rattle.ring_queue.specs.Hands.{PopMoves, TurnMoves};
-ghost use Rattle.ring_queue.specs.Turns.{TurnSays, Tried, TurnTried};
+ghost use Rattle.ring_queue.specs.Turns.{TookNone, TurnSays, Tried, TurnTried};
 
 use crate::looks::EndLook;
 use crate::queue::RingQueue;
@@ -34,15 +34,16 @@ const PAUSES: u32 = 64;
 
 impl<T> RingQueue<T> {
     /// A turn of a pop that found its place not filled.
-    fn turn_at_end(&self, seat: &mut Seat<T>) -> Turn
-        requires ready { IsReady self.now.plan self.now.table.shared.table_id seat.old }
+    pub(crate) fn turn_at_end(&self, seat: &mut Seat<T>) -> Turn
+        requires ready { IsAtRest self.now.plan self.now.table.shared.table_id seat.old }
         requires late { WasLate self.now.plan (view seat.old).seen seat.old.head }
         requires due { (view seat.old).stage ≡ unfilled }
-        ensures seat { IsReady self.now.plan self.now.table.shared.table_id seat.new }
+        ensures seat { IsAtRest self.now.plan self.now.table.shared.table_id seat.new }
         ensures name { KeepsName seat.old seat.new }
         ensures says { TurnSays self.now.plan seat.old seat.new result }
         ensures moves { TurnMoves self.now.plan seat.old seat.new result }
         ensures tried { TurnTried seat.old seat.new result }
+        ensures none { TookNone result }
     {
         match self.look_at_end(seat) {
             EndLook::Empty => Turn::Empty,
@@ -57,8 +58,8 @@ impl<T> RingQueue<T> {
     /// A pop reads the word at its place, and where this isn't filled once more after a pause: without it a pop chases the
     /// push that fills its place.
     pub(crate) fn look_twice_at_front(&self, seat: &mut Seat<T>) -> Option<u64>
-        requires { IsReady self.now.plan self.now.table.shared.table_id seat.old }
-        ensures seat { IsReady self.now.plan self.now.table.shared.table_id seat.new }
+        requires { IsAtRest self.now.plan self.now.table.shared.table_id seat.old }
+        ensures seat { IsAtRest self.now.plan self.now.table.shared.table_id seat.new }
         ensures slots { KeepsSlots seat.old seat.new }
         ensures name { KeepsName seat.old seat.new }
         ensures sees { SeesMore (known_of seat.old) (known_of seat.new) }

@@ -44,6 +44,7 @@ impl<T> RingQueue<T> {
         requires claimed { (view seat.old).stage
             ≡ standing place (contents (known_of seat.old).number bodies.now) }
         requires low { place + length bodies.now < 2 ^ 62 }
+        requires unplaced { self.now.plan.placed ≡ false }
         ensures seat { IsReady self.now.plan self.now.table.shared.table_id seat.new }
         ensures name { KeepsName seat.old seat.new }
         ensures places { (seat.new.head ≡ seat.old.head) × (seat.new.tail ≡ seat.old.tail) }

@@ -3,7 +3,7 @@ ghost use Rattle.std.specs.Prelude.{[], ◌∷◌, OnOk, IfErr};
 ghost use Rattle.history.specs.Seats.{MayPush};
 ghost use Rattle.history.specs.Answers.{Pushed, PushRefused, StopsPush};
 ghost use Rattle.ring_queue.specs.Plans.{permits_of};
-ghost use Rattle.ring_queue.specs.Seats.{IsReady, KeepsName, KeepsSlots, known_of, view};
+ghost use Rattle.ring_queue.specs.Seats.{IsAtRest, IsReady, KeepsName, KeepsSlots, known_of, view};
 ghost use Rattle.ring_queue.specs.Hands.{GivesSlot, IsLoaded};
 ghost use Rattle.ring_queue.specs.Beside.{IsReadyBy};
 ghost use Rattle.ring_queue.specs.Steps.{pushes};
@@ -32,8 +32,8 @@ pub(crate) enum PushTurn {
 impl<T> RingQueue<T> {
     // A push whose seat sees no room reads Tail, and, where there is none by its head, Head.
     fn look_for_room(&self, seat: &mut Seat<T>) -> Result<(), Refusal>
-        requires { IsReady self.now.plan self.now.table.shared.table_id seat.old }
-        ensures seat { IsReady self.now.plan self.now.table.shared.table_id seat.new }
+        requires { IsAtRest self.now.plan self.now.table.shared.table_id seat.old }
+        ensures seat { IsAtRest self.now.plan self.now.table.shared.table_id seat.new }
         ensures slots { KeepsSlots seat.old seat.new }
         ensures name { KeepsName seat.old seat.new }
         ensures found { OnOk result (FoundRoom self.now.plan seat.old seat.new) }
@@ -58,8 +58,8 @@ impl<T> RingQueue<T> {
 
     /// A push whose seat sees no room looks for it.
     pub(crate) fn find_room(&self, seat: &mut Seat<T>) -> Result<(), Refusal>
-        requires { IsReady self.now.plan self.now.table.shared.table_id seat.old }
-        ensures seat { IsReady self.now.plan self.now.table.shared.table_id seat.new }
+        requires { IsAtRest self.now.plan self.now.table.shared.table_id seat.old }
+        ensures seat { IsAtRest self.now.plan self.now.table.shared.table_id seat.new }
         ensures slots { KeepsSlots seat.old seat.new }
         ensures name { KeepsName seat.old seat.new }
         ensures found { OnOk result (FoundRoom self.now.plan seat.old seat.new) }

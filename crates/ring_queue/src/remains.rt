@@ -5,6 +5,7 @@ ghost use Rattle.std.specs.Slots.{slots_items, slots_filled, slots_len, IsFull};
 ghost use Rattle.history.specs.Rests.{left_of, taken_of, whole_of, was_shut_of};
 ghost use Rattle.ring_queue.specs.Remains.{values_from, HasWords, was_shut_in};
 ghost use Rattle.ring_queue.specs.Moments.{head_in, tail_in};
+ghost use Rattle.ring_queue.specs.Placed.{beside_from};
 
 use crate::acts::taken_of;
 use crate::places::{HEAD, SHUT, SLOTS, TAIL};
@@ -65,6 +66,43 @@ pub(crate) fn rest_of<T>(closed: &ClosedTable<T>, slots: u64, room: Vec<Taken>) 
     let head = word_at(closed, HEAD);
     let values = values_left(closed, slots, head, tail % SHUT, room);
     Rest::of(values, head - slots, true, tail >= SHUT)
+}
+
+// The values beside the words of places from one on, up to Tail, put into an empty list that has room for them.
+fn beside_left<T>(
+    closed: &ClosedTable<T>,
+    slots: u64,
+    head: u64,
+    tail: u64,
+    mut values: Vec<u64>,
+) -> Vec<u64>
+    requires full { IsFull closed.now.words }
+    requires words { HasWords slots (slots_items closed.now.words) }
+    requires room { tail - head ≤ vec_capacity values }
+    requires empty { values.items ≡ [] }
+    ensures { result.items ≡ beside_from slots (slots_items closed.now.words) head (tail - head) }
+{
+    for place in head..tail {
+        let value = word_at(closed, SLOTS + 2 * (place % slots) as usize + 1);
+        values.push(value).unwrap();
+    }
+    values
+}
+
+/// The values left in a ring of so many slots whose values are words in their places, put into an empty list that has room for them.
+pub(crate) fn words_left<T>(closed: &ClosedTable<T>, slots: u64, room: Vec<u64>) -> Vec<u64>
+    requires full { IsFull closed.now.words }
+    requires words { HasWords slots (slots_items closed.now.words) }
+    requires room { tail_in (slots_items closed.now.words) - head_in (slots_items closed.now.words)
+        ≤ vec_capacity room }
+    requires empty { room.items ≡ [] }
+    ensures { result.items ≡ beside_from slots (slots_items closed.now.words)
+        (head_in (slots_items closed.now.words))
+        (tail_in (slots_items closed.now.words) - head_in (slots_items closed.now.words)) }
+{
+    let tail = word_at(closed, TAIL);
+    let head = word_at(closed, HEAD);
+    beside_left(closed, slots, head, tail % SHUT, room)
 }
 
 /// What lay in each slot, in order, put into an empty list that has room for it.

@@ -2,8 +2,9 @@
 ghost use Rattle.std.specs.Prelude.{◌≡◌, true};
 ghost use Rattle.history.specs.Answers.{Meets};
 ghost use Rattle.ring_queue.specs.Hands.{MeetsValues};
+ghost use Rattle.ring_queue.specs.PlacedSeats.{MeetsSaid};
 ghost use Rattle.ring_queue.specs.Queues.{IsRingSeat};
-ghost use Rattle.ring_queue.specs.Seats.{KeepsName, HasNoSlot, known_of};
+ghost use Rattle.ring_queue.specs.Seats.{IsAtRest, KeepsName, HasNoSlot, known_of};
 
 use crate::queue::RingQueue;
 use crate::seats::Seat;
@@ -28,6 +29,25 @@ impl<T> RingQueue<T> {
         ensures apart { HasNoSlot one.new × HasNoSlot other.new }
         ensures values { self.now.plan.carries ≡ true →
             MeetsValues one.old other.old one.new other.new }
+    {
+        self.meet_at_rest(one, other);
+    }
+
+    /// Two seats of any ring, without a slot, become one, which learns all that there was, and part again.
+    pub(crate) fn meet_at_rest(&self, one: &mut Seat<T>, other: &mut Seat<T>)
+        requires one { IsAtRest self.now.plan self.now.table.shared.table_id one.old }
+        requires other { IsAtRest self.now.plan self.now.table.shared.table_id other.old }
+        requires apart { HasNoSlot one.old × HasNoSlot other.old }
+        ensures one { IsAtRest self.now.plan self.now.table.shared.table_id one.new }
+        ensures other { IsAtRest self.now.plan self.now.table.shared.table_id other.new }
+        ensures names { KeepsName one.old one.new × KeepsName other.old other.new }
+        ensures meets { Meets (known_of one.old) (known_of other.old)
+            (known_of one.new) (known_of other.new) }
+        ensures apart { HasNoSlot one.new × HasNoSlot other.new }
+        ensures values { self.now.plan.carries ≡ true →
+            MeetsValues one.old other.old one.new other.new }
+        ensures said { self.now.plan.placed ≡ true →
+            MeetsSaid one.old other.old one.new other.new }
     {
         let shared = &self.table.shared;
         let spare = shared.split_seat::<Spare>(&mut other.token);

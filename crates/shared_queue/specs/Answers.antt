@@ -1,5 +1,5 @@
 -- What calls that sleep answer.
-use Rattle.std.specs.Prelude.{◌≡◌, ℕ, Option, Some, None}
+use Rattle.std.specs.Prelude.{◌≡◌, ℕ}
 use Rattle.history.specs.declared.refusals.Refusal.{Refusal}
 use Rattle.history.specs.declared.refusals.Refusal.TheVariants.{NoNode, WornOut, Closed}
 use Rattle.carriers.specs.declared.items.ItemOf.{ItemOf}

@@ -6,6 +6,10 @@ use Rattle.shared_queue.specs.declared.receiver.Receiver.{Receiver}
 use Rattle.shared_queue.specs.declared.sides.Side.{Side}
 
 module _ {C A S : Type 0} {carrier : Ghosts C A S} where
+  -- the seat that ends a side, as that was made
+  abbrev pub side_seat : Side C A S carrier → S
+  side_seat s = s.given.value
+
   -- the queue of a sender
   abbrev pub sender_queue : Sender C A S carrier → C
   sender_queue h = queue_of h.queue.value

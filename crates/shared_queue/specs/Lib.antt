@@ -6,7 +6,11 @@ pub mod Hearings
 pub mod Lates
 pub mod Queues
 pub mod Seats
+pub mod Sharing
+pub mod Stepped
+pub mod Steps
 pub mod Tellings
+pub mod TriedCalls
 pub mod Tries
 pub mod Unshuts
 pub mod Waits

@@ -11,3 +11,7 @@ module _ {C S A : Type 0} (is_seat : C → S → Type 0) (permits : C → List P
   -- the seat is the queue's, in no call, and may pop
   abbrev pub IsTaker : C → S → Type 0
   IsTaker queue seat = is_seat queue seat × MayPop (permits queue) (known seat).number
+
+  -- the seat is the queue's, in no call, and may do both
+  abbrev pub IsBoth : C → S → Type 0
+  IsBoth queue seat = is_seat queue seat × MayPush (permits queue) (known seat).number × MayPop (permits queue) (known seat).number

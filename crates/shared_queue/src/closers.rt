@@ -31,20 +31,26 @@ pub(crate) trait Shuts {
 /// and once, or leaves it as it is.
 pub(crate) struct Closer<C: Carrier + Drop> {
     queue: Arc<SharedQueue<C>, Global>,
-    seat: C::Seat,
+    pub(crate) seat: C::Seat,
     ghost sits: { ∥ IsGiver C.is_seat C.permits C.known (queue_of queue.value) seat ∥₁ },
 }
 
 impl<C: Carrier + Drop> Closer<C> {
+    ghost use Rattle.shared_queue.specs.Closers.{closer_seat};
+
     pub(crate) fn new(queue: Arc<SharedQueue<C>, Global>, seat: C::Seat) -> Closer<C>
         requires { IsGiver C.is_seat C.permits C.known (queue_of queue.value) seat }
+        ensures { closer_seat result ≡ seat }
     {
         Closer { queue, seat }
     }
 
-    // Leaves the queue as it is.
-    pub(crate) fn leave(self) {
-        let Closer { queue: _, seat: _ } = self;
+    // Leaves the queue as it is: the seat, which did nothing.
+    pub(crate) fn leave(self) -> C::Seat
+        ensures { result ≡ closer_seat self }
+    {
+        let Closer { queue: _, seat } = self;
+        seat
     }
 }
 

@@ -3,7 +3,8 @@ ghost use Rattle.std.specs.Prelude.{◌≡◌, map, IfOk, IfErr};
 ghost use Rattle.std.specs.List.{All};
 ghost use Rattle.shared_queue.specs.Queues.{queue_of};
 ghost use Rattle.shared_queue.specs.Seats.{IsGiver, IsTaker};
-ghost use Rattle.shared_queue.specs.Handles.{sender_queue, sender_seat, receiver_queue, receiver_seat};
+ghost use Rattle.shared_queue.specs.Handles.{sender_queue, sender_side, sender_seat};
+ghost use Rattle.shared_queue.specs.Handles.{receiver_queue, receiver_side, receiver_seat, side_seat};
 
 use crate::closers::Closer;
 use crate::queue::SharedQueue;
@@ -33,11 +34,14 @@ pub fn senders<C: Carrier + Drop>(
 ) -> Result<Vec<Sender<C>>, Refusal>
     requires closer { IsGiver C.is_seat C.permits C.known (queue_of queue.now.value) closer }
     requires seats { All (IsGiver C.is_seat C.permits C.known (queue_of queue.now.value)) seats.items }
-    //= carriers/channels (queue, seats, only_memory): The senders of a queue of values, and its receivers, are a handle for
-    //=   each seat, in their order, of that queue. Or Memory.
+    //= carriers/channels (queue, seats, closer, only_memory): The senders of a queue of values, and its receivers, are a handle
+    //=   for each seat, in their order, of that queue. Each seat is as it was given, and so is the one that ends their side:
+    //=   nothing is pushed, popped or shut. Or Memory.
     ensures queue { IfOk result
         (λ senders. All (λ h. sender_queue h ≡ queue_of queue.now.value) senders.items) }
     ensures seats { IfOk result (λ senders. map sender_seat senders.items ≡ seats.items) }
+    ensures closer { IfOk result
+        (λ senders. All (λ h. side_seat (sender_side h) ≡ closer) senders.items) }
     ensures only_memory { IfErr result (λ refusal. refusal ≡ Refusal.Memory) }
 {
     let Ok(share) = Arc::try_clone(queue) else {
@@ -74,10 +78,12 @@ pub fn receivers<C: Carrier + Drop>(
 ) -> Result<Vec<Receiver<C>>, Refusal>
     requires closer { IsGiver C.is_seat C.permits C.known (queue_of queue.now.value) closer }
     requires seats { All (IsTaker C.is_seat C.permits C.known (queue_of queue.now.value)) seats.items }
-    //= carriers/channels (queue, seats, only_memory)
+    //= carriers/channels (queue, seats, closer, only_memory)
     ensures queue { IfOk result
         (λ receivers. All (λ h. receiver_queue h ≡ queue_of queue.now.value) receivers.items) }
     ensures seats { IfOk result (λ receivers. map receiver_seat receivers.items ≡ seats.items) }
+    ensures closer { IfOk result
+        (λ receivers. All (λ h. side_seat (receiver_side h) ≡ closer) receivers.items) }
     ensures only_memory { IfErr result (λ refusal. refusal ≡ Refusal.Memory) }
 {
     let Ok(share) = Arc::try_clone(queue) else {

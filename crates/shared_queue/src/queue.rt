@@ -2,7 +2,7 @@
 ghost use Rattle.std.specs.Prelude.{◌≡◌};
 ghost use Rattle.shared_queue.specs.Queues.{queue_of};
 
-use crate::bells::Words;
+use crate::bells::Bells;
 use crate::steps::refused;
 use calls::{Seen, Task};
 use carriers::{Carrier, ItemOf, Unpushed};
@@ -16,8 +16,7 @@ use std::sync::atomic::AtomicBool;
 pub struct SharedQueue<C> {
     pub(crate) queue: C,
     pub(crate) is_shut: AtomicBool,
-    pub(crate) values: Words,
-    pub(crate) room: Words,
+    pub(crate) bells: Bells,
 }
 
 impl<C> SharedQueue<C> {
@@ -36,8 +35,7 @@ impl<C> SharedQueue<C> {
         SharedQueue {
             queue,
             is_shut: AtomicBool::new(false),
-            values: Words::new(),
-            room: Words::new(),
+            bells: Bells::new(),
         }
     }
 
@@ -49,7 +47,7 @@ impl<C> SharedQueue<C> {
     /// queue.wake_all();
     /// ```
     pub fn wake_all(&self) {
-        self.tried(Task::Shut, Seen::Got);
+        self.bells.tried(Task::Shut, Seen::Got);
     }
 
     /// The queue alone, to be closed by its seats. Takes no memory and doesn't wait.
@@ -64,8 +62,7 @@ impl<C> SharedQueue<C> {
         let SharedQueue {
             queue,
             is_shut: _,
-            values: _,
-            room: _,
+            bells: _,
         } = self;
         queue
     }
@@ -105,11 +102,11 @@ impl<C: Carrier> Carrier for SharedQueue<C> {
     ) -> Result<(), Unpushed<C::Item>> {
         match self.queue.try_push(seat, value, turns) {
             Ok(()) => {
-                self.tried(Task::Push, Seen::Got);
+                self.bells.tried(Task::Push, Seen::Got);
                 Ok(())
             }
             Err(unpushed) => {
-                self.tried(Task::Push, refused(&unpushed.refusal));
+                self.bells.tried(Task::Push, refused(&unpushed.refusal));
                 Err(unpushed)
             }
         }
@@ -118,14 +115,14 @@ impl<C: Carrier> Carrier for SharedQueue<C> {
     // (A list's pop gives a node back also where it takes no value, and where it takes one maybe two: so it rings for one more.)
     fn try_pop(&self, seat: &mut C::Seat, turns: u32) -> Result<Option<ItemOf<C::Item>>, Refusal> {
         let answer = self.queue.try_pop(seat, turns);
-        self.tried(Task::Pop, seen_by(&answer));
-        self.tried(Task::Pop, Seen::Got);
+        self.bells.tried(Task::Pop, seen_by(&answer));
+        self.bells.tried(Task::Pop, Seen::Got);
         answer
     }
 
     fn try_shut(&self, seat: &mut C::Seat, turns: u32) -> Result<(), Refusal> {
         let answer = self.queue.try_shut(seat, turns);
-        self.tell_of_shut(&answer);
+        self.bells.tell_of_shut(&self.is_shut, &answer);
         answer
     }
 

@@ -21,7 +21,7 @@ pub struct Receiver<C: Carrier + Drop> {
 }
 
 impl<C: Carrier + Drop> Receiver<C> {
-    ghost use Rattle.shared_queue.specs.Handles.{receiver_queue, receiver_seat};
+    ghost use Rattle.shared_queue.specs.Handles.{receiver_queue, receiver_side, receiver_seat};
 
     pub(crate) fn new(
         queue: Arc<SharedQueue<C>, Global>,
@@ -30,6 +30,7 @@ impl<C: Carrier + Drop> Receiver<C> {
     ) -> Receiver<C>
         requires { IsTaker C.is_seat C.permits C.known (queue_of queue.value) seat }
         ensures queue { receiver_queue result ≡ queue_of queue.value }
+        ensures side { receiver_side result ≡ side.value }
         ensures seat { receiver_seat result ≡ seat }
     {
         Receiver { queue, side, seat }
@@ -41,6 +42,7 @@ impl<C: Carrier + Drop> Receiver<C> {
     {
         Arc::strong_count(&self.side)
     }
+
     /// The seat, which is no receiver's from now on: where it was the last one's, nobody shuts the queue. Takes no memory and
     /// doesn't wait.
     ///

@@ -142,14 +142,14 @@ impl<C: Carrier> SharedQueue<C> {
         let backoff = Backoff::new();
         for _ in rt.forever() {
             if !waiting.looks() {
-                late = self.step_aside(seat, &mut waiting, until);
+                late = self.bells.step_aside(seat, &mut waiting, until);
                 continue;
             }
             let answer = self.queue.try_pop(seat, TURNS);
-            self.tried(Task::Pop, Seen::Got);
+            self.bells.tried(Task::Pop, Seen::Got);
             match answer {
                 Ok(Some(front)) => {
-                    self.leave(waiting.call, Seen::Got);
+                    self.bells.leave(waiting.call, Seen::Got);
                     return Ok(InTime::Done(front));
                 }
                 Ok(None) => match advance(&mut waiting.call, Seen::Nothing, false) {
@@ -166,7 +166,7 @@ impl<C: Carrier> SharedQueue<C> {
                 },
                 Err(Refusal::Busy) => backoff.snooze(),
                 Err(refusal) => {
-                    self.leave(waiting.call, refused(&refusal));
+                    self.bells.leave(waiting.call, refused(&refusal));
                     return Err(refusal);
                 }
             }

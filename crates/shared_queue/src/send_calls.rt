@@ -161,19 +161,19 @@ impl<C: Carrier> SharedQueue<C> {
         let backoff = Backoff::new();
         for _ in rt.forever() {
             if !waiting.looks() {
-                late = self.step_aside(seat, &mut waiting, until);
+                late = self.bells.step_aside(seat, &mut waiting, until);
                 continue;
             }
             let unshut = match self.look_for_shut(rt, seat) {
                 Ok(unshut) => unshut,
                 Err(refusal) => {
-                    self.leave(waiting.call, refused(&refusal));
+                    self.bells.leave(waiting.call, refused(&refusal));
                     return Err(Unpushed { refusal, value });
                 }
             };
             match self.queue.try_push(seat, value, TURNS) {
                 Ok(()) => {
-                    self.leave(waiting.call, Seen::Got);
+                    self.bells.leave(waiting.call, Seen::Got);
                     return Ok(InTime::Done(()));
                 }
                 Err(unpushed) => match unpushed.refusal {
@@ -197,7 +197,7 @@ impl<C: Carrier> SharedQueue<C> {
                         backoff.snooze();
                     }
                     _ => {
-                        self.leave(waiting.call, refused(&unpushed.refusal));
+                        self.bells.leave(waiting.call, refused(&unpushed.refusal));
                         return Err(unpushed);
                     }
                 },

@@ -21,7 +21,7 @@ pub struct Sender<C: Carrier + Drop> {
 }
 
 impl<C: Carrier + Drop> Sender<C> {
-    ghost use Rattle.shared_queue.specs.Handles.{sender_queue, sender_seat};
+    ghost use Rattle.shared_queue.specs.Handles.{sender_queue, sender_side, sender_seat};
 
     pub(crate) fn new(
         queue: Arc<SharedQueue<C>, Global>,
@@ -30,6 +30,7 @@ impl<C: Carrier + Drop> Sender<C> {
     ) -> Sender<C>
         requires { IsGiver C.is_seat C.permits C.known (queue_of queue.value) seat }
         ensures queue { sender_queue result ≡ queue_of queue.value }
+        ensures side { sender_side result ≡ side.value }
         ensures seat { sender_seat result ≡ seat }
     {
         Sender { queue, side, seat }
@@ -41,6 +42,7 @@ impl<C: Carrier + Drop> Sender<C> {
     {
         Arc::strong_count(&self.side)
     }
+
     /// The seat, which is no sender's from now on: where it was the last one's, nobody shuts the queue. Takes no memory and
     /// doesn't wait.
     ///

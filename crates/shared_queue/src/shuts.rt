@@ -6,6 +6,7 @@ ghost use Rattle.shared_queue.specs.Queues.{queue_of};
 ghost use Rattle.shared_queue.specs.Tellings.{IfShut};
 ghost use Rattle.shared_queue.specs.Unshuts.{seat_unshut};
 
+use crate::bells::Bells;
 use crate::queue::SharedQueue;
 use calls::{Seen, Task};
 use carriers::Carrier;
@@ -13,6 +14,7 @@ use history::Refusal;
 use std::hint;
 use std::snapshot::Snapshot;
 use std::sync::Wait;
+use std::sync::atomic::AtomicBool;
 use std::sync::atomic::Ordering::SeqCst;
 
 /// That no shut was known of, and what a seat was then. Only a look for one makes it.
@@ -59,20 +61,24 @@ impl<C: Carrier> SharedQueue<C> {
     }
 }
 
-impl<C> SharedQueue<C> {
-    // Marks the queue as shut, and rings both bells for all.
-    fn end(&self) -> Marked {
-        self.is_shut.store(true, SeqCst);
+impl Bells {
+    // Marks a queue as shut, and rings both bells for all.
+    fn end(&self, mark: &AtomicBool) -> Marked {
+        mark.store(true, SeqCst);
         self.tried(Task::Shut, Seen::Got);
         Marked {}
     }
 
-    // Marks the queue, and wakes all whose calls sleep, where this answer to a shut leaves it shut.
-    pub(crate) fn tell_of_shut(&self, answer: &Result<(), Refusal>) -> Option<Marked>
+    /// Marks the queue, and wakes all whose calls sleep, where this answer to a shut leaves it shut.
+    pub(crate) fn tell_of_shut(
+        &self,
+        mark: &AtomicBool,
+        answer: &Result<(), Refusal>,
+    ) -> Option<Marked>
         ensures { IfShut answer.now (IsSome result) }
     {
         match answer {
-            Ok(()) | Err(Refusal::Closed) => Some(self.end()),
+            Ok(()) | Err(Refusal::Closed) => Some(self.end(mark)),
             _ => None,
         }
     }

@@ -2,13 +2,12 @@
 ghost use Rattle.std.specs.Prelude.{◌≡◌, ◌⊎◌, IsTrue, IfSome, OnSome, None};
 ghost use Rattle.shared_queue.specs.Hearings.{seat_heard};
 ghost use Rattle.shared_queue.specs.Lates.{seat_then};
+ghost use Rattle.shared_queue.specs.Steps.{seen_of};
 
-use crate::bells::{Heard, Words};
+use crate::bells::{Bells, Heard};
 use crate::deadlines::{Deadline, Late, is_over};
-use crate::queue::SharedQueue;
-use calls::{Access, Act, Bell, Call, Code, Phase, Seen, Task, access, advance, start};
+use calls::{Access, Act, Call, Code, Phase, Seen, Task, access, advance, start};
 use history::Refusal;
-use std::sync::atomic::Ordering::SeqCst;
 
 /// How many steps a call makes at most after its last look: it is counted no more, and sees who listens and rings at each bell.
 const LAST_STEPS: u32 = 8;
@@ -37,7 +36,9 @@ impl<S> Waiting<S> {
 }
 
 /// What a look sees whose try is refused so.
-pub(crate) fn refused(refusal: &Refusal) -> Seen {
+pub(crate) fn refused(refusal: &Refusal) -> Seen
+    ensures { result ≡ seen_of refusal.now }
+{
     match refusal {
         Refusal::NoNode => Seen::Nothing,
         Refusal::WornOut(_) => Seen::Ended(Code::Worn),
@@ -46,44 +47,7 @@ pub(crate) fn refused(refusal: &Refusal) -> Seen {
     }
 }
 
-impl<C> SharedQueue<C> {
-    fn bell(&self, bell: Bell) -> &Words {
-        match bell {
-            Bell::Values => &self.values,
-            Bell::Room => &self.room,
-        }
-    }
-
-    // The bell of what a call waits for.
-    fn awaited(&self, task: Task) -> &Words {
-        match task {
-            Task::Push => &self.room,
-            _ => &self.values,
-        }
-    }
-
-    // Makes an access to a bell.
-    fn touch(&self, access: Access) -> Seen {
-        match access {
-            Access::Count(bell) => {
-                self.bell(bell).listeners.fetch_add(1, SeqCst);
-            }
-            Access::Uncount(bell) => {
-                self.bell(bell).listeners.fetch_sub(1, SeqCst);
-            }
-            Access::Ring(bell) => {
-                self.bell(bell).rings.fetch_add(1, SeqCst);
-            }
-            Access::Listeners(bell) => {
-                if self.bell(bell).listeners.load(SeqCst) == 0 {
-                    return Seen::Nothing;
-                }
-            }
-            _ => {}
-        }
-        Seen::Got
-    }
-
+impl Bells {
     /// A step of a call that waits, other than a look: it listens, or hears, or slept. Tells whether its time is over, where it
     /// slept.
     pub(crate) fn step_aside<S, D: Deadline>(
@@ -124,8 +88,8 @@ impl<C> SharedQueue<C> {
         for _ in 0..LAST_STEPS {
             match act {
                 Act::Tell(_) => return,
-                Act::WakeOne(bell) => self.bell(bell).rings.wake_one(),
-                Act::WakeAll(bell) => self.bell(bell).rings.wake_all(),
+                Act::WakeOne(bell) => self.of(bell).rings.wake_one(),
+                Act::WakeAll(bell) => self.of(bell).rings.wake_all(),
                 _ => {}
             }
             let seen = self.touch(access(&call));

@@ -16,10 +16,10 @@ use Rattle.waiting_orders.specs.declared.lines.Pick.{Pick}
 use Rattle.waiting_orders.specs.declared.steps.Front.{Front}
 use Rattle.waiting_orders.specs.declared.boards.Board.{Board}
 use Rattle.waiting_orders.specs.Waiting.{IsCall, State, IsOpenAt, OtherIsOpen, Pushes, waits, is_push, is_open_at, sooner, pushes_value, fits}
-use Rattle.waiting_orders.specs.Lines.{IsLimit, IsRising, HasOut, ArePicks, AreOut, left_of, view_left, view_picks, picked, listed, stands, begins_past}
-use Rattle.waiting_orders.specs.Nodes.{Spot, Among, AreCalls, HasSteps, state_of}
+use Rattle.waiting_orders.specs.Lines.{Left, IsLimit, IsRising, HasOut, ArePicks, AreOut, left_of, view_left, view_picks, picked, listed, stands, begins_past, ends_by}
+use Rattle.waiting_orders.specs.Nodes.{Spot, Among, AreCalls, HasSteps, state_of, told, is_told, gets, is_calm}
 use Rattle.waiting_orders.specs.Alike.{EndsBy, Got, GoesAlone}
-use Rattle.waiting_orders.specs.Alone.{EndsLater, BeginsLater, MayGoAlone, IsAloneOf, IsAlone, IsAloneAt, told, is_told, is_of, is_empty, is_calm, ends_by, sooner_at, lowered_by, first_of, take_time, alone_at}
+use Rattle.waiting_orders.specs.Alone.{EndsLater, BeginsLater, MayGoAlone, IsAloneOf, IsAlone, IsAloneAt, is_of, is_empty, sooner_at, lowered_by, first_of, take_time, alone_at}
 use Rattle.waiting_orders.proofs.Futures.{all_moved}
 use Rattle.waiting_orders.proofs.Lists.{all_joined, both_true, or_left, or_right}
 use Rattle.waiting_orders.proofs.Limits.{none_until, picked_next}
@@ -32,7 +32,7 @@ use Rattle.waiting_orders.proofs.Trades.{where_earlier}
 
 -- ---- last numbers
 
-ends_true : (a b : Option ℕ) → ends_by a b ≡ true → EndsBy a b
+pub ends_true : (a b : Option ℕ) → ends_by a b ≡ true → EndsBy a b
 ends_true None None e = tt
 ends_true None (Some b) e = absurd cc
 ends_true (Some a) None e = tt
@@ -53,7 +53,7 @@ told_of v o e = or_left (is_told v o.reply) (pushes_value v o.actor o.op) (ap (i
 pushed_of : (v : Taken) (o : Stamped) → Pushes v o → is_of v o ≡ true
 pushed_of v o h = or_right (is_told v o.reply) (pushes_value v o.actor o.op) (value_fits v o h)
 
-fits_pushes : (v : Taken) (p : Stamped) → pushes_value v p.actor p.op ≡ true → waits p ≡ true → Pushes v p
+pub fits_pushes : (v : Taken) (p : Stamped) → pushes_value v p.actor p.op ≡ true → waits p ≡ true → Pushes v p
 fits_pushes v p h w = go p.op refl h
   where
     go : (op : Op) → p.op ≡ op → pushes_value v p.actor op ≡ true → Pushes v p
@@ -65,7 +65,7 @@ fits_pushes v p h w = go p.op refl h
     go Deq e h = absurd cc
     go Shut e h = absurd cc
 
-told_got : (v : Taken) (o : Stamped) → told o.op o.reply ≡ Some v → Got v o
+pub told_got : (v : Taken) (o : Stamped) → told o.op o.reply ≡ Some v → Got v o
 told_got v o e = go o.op o.reply refl refl e
   where
     go : (op : Op) (reply : Option Reply) → o.op ≡ op → o.reply ≡ reply → told op reply ≡ Some v → Got v o
@@ -76,6 +76,23 @@ told_got v o e = go o.op o.reply refl refl e
     go Deq (Some Empty) a b e = absurd cc
     go Deq (Some (Refused refusal)) a b e = absurd cc
     go Shut reply a b e = absurd cc
+
+same_value : (w v : Taken) → w.from ≡ v.from → w.body ≡ v.body → w ≡ v
+same_value w v e f = ap (λ a. record { from = a; body = w.body }) e ∙ ap (λ b. record { from = v.from; body = b }) f
+
+pub gets_got : (v : Taken) (o : Stamped) → gets v o.op o.reply ≡ true → Got v o
+gets_got v o h = go o.op o.reply refl refl h
+  where
+    go : (op : Op) (reply : Option Reply) → o.op ≡ op → o.reply ≡ reply → gets v op reply ≡ true → Got v o
+    go (Enq body) reply a b h = absurd cc
+    go Deq None a b h = absurd cc
+    go Deq (Some Done) a b h = absurd cc
+    go Deq (Some (Value w)) a b h =
+        let e : w ≡ v = same_value w v (eqb-true w.from v.from (and_left (nat_eq w.from v.from) (nat_eq w.body v.body) h)) (eqb-true w.body v.body (and_right (nat_eq w.from v.from) (nat_eq w.body v.body) h)) in
+        record { op = a; reply = b ∙ ap (λ w. Some (Value w)) e }
+    go Deq (Some Empty) a b h = absurd cc
+    go Deq (Some (Refused refusal)) a b h = absurd cc
+    go Shut reply a b h = absurd cc
 
 no_reply : (o : Stamped) (reply : Reply) → ((op : Op) → is_push op (Some reply) ≡ false) → waits o ≡ true → o.reply ≡ Some reply → ⊥
 no_reply o reply off w e = let on : is_push o.op (Some reply) ≡ true = subst (λ reply. is_push o.op reply ≡ true) e w in absurd (cc (sym (off o.op) ∙ on))
@@ -100,7 +117,7 @@ begins_later n m (Some l) e f = let a : n ≤ l = leb-true n l e in let b : l �
 
 -- ---- all that is left
 
-all_by : (P : Stamped → Type 0) (xs : List Stamped) → ((o : Stamped) (rest : List Stamped) → IsPermutation xs (o ∷ rest) → P o) → AllByRecursion P xs
+pub all_by : (P : Stamped → Type 0) (xs : List Stamped) → ((o : Stamped) (rest : List Stamped) → IsPermutation xs (o ∷ rest) → P o) → AllByRecursion P xs
 all_by P [] h = tt
 all_by P (x ∷ xs) h =
     (h x xs (IsPermutation-refl _), all_by P xs (λ o rest is. h o (x ∷ rest) (IsPermutation-trans _ _ _ (IsPermutation-cons x xs (o ∷ rest) is) (IsPermutation-middle (x ∷ []) o rest))))
@@ -126,13 +143,24 @@ no_pushes : (v : Taken) (last : Option ℕ) (xs : List Stamped) → AllByRecursi
 no_pushes v last [] w = tt
 no_pushes v last (x ∷ xs) w = (λ h. let on = h.waits in let off = w.0 in absurd (cc (sym off ∙ on)), no_pushes v last xs w.1)
 
-no_empties : (n : ℕ) (xs : List Stamped) → AllByRecursion (λ o. waits o ≡ true) xs → AllByRecursion (λ o. o.reply ≡ Some Empty → n ≤ o.first) xs
+pub no_empties : (n : ℕ) (xs : List Stamped) → AllByRecursion (λ o. waits o ≡ true) xs → AllByRecursion (λ o. o.reply ≡ Some Empty → n ≤ o.first) xs
 no_empties n [] w = tt
 no_empties n (x ∷ xs) w = (λ e. absurd (no_reply x Empty empty_off w.0 e), no_empties n xs w.1)
 
 begin_all : (first : Option ℕ) (ways : List Pick) → AllByRecursion (BeginsLater first) ways → AllByRecursion (λ w. w.operation.reply ≡ Some Empty → ends_by first (Some w.operation.first) ≡ true) ways
 begin_all first [] h = tt
 begin_all first (w ∷ ways) h = (h.0, begin_all first ways h.1)
+
+-- whatever of those left was told that the queue is empty began at a number or later, if that is so of those that may be placed
+pub empties_later : (ops : List Stamped) (left : Left) (f : Front) (ways : List Pick) → ArePicks ops left f.limit (view_picks ways) → AllByRecursion (BeginsLater f.empty) ways
+    → (number : ℕ) → is_open_at number f.limit ≡ true → is_open_at number f.empty ≡ true → AllByRecursion (λ o. o.reply ≡ Some Empty → number ≤ o.first) (left_of ops left)
+empties_later ops left f ways picks begin number ongoing c = all_by (λ o. o.reply ≡ Some Empty → number ≤ o.first) (left_of ops left) (λ o rest is. go o rest is (is_open_at o.first f.limit) refl)
+  where
+    go : (o : Stamped) (rest : List Stamped) → IsPermutation (left_of ops left) (o ∷ rest) → (b : Bool) → is_open_at o.first f.limit ≡ b → o.reply ≡ Some Empty → number ≤ o.first
+    go o rest is true e empty =
+        let P = λ (o : Stamped). o.reply ≡ Some Empty → ends_by f.empty (Some o.first) ≡ true in
+        begins_later number o.first f.empty c (has_pick P ops ways o rest (begin_all f.empty ways begin) (picks o rest is e) empty)
+    go o rest is false e empty = between number o.first f.limit ongoing e
 
 module _ (board : Board) (s : Spot) (f : Front) (ways : List Pick) (way take : Pick) (calls : AreCalls board)
     (limit : IsLimit (left_of board.others.operations.items s.others) f.limit)
@@ -199,13 +227,7 @@ module _ (board : Board) (s : Spot) (f : Front) (ways : List Pick) (way take : P
     ps_open n = all_where (IsOpenAt n) (λ x. not (waits x)) ps (not_waits ps ps_wait.1)
 
     calm : is_open_at number f.empty ≡ true → AllByRecursion (λ o. o.reply ≡ Some Empty → number ≤ o.first) others
-    calm c = all_by (λ o. o.reply ≡ Some Empty → number ≤ o.first) others (λ o rest is. go o rest is (is_open_at o.first f.limit) refl)
-      where
-        go : (o : Stamped) (rest : List Stamped) → IsPermutation others (o ∷ rest) → (b : Bool) → is_open_at o.first f.limit ≡ b → o.reply ≡ Some Empty → number ≤ o.first
-        go o rest is true e empty =
-            let P = λ (o : Stamped). o.reply ≡ Some Empty → ends_by f.empty (Some o.first) ≡ true in
-            begins_later number o.first f.empty c (has_pick P board.others.operations.items ways o rest (begin_all f.empty ways begin) (picks o rest is e) empty)
-        go o rest is false e empty = between number o.first f.limit h.ongoing e
+    calm c = empties_later board.others.operations.items s.others f ways picks begin number h.ongoing c
 
     push_by : take.operation.first ≤ number
     push_by = le_max_right (max s.time way.operation.first) take.operation.first

@@ -12,7 +12,7 @@ use Rattle.waiting_orders.specs.declared.lines.Pick.{Pick}
 use Rattle.waiting_orders.specs.declared.steps.Front.{Front}
 use Rattle.waiting_orders.specs.Waiting.{is_open_at}
 use Rattle.waiting_orders.specs.Lines.{Left, Out, spelled, out_of, out_kept, kept_at, later_at, all_kept, later_to, without_kept, without_later, view_left, view_pick, view_picks}
-use Rattle.waiting_orders.specs.Nodes.{Spot, where_so, time_of, stay, drained, began_by, shut_of, suits, take_at, takes_to, refused_of, steps_of, steps_at, steps_to, is_pending, goes_first, takes_where, pending_at, pending_to, pending_where, pending_of, quiet_time, quiet_at}
+use Rattle.waiting_orders.specs.Nodes.{Spot, where_so, time_of, stay, drained, began_by, shut_of, suits, take_at, takes_to, refused_of, steps_of, is_in_turn, steps_where, steps_at, steps_to, is_pending, goes_first, takes_where, pending_at, pending_to, pending_where, pending_of, quiet_time, quiet_at}
 use Rattle.waiting_orders.specs.Alone.{alone_at, take_time}
 use Rattle.waiting_orders.specs.Reached.{AreOutOf, IsOutOf, Leads}
 use Rattle.waiting_orders.proofs.Picks.{all_gathered, outs_joined}
@@ -127,7 +127,7 @@ module _ (others pushes : List Stamped) (s : Spot) where
       steps_led Deq (Some Done) = tt
       steps_led Shut (Some Done) = shut_led
       steps_led (Enq body) (Some (Value v)) = tt
-      steps_led Deq (Some (Value v)) = takes_led (suits f.push_limit (Some v)) (length f.takes.items)
+      steps_led Deq (Some (Value v)) = takes_led (suits f (Some v)) (length f.takes.items)
       steps_led Shut (Some (Value v)) = tt
       steps_led (Enq body) (Some Empty) = tt
       steps_led Deq (Some Empty) = stay_led (not s.shut && is_open_at (time_of s way) f.push_limit)
@@ -137,17 +137,21 @@ module _ (others pushes : List Stamped) (s : Spot) where
       steps_led Shut (Some (Refused refusal)) = refused_led refusal Shut
 
       where_takes_led : (b : Bool) → AreLed (takes_where b s f way)
-      where_takes_led true = takes_led (suits f.push_limit None) (length f.takes.items)
+      where_takes_led true = takes_led (suits f None) (length f.takes.items)
       where_takes_led false = tt
 
     module _ (ways : List Pick) (outs : AreOutOf others s.others (view_picks ways)) where
-      at_led : (x : Option Pick) → IfSome x (λ way. IsOutOf others s.others (view_pick way)) → AreLed (steps_at pushes s f x)
+      at_led : (x : Option Pick) → IfSome x (λ way. IsOutOf others s.others (view_pick way)) → AreLed (steps_at pushes s f ways x)
       at_led None h = tt
-      at_led (Some way) h = steps_led way h way.operation.op way.operation.reply
+      at_led (Some way) h = in_turn_led (is_in_turn s f ways way.operation)
+        where
+          in_turn_led : (b : Bool) → AreLed (steps_where b pushes s f way)
+          in_turn_led true = steps_led way h way.operation.op way.operation.reply
+          in_turn_led false = tt
 
       to_led : (k : ℕ) → AreLed (steps_to k pushes s f ways)
       to_led zero = tt
-      to_led (suc k) = led_joined (steps_to k pushes s f ways) (steps_at pushes s f (slice_get ways k)) (to_led k) (at_led (slice_get ways k) (pick_of others s.others ways outs k))
+      to_led (suc k) = led_joined (steps_to k pushes s f ways) (steps_at pushes s f ways (slice_get ways k)) (to_led k) (at_led (slice_get ways k) (pick_of others s.others ways outs k))
 
       pending_at_led : (x : Option Pick) → IfSome x (λ way. IsOutOf others s.others (view_pick way)) → AreLed (pending_at s f ways x)
       pending_at_led None h = tt

@@ -22,4 +22,6 @@ pub mod Spare
 pub mod PendingPops
 pub mod Counts
 pub mod GoingAlone
+pub mod EndsFirst
+pub mod FirstOfAValue
 pub mod Needed

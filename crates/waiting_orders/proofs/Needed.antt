@@ -1,7 +1,7 @@
 -- Where a state can be placed to the end, a step of an operation that is no pending pop leads there, or a push that ended is in the
 -- way of a pop, and the pending pop that began first takes its value.
 use Rattle.std.proofs.Common.{◌≡◌, ℕ, zero, suc, nat_le, nat_lt, ◌≤◌, ◌<◌, Bool, true, false, not, ◌&&◌, ◌||◌, ◌⊎◌, inl, inr, List, [], ◌∷◌, ◌++◌, Option, None, Some, IfSome, is_some, length, slice_get, refl, sym, ap, ◌∙◌, subst, arith}
-use Rattle.std.specs.List.{AllByRecursion, list_all}
+use Rattle.std.specs.List.{AllByRecursion}
 use Rattle.std.specs.List.Sorted.{IsPermutation}
 use Rattle.std.proofs.lemmas.Bool.{leb-true, leb-false, le-leb, ltb-true, ltb-false}
 use Rattle.std.proofs.lemmas.Option.{slice_get_within, same_Some}
@@ -16,6 +16,7 @@ use Rattle.waiting_orders.specs.declared.lines.Pick.{Pick}
 use Rattle.waiting_orders.specs.declared.steps.Front.{Front}
 use Rattle.waiting_orders.specs.declared.boards.Board.{Board}
 use Rattle.waiting_orders.specs.Waiting.{IsCall, State, Step, IsEnd, CanEnd, Where, IsOpenAt, OtherIsOpen, waits, is_push, is_open_at, fits}
+use Rattle.waiting_orders.specs.Alone.{BeginsLater}
 use Rattle.waiting_orders.specs.Lines.{IsLimit, ArePicks, AreOut, left_of, view_left, view_picks, without}
 use Rattle.waiting_orders.specs.Nodes.{Spot, Among, AreCalls, HasSteps, OneEnds, state_of, is_by, suits, steps_to, is_pending, none_pending, is_behind, is_free, all_free, goes_first, takes_where, pending_at, pending_to, pending_where, pending_of}
 use Rattle.waiting_orders.specs.Pending.{is_pending_pop, is_untold, EndedBefore, EndsBy, Pops, IsLeftIn, IsInTheWay, Hinders, StepOfOther, MakesWay, IsFirstToEnd, EndsLazily}
@@ -23,30 +24,11 @@ use Rattle.waiting_orders.proofs.Futures.{all_moved}
 use Rattle.waiting_orders.proofs.Lists.{all_joined, both_true, or_left, or_right, where_any, where_not}
 use Rattle.waiting_orders.proofs.Limits.{all_first, open_before}
 use Rattle.waiting_orders.proofs.Quiet.{out_of_two}
-use Rattle.waiting_orders.proofs.Picks.{found_pick}
+use Rattle.waiting_orders.proofs.Picks.{found_pick, fails_at, passes_at}
 use Rattle.waiting_orders.proofs.Firsts.{pick_is}
 use Rattle.waiting_orders.proofs.PendingPops.{deq_waits, in_turn, popped_of, waits_until_needed}
-use Rattle.waiting_orders.proofs.Stepping.{TakenBy, all_left, among_left, among_right, each_step, each_take, other_out, push_out, value_fits, where_off}
-
--- ---- lists
-
--- what fails a test at a place fails it of all
-fails_at : (test : Pick → Bool) (xs : List Pick) (k : ℕ) (x : Pick) → slice_get xs k ≡ Some x → test x ≡ false → list_all test xs ≡ false
-fails_at test [] k x e f = absurd cc
-fails_at test (y ∷ xs) zero x e f = ap (λ b. b && list_all test xs) (ap test (same_Some y x e) ∙ f)
-fails_at test (y ∷ xs) (suc k) x e f = go (test y) (fails_at test xs k x e f)
-  where
-    go : (b : Bool) → list_all test xs ≡ false → (b && list_all test xs) ≡ false
-    go true h = h
-    go false h = refl
-
--- what passes a test of all passes it at each place
-passes_at : (test : Pick → Bool) (xs : List Pick) (k : ℕ) (x : Pick) → slice_get xs k ≡ Some x → list_all test xs ≡ true → test x ≡ true
-passes_at test xs k x e h = go (test x) refl
-  where
-    go : (b : Bool) → test x ≡ b → b ≡ true
-    go true f = refl
-    go false f = sym (fails_at test xs k x e f) ∙ h
+use Rattle.waiting_orders.proofs.FirstOfAValue.{first_goes}
+use Rattle.waiting_orders.proofs.Stepping.{TakenBy, all_left, among_left, among_right, each_take, other_out, push_out, value_fits, where_off}
 
 -- a pending pop before which none began
 record Least (ways : List Pick) : Type 0 where
@@ -214,6 +196,8 @@ module _ (board : Board) (s : Spot) (f : Front) (ways behind : List Pick)
     (ways_are : ArePicks board.others.operations.items s.others f.limit (view_picks ways))
     (ways_out : AreOut board.others.operations.items s.others (view_picks ways))
     (takes_are : ArePicks board.pushes.operations.items s.pushes f.push_limit (view_picks f.takes.items))
+    (takes_out : AreOut board.pushes.operations.items s.pushes (view_picks f.takes.items))
+    (begin : AllByRecursion (BeginsLater f.empty) ways)
     (behind_are : none_pending ways ≡ false → ArePicks board.pushes.operations.items s.pushes f.limit (view_picks behind))
     (calls : AreCalls board) where
   abbrev os : List Stamped
@@ -297,7 +281,7 @@ module _ (board : Board) (s : Spot) (f : Front) (ways behind : List Pick)
       → goes_first d.first ways ≡ true → Pops d p here u → Among board (pending_of s f behind ways) u
   made p d u e need first x =
       let some : is_some f.push_limit ≡ true = left_true (is_some f.push_limit) _ need in
-      let k = each_take board s f ways limit push_limit ways_are takes_are calls (suits f.push_limit None) d p u x (by_itself p.last f.push_limit e some) in
+      let k = each_take board s f ways limit push_limit ways_are takes_are calls (suits f None) d p u x (by_itself p.last f.push_limit e some) in
       let pending : is_pending k.pick ≡ true = subst (λ q. is_pending_pop q.op q.reply ≡ true) (sym k.is) (is_pending_of d x.op x.reply) in
       let before : goes_first k.pick.operation.first ways ≡ true = subst (λ q. goes_first q.first ways ≡ true) (sym k.is) first in
       let here_at : Among board (pending_at s f ways (Some k.pick)) u = subst (λ b. Among board (takes_where b s f k.pick) u) (sym (both_true _ _ pending before)) k.among in
@@ -360,7 +344,8 @@ module _ (board : Board) (s : Spot) (f : Front) (ways behind : List Pick)
 
       other_goes : (t : State) → (x : Step here t) → is_pending_pop x.operation.op x.operation.reply ≡ false → CanEnd n t → OneEnds board n new
       other_goes t x none c =
-          (t, subst (λ us. Among board us t) (sym e) (among_left board told (pending_of s f behind ways) t (each_step board s f ways limit push_limit ways_are takes_are calls t x none)), c)
+          let o = first_goes board s f ways limit push_limit ways_are takes_are takes_out ways_out begin calls n t x none c in
+          (o.0, subst (λ us. Among board us o.0) (sym e) (among_left board told (pending_of s f behind ways) o.0 o.1), o.2)
 
       widened : OneEnds board n (pending_of s f behind ways) → OneEnds board n new
       widened o = (o.0, subst (λ us. Among board us o.0) (sym e) (among_right board told (pending_of s f behind ways) o.0 o.1), o.2)
@@ -413,8 +398,8 @@ module _ (board : Board) (s : Spot) (f : Front) (ways behind : List Pick)
 pub needed_steps : (board : Board) (s : Spot) (f : Front) (ways behind : List Pick) (new : List Spot)
     → IsLimit (left_of board.others.operations.items s.others) f.limit → IsLimit (left_of board.pushes.operations.items s.pushes) f.push_limit
     → ArePicks board.others.operations.items s.others f.limit (view_picks ways) → AreOut board.others.operations.items s.others (view_picks ways)
-    → ArePicks board.pushes.operations.items s.pushes f.push_limit (view_picks f.takes.items)
-    → (none_pending ways ≡ false → ArePicks board.pushes.operations.items s.pushes f.limit (view_picks behind))
+    → ArePicks board.pushes.operations.items s.pushes f.push_limit (view_picks f.takes.items) → AreOut board.pushes.operations.items s.pushes (view_picks f.takes.items)
+    → AllByRecursion (BeginsLater f.empty) ways → (none_pending ways ≡ false → ArePicks board.pushes.operations.items s.pushes f.limit (view_picks behind))
     → new ≡ steps_to (length ways) board.pushes.operations.items s f ways ++ pending_of s f behind ways → HasSteps board s new
-needed_steps board s f ways behind new limit push_limit ways_are ways_out takes_are behind_are e calls =
-    all_needed board s f ways behind limit push_limit ways_are ways_out takes_are behind_are calls new e
+needed_steps board s f ways behind new limit push_limit ways_are ways_out takes_are takes_out begin behind_are e calls =
+    all_needed board s f ways behind limit push_limit ways_are ways_out takes_are takes_out begin behind_are calls new e

@@ -1,6 +1,6 @@
 -- What is left without an operation that may be taken out.
-use Rattle.std.proofs.Common.{◌≡◌, ℕ, zero, suc, ◌+◌, ◌-◌, ◌<◌, ◌≤◌, nat_lt, nat_le, cond, Bool, true, false, inl, inr, List, [], ◌∷◌, ◌++◌, Option, None, Some, length, take, drop, map, slice_get, refl, sym, ap, ◌∙◌, subst, arith}
-use Rattle.std.specs.List.{AllByRecursion}
+use Rattle.std.proofs.Common.{◌≡◌, ℕ, zero, suc, ◌+◌, ◌-◌, ◌<◌, ◌≤◌, nat_lt, nat_le, cond, Bool, true, false, ◌&&◌, inl, inr, List, [], ◌∷◌, ◌++◌, Option, None, Some, length, take, drop, map, slice_get, refl, sym, ap, ◌∙◌, subst, arith}
+use Rattle.std.specs.List.{AllByRecursion, list_all}
 use Rattle.std.specs.List.Sorted.{IsPermutation}
 use Rattle.std.proofs.lemmas.Bool.{leb-true, ltb-true, ltb-false}
 use Rattle.std.proofs.lemmas.List.{map-append, append_assoc}
@@ -106,6 +106,26 @@ pub found_pick : (ops : List Stamped) (picks : List Pick) (o : Stamped) (rest : 
 found_pick ops [] o rest h = absurd h
 found_pick ops (pick ∷ picks) o rest (inl h) = (0, pick, refl, h.0, h.1)
 found_pick ops (pick ∷ picks) o rest (inr h) = let f = found_pick ops picks o rest h in (suc f.0, f.1, f.2, f.3, f.4)
+
+-- ---- tests of all
+
+-- what fails a test at a place fails it of all
+pub fails_at : (test : Pick → Bool) (xs : List Pick) (k : ℕ) (x : Pick) → slice_get xs k ≡ Some x → test x ≡ false → list_all test xs ≡ false
+fails_at test [] k x e f = absurd cc
+fails_at test (y ∷ xs) zero x e f = ap (λ b. b && list_all test xs) (ap test (same_Some y x e) ∙ f)
+fails_at test (y ∷ xs) (suc k) x e f = go (test y) (fails_at test xs k x e f)
+  where
+    go : (b : Bool) → list_all test xs ≡ false → (b && list_all test xs) ≡ false
+    go true h = h
+    go false h = refl
+
+-- what passes a test of all passes it at each place
+pub passes_at : (test : Pick → Bool) (xs : List Pick) (k : ℕ) (x : Pick) → slice_get xs k ≡ Some x → list_all test xs ≡ true → test x ≡ true
+passes_at test xs k x e h = go (test x) refl
+  where
+    go : (b : Bool) → test x ≡ b → b ≡ true
+    go true f = refl
+    go false f = sym (fails_at test xs k x e f) ∙ h
 
 -- ---- each pick is one
 

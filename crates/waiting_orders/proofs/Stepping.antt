@@ -23,7 +23,7 @@ use Rattle.waiting_orders.specs.declared.boards.Board.{Board}
 use Rattle.waiting_orders.specs.Waiting.{IsCall, State, Step, HasEffect, GetsRefused, Takes, Pushes, FindsEmpty, IsToldDrained, Shuts, IsEnd, Same, Where, IsOpenAt, OtherIsOpen, PushIsOpen, IsUntold, OtherIsUntold, waits, is_push, every, is_open_at, other_is_open, may_stay, pushes_value}
 use Rattle.waiting_orders.specs.Pending.{Pops, is_pending_pop}
 use Rattle.waiting_orders.specs.Lines.{Left, IsLimit, ArePicks, left_of, view_left, view_picks, without, cat, picked, spelled}
-use Rattle.waiting_orders.specs.Nodes.{Spot, Among, AreCalls, state_of, each, where_so, time_of, stay, began, began_by, goes, may_go, shut_of, take_of, take_at, takes_to, suits, refused_of, steps_of, steps_at, steps_to}
+use Rattle.waiting_orders.specs.Nodes.{Spot, Among, AreCalls, state_of, each, where_so, time_of, stay, began, began_by, goes, may_go, shut_of, take_of, take_at, takes_to, suits, refused_of, steps_of, told, goes_by, is_in_turn, steps_where, steps_at, steps_to}
 use Rattle.waiting_orders.proofs.Futures.{all_moved, all_every, every_all}
 use Rattle.waiting_orders.proofs.Lists.{both_true, or_left, or_right, all_joined}
 use Rattle.waiting_orders.proofs.Limits.{open_told, told_open, open_before, all_first, all_second}
@@ -89,16 +89,16 @@ module _ (board : Board) where
           among_right (takes_to n suits s f way) _ t (subst (λ k. Among board (take_at suits s f way (slice_get f.takes.items k)) t) same h)
 
   steps_have : (n k : ℕ) (pushes : List Stamped) (s : Spot) (f : Front) (ways : List Pick) (t : State) → k < n
-      → Among board (steps_at pushes s f (slice_get ways k)) t → Among board (steps_to n pushes s f ways) t
+      → Among board (steps_at pushes s f ways (slice_get ways k)) t → Among board (steps_to n pushes s f ways) t
   steps_have zero k pushes s f ways t lt h = absurd (omega (arith, lt))
   steps_have (suc n) k pushes s f ways t lt h = go (nat_lt k n) refl (λ l. steps_have n k pushes s f ways t l h)
     where
-      go : (b : Bool) → nat_lt k n ≡ b → (k < n → Among board (steps_to n pushes s f ways) t) → Among board (steps_to n pushes s f ways ++ steps_at pushes s f (slice_get ways n)) t
+      go : (b : Bool) → nat_lt k n ≡ b → (k < n → Among board (steps_to n pushes s f ways) t) → Among board (steps_to n pushes s f ways ++ steps_at pushes s f ways (slice_get ways n)) t
       go true e more = among_left (steps_to n pushes s f ways) _ t (more (ltb-true k n e))
       go false e more =
           let l : n ≤ k = ltb-false k n e in
           let same : k ≡ n = omega (arith, l, lt) in
-          among_right (steps_to n pushes s f ways) _ t (subst (λ k. Among board (steps_at pushes s f (slice_get ways k)) t) same h)
+          among_right (steps_to n pushes s f ways) _ t (subst (λ k. Among board (steps_at pushes s f ways (slice_get ways k)) t) same h)
 
 -- ---- what is taken out of the others, or of the pushes
 
@@ -240,7 +240,7 @@ pub where_off : (b : Bool) (A : Type 0) → b ≡ false → Where (not b) A → 
 where_off true A e h = absurd cc
 where_off false A e h = h
 
-where_on : (b : Bool) (A : Type 0) → b ≡ true → Where b A → A
+pub where_on : (b : Bool) (A : Type 0) → b ≡ true → Where b A → A
 where_on true A e h = h
 where_on false A e h = absurd cc
 
@@ -367,11 +367,6 @@ module _ (board : Board) (s : Spot) (f : Front) (ways : List Pick) (calls : AreC
         among = takes_have board (length f.takes.items) k.0 chosen s f w.pick t (slice_get_within f.takes.items k.0 take k.2)
             (subst (λ x. Among board (take_at chosen s f w.pick x) t) (sym k.2) one);
       }
-
-  value_placed : (v : Taken) → Takes v o here t → Placed Deq (Some (Value v))
-  value_placed v h =
-      let k = took v (suits f.push_limit (Some v)) h (value_fits v h.push h.pushes) in
-      record { place = k.place; pick = k.pick; there = k.there; is = k.is; among = k.among }
 
   empty_placed : FindsEmpty o here t → Placed Deq (Some Empty)
   empty_placed h =
@@ -513,39 +508,62 @@ module _ (board : Board) (s : Spot) (f : Front) (ways : List Pick) (calls : AreC
   refused_placed refusal Deq (inl h) = let w = way_of t.left h.is in record { place = w.place; pick = w.pick; there = w.there; is = w.is; among = among_left board (stay (leaves refusal) s f w.pick) _ t (stay_among w _ h.leaves h.same) }
   refused_placed refusal Deq (inr h) = let w = way_of (t.left ++ h.1.dropped) h.1.is in record { place = w.place; pick = w.pick; there = w.there; is = w.is; among = drained_among refusal h.0 h.1 w }
 
-  placed : (op : Op) (reply : Option Reply) → is_pending_pop op reply ≡ false → HasEffect op reply o here t → Placed op reply
-  placed (Enq body) None e h = absurd h
-  placed Deq None e h = absurd cc
-  placed Shut None e h = shut_placed None (λ pick. refl) h
-  placed (Enq body) (Some Done) e h = absurd h
-  placed Deq (Some Done) e h = absurd h
-  placed Shut (Some Done) e h = shut_placed (Some Done) (λ pick. refl) h
-  placed (Enq body) (Some (Value v)) e h = absurd h
-  placed Deq (Some (Value v)) e h = value_placed v h
-  placed Shut (Some (Value v)) e h = absurd h
-  placed (Enq body) (Some Empty) e h = absurd h
-  placed Deq (Some Empty) e h = empty_placed h
-  placed Shut (Some Empty) e h = absurd h
-  placed (Enq body) (Some (Refused refusal)) e h = refused_placed refusal (Enq body) h
-  placed Deq (Some (Refused refusal)) e h = refused_placed refusal Deq h
-  placed Shut (Some (Refused refusal)) e h = refused_placed refusal Shut h
+  placed : (op : Op) (reply : Option Reply) → is_pending_pop op reply ≡ false → told op reply ≡ None → HasEffect op reply o here t → Placed op reply
+  placed (Enq body) None e g h = absurd h
+  placed Deq None e g h = absurd cc
+  placed Shut None e g h = shut_placed None (λ pick. refl) h
+  placed (Enq body) (Some Done) e g h = absurd h
+  placed Deq (Some Done) e g h = absurd h
+  placed Shut (Some Done) e g h = shut_placed (Some Done) (λ pick. refl) h
+  placed (Enq body) (Some (Value v)) e g h = absurd h
+  placed Deq (Some (Value v)) e g h = absurd (cc g)
+  placed Shut (Some (Value v)) e g h = absurd h
+  placed (Enq body) (Some Empty) e g h = absurd h
+  placed Deq (Some Empty) e g h = empty_placed h
+  placed Shut (Some Empty) e g h = absurd h
+  placed (Enq body) (Some (Refused refusal)) e g h = refused_placed refusal (Enq body) h
+  placed Deq (Some (Refused refusal)) e g h = refused_placed refusal Deq h
+  placed Shut (Some (Refused refusal)) e g h = refused_placed refusal Shut h
 
-  one_placed : is_pending_pop o.op o.reply ≡ false → HasEffect o.op o.reply o here t → Among board (steps_to (length ways) all_pushes s f ways) t
-  one_placed e h =
-      let p = placed o.op o.reply e h in
-      steps_have board (length ways) p.place all_pushes s f ways t (slice_get_within ways p.place p.pick p.there)
-      (subst (λ x. Among board (steps_at all_pushes s f x) t) (sym p.there)
-      (subst (λ o. Among board (steps_of o.op o.reply all_pushes s f p.pick) t) (sym p.is) p.among))
+  all_placed : (place : ℕ) (pick : Pick) → slice_get ways place ≡ Some pick → pick.operation ≡ o → is_in_turn s f ways o ≡ true → Among board (steps_of o.op o.reply all_pushes s f pick) t
+      → Among board (steps_to (length ways) all_pushes s f ways) t
+  all_placed place pick there is turn among =
+      steps_have board (length ways) place all_pushes s f ways t (slice_get_within ways place pick there)
+      (subst (λ x. Among board (steps_at all_pushes s f ways x) t) (sym there)
+      (subst (λ b. Among board (steps_where b all_pushes s f pick) t) (sym (ap (is_in_turn s f ways) is ∙ turn))
+      (subst (λ o. Among board (steps_of o.op o.reply all_pushes s f pick) t) (sym is) among)))
 
--- each step of an operation that is no pending pop leads to one of those that are made
+  one_placed : is_pending_pop o.op o.reply ≡ false → told o.op o.reply ≡ None → HasEffect o.op o.reply o here t → Among board (steps_to (length ways) all_pushes s f ways) t
+  one_placed e g h = let p = placed o.op o.reply e g h in all_placed p.place p.pick p.there p.is (ap (λ w. goes_by w s f ways o) g) p.among
+
+  told_placed : (v : Taken) → o.op ≡ Deq → o.reply ≡ Some (Value v) → is_in_turn s f ways o ≡ true → (h : Takes v o here t) → suits f (Some v) h.push ≡ true
+      → Among board (steps_to (length ways) all_pushes s f ways) t
+  told_placed v op reply turn h fit =
+      let k = took v (suits f (Some v)) h fit in
+      all_placed k.place k.pick k.there k.is turn
+      (subst (λ op. Among board (steps_of op o.reply all_pushes s f k.pick) t) (sym op)
+      (subst (λ reply. Among board (steps_of Deq reply all_pushes s f k.pick) t) (sym reply) k.among))
+
+-- each step of an operation that is no pending pop and was told no value leads to one of those that are made
 pub each_step : (board : Board) (s : Spot) (f : Front) (ways : List Pick)
     → IsLimit (left_of board.others.operations.items s.others) f.limit → IsLimit (left_of board.pushes.operations.items s.pushes) f.push_limit
     → ArePicks board.others.operations.items s.others f.limit (view_picks ways) → ArePicks board.pushes.operations.items s.pushes f.push_limit (view_picks f.takes.items)
-    → AreCalls board → (t : State) (h : Step (state_of board s) t) → is_pending_pop h.operation.op h.operation.reply ≡ false
+    → AreCalls board → (t : State) (h : Step (state_of board s) t) → is_pending_pop h.operation.op h.operation.reply ≡ false → told h.operation.op h.operation.reply ≡ None
     → Among board (steps_to (length ways) board.pushes.operations.items s f ways) t
-each_step board s f ways limit push_limit ways_are takes_are calls t h e =
+each_step board s f ways limit push_limit ways_are takes_are calls t h e g =
     one_placed board s f ways calls limit push_limit ways_are takes_are t h.operation h.since h.began h.ongoing
-    (no_push h.operation.op h.operation.reply h.operation (state_of board s) t h.effect) e h.effect
+    (no_push h.operation.op h.operation.reply h.operation (state_of board s) t h.effect) e g h.effect
+
+-- a pop in turn that takes a push of the value that it was told, and none of it is before that one, leads to one of those that are made
+pub each_told : (board : Board) (s : Spot) (f : Front) (ways : List Pick)
+    → IsLimit (left_of board.others.operations.items s.others) f.limit → IsLimit (left_of board.pushes.operations.items s.pushes) f.push_limit
+    → ArePicks board.others.operations.items s.others f.limit (view_picks ways) → ArePicks board.pushes.operations.items s.pushes f.push_limit (view_picks f.takes.items)
+    → AreCalls board → (v : Taken) (o : Stamped) (t : State) → s.time ≤ t.time → o.first ≤ t.time → AllByRecursion (OtherIsOpen t.time) (state_of board s).left
+    → o.op ≡ Deq → o.reply ≡ Some (Value v) → is_in_turn s f ways o ≡ true → (h : Takes v o (state_of board s) t) → suits f (Some v) h.push ≡ true
+    → Among board (steps_to (length ways) board.pushes.operations.items s f ways) t
+each_told board s f ways limit push_limit ways_are takes_are calls v o t since began ongoing op reply turn h fit =
+    let no : waits o ≡ false = subst (λ op. is_push op o.reply ≡ false) (sym op) refl in
+    told_placed board s f ways calls limit push_limit ways_are takes_are t o since began ongoing no v op reply turn h fit
 
 -- a pending pop that takes leads to one of those that are made behind takes
 pub record TakenBy (board : Board) (s : Spot) (f : Front) (ways : List Pick) (chosen : Stamped → Bool) (d : Stamped) (t : State) : Type 0 where

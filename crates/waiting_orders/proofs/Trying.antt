@@ -1,7 +1,7 @@
 -- One more state is tried, or was known, or none is left.
-use Rattle.std.proofs.Common.{◌≡◌, ◌⊎◌, inl, inr, ℕ, zero, suc, List, [], ◌∷◌, ◌++◌, ◌+◌, ◌*◌, ◌≤◌, length, refl, sym, ap, ◌∙◌, subst, arith}
+use Rattle.std.proofs.Common.{◌≡◌, ◌⊎◌, inl, inr, ℕ, zero, suc, List, [], ◌∷◌, ◌++◌, ◌<◌, ◌↔◌, Option, None, IsSome, length, refl, sym, ap, ◌∙◌, subst, arith}
 use Rattle.std.specs.List.{AllByRecursion}
-use Rattle.std.proofs.lemmas.List.{append-nil, append_assoc, map-append, length-append, length-map}
+use Rattle.std.proofs.lemmas.List.{append-nil, map-append}
 use Rattle.std.proofs.lemmas.List.Sorted.{IsPermutation-refl}
 use Rattle.std.proofs.lemmas.List.Elements.{recursion_from_All}
 use Rattle.history.specs.declared.operations.Stamped.{Stamped}
@@ -47,48 +47,38 @@ module _ (board : Board) where
   both_tried P [] s h p = (p, tt)
   both_tried P (u ∷ us) s h p = (h.0, both_tried P us s h.1 p)
 
-  -- a state that is the same as one that was tried needs no try
-  pub known : (done ahead : List Spot) (s : Spot) → IsIn s done → Searched board done (ahead ++ s ∷ []) → Searched board done ahead
-  known done ahead s i h = record { start = moves (state_of board start) h.start; tried = wider (done ++ (ahead ++ s ∷ [])) (done ++ ahead) moves done h.tried }
-    where
-      last : (t : State) → Among board (ahead ++ s ∷ []) t → Among board (done ++ ahead) t
-      last t a = go (among_split ahead (s ∷ []) t a)
-        where
-          go : Among board ahead t ⊎ Among board (s ∷ []) t → Among board (done ++ ahead) t
-          go (inl a) = among_right board done ahead t a
-          go (inr (inl e)) = among_left board done ahead t (among_in s done t i e)
-          go (inr (inr e)) = absurd e
+  among_all : (us vs : List Spot) → AllByRecursion (λ u. IsIn u vs) us → (t : State) → Among board us t → Among board vs t
+  among_all [] vs h t a = absurd a
+  among_all (u ∷ us) vs h t (inl e) = among_in u vs t h.0 e
+  among_all (u ∷ us) vs h t (inr a) = among_all us vs h.1 t a
 
-      moves : (t : State) → Among board (done ++ (ahead ++ s ∷ [])) t → Among board (done ++ ahead) t
-      moves t a = go (among_split done (ahead ++ s ∷ []) t a)
-        where
-          go : Among board done t ⊎ Among board (ahead ++ s ∷ []) t → Among board (done ++ ahead) t
-          go (inl a) = among_left board done ahead t a
-          go (inr a) = last t a
+  all_among : (us vs : List Spot) → ((u : Spot) → IsIn u us → IsIn u vs) → (t : State) → Among board us t → Among board vs t
+  all_among [] vs f t a = absurd a
+  all_among (u ∷ us) vs f t (inl e) = among_in u vs t (f u (inl refl)) e
+  all_among (u ∷ us) vs f t (inr a) = all_among us vs (λ u i. f u (inr i)) t a
 
-  pub tried : (done ahead new : List Spot) (s : Spot) → (AreCalls board → IsEnd (state_of board s) → ⊥) → HasSteps board s new → Searched board done (ahead ++ s ∷ [])
-      → Searched board (done ++ s ∷ []) (ahead ++ turned new)
-  tried done ahead new s off steps h =
+  -- a state is tried, and all that one step leads to is put ahead
+  pub tried : (done ahead after new : List Spot) (s : Spot) → (AreCalls board → IsEnd (state_of board s) → ⊥) → HasSteps board s new → ((u : Spot) → IsIn u ahead → IsIn u after)
+      → AllByRecursion (λ u. IsIn u ((done ++ s ∷ []) ++ after)) (turned new) → Searched board done (ahead ++ s ∷ []) → Searched board (done ++ s ∷ []) after
+  tried done ahead after new s off steps keeps made h =
       record {
         start = moves (state_of board start) h.start;
-        tried = both_tried (WasTried board all) done s (wider (done ++ (ahead ++ s ∷ [])) all moves done h.tried) (record { no_end = off; steps = λ c n e. one_of new all made s n (steps c n e) });
+        tried = both_tried (WasTried board all) done s (wider (done ++ (ahead ++ s ∷ [])) all moves done h.tried)
+            (record { no_end = off; steps = λ c n e. one_of new all (λ t a. among_all (turned new) all made t (among_turned new t a)) s n (steps c n e) });
       }
     where
       all : List Spot
-      all = (done ++ s ∷ []) ++ (ahead ++ turned new)
-
-      made : (t : State) → Among board new t → Among board all t
-      made t a = among_right board (done ++ s ∷ []) (ahead ++ turned new) t (among_right board ahead (turned new) t (among_turned new t a))
+      all = (done ++ s ∷ []) ++ after
 
       last : (t : State) → Among board ahead t ⊎ Among board (s ∷ []) t → Among board all t
-      last t (inl a) = among_right board (done ++ s ∷ []) (ahead ++ turned new) t (among_left board ahead (turned new) t a)
-      last t (inr a) = among_left board (done ++ s ∷ []) (ahead ++ turned new) t (among_right board done (s ∷ []) t a)
+      last t (inl a) = among_right board (done ++ s ∷ []) after t (all_among ahead after keeps t a)
+      last t (inr a) = among_left board (done ++ s ∷ []) after t (among_right board done (s ∷ []) t a)
 
       moves : (t : State) → Among board (done ++ (ahead ++ s ∷ [])) t → Among board all t
       moves t a = go (among_split done (ahead ++ s ∷ []) t a)
         where
           go : Among board done t ⊎ Among board (ahead ++ s ∷ []) t → Among board all t
-          go (inl a) = among_left board (done ++ s ∷ []) (ahead ++ turned new) t (among_left board done (s ∷ []) t a)
+          go (inl a) = among_left board (done ++ s ∷ []) after t (among_left board done (s ∷ []) t a)
           go (inr a) = last t (among_split ahead (s ∷ []) t a)
 
   -- where all was tried, nothing that is the same as one of the states can end
@@ -128,48 +118,30 @@ nothing_left ops board done is h q =
     (subst (λ all. Among board all (state_of board start)) none h.start) w.1
 
 -- the last one of a list turned around is the first
-pub turned_last : (us : List Spot) (s : Spot) → turned (us ++ s ∷ []) ≡ s ∷ turned us
+turned_last : (us : List Spot) (s : Spot) → turned (us ++ s ∷ []) ≡ s ∷ turned us
 turned_last [] s = refl
 turned_last (u ∷ us) s = ap (λ l. l ++ u ∷ []) (turned_last us s)
 
-pub turned_next : (ahead us : List Spot) (s : Spot) → (ahead ++ s ∷ []) ++ turned us ≡ ahead ++ turned (us ++ s ∷ [])
-turned_next ahead us s = append_assoc ahead (s ∷ []) (turned us) ∙ ap (λ l. ahead ++ l) (sym (turned_last us s))
+-- the same of nodes, of which some were put ahead
+pub turned_next : (all before : List Spot) (new rest : List Node) (node : Node) → new ≡ rest ++ node ∷ [] → all ≡ before ++ turned (views new) → all ≡ before ++ view node ∷ turned (views rest)
+turned_next all before new rest node e f =
+    f ∙ ap (λ l. before ++ turned l) (ap views e ∙ map-append view rest (node ∷ [])) ∙ ap (λ l. before ++ l) (turned_last (views rest) (view node))
 
 -- the same of what comes of it
-pub tries : (board : Board) (done ahead new put after : List Spot) (s : Spot) → put ≡ done ++ s ∷ [] → after ≡ ahead ++ turned new → (AreCalls board → IsEnd (state_of board s) → ⊥) → HasSteps board s new
-    → Searched board done (ahead ++ s ∷ []) → Searched board put after
-tries board done ahead new put after s e f off steps h =
-    subst (λ put. Searched board put after) (sym e) (subst (λ after. Searched board (done ++ s ∷ []) after) (sym f) (tried board done ahead new s off steps h))
-
--- the same of nodes, of which the last one is put ahead
-pub next_ahead : (ahead after new rest : List Node) (node put : Node) → after ≡ ahead ++ put ∷ [] → new ≡ rest ++ node ∷ [] → view put ≡ view node
-    → views after ++ turned (views rest) ≡ views ahead ++ turned (views new)
-next_ahead ahead after new rest node put e f same =
-    ap (λ l. views l ++ turned (views rest)) e
-    ∙ ap (λ l. l ++ turned (views rest)) (map-append view ahead (put ∷ []) ∙ ap (λ s. views ahead ++ s ∷ []) same)
-    ∙ turned_next (views ahead) (views rest) (view node)
-    ∙ ap (λ l. views ahead ++ turned l) (sym (ap views f ∙ map-append view rest (node ∷ [])))
+pub tries : (board : Board) (done ahead after new put : List Spot) (s : Spot) → put ≡ done ++ s ∷ [] → (AreCalls board → IsEnd (state_of board s) → ⊥) → HasSteps board s new
+    → ((u : Spot) → IsIn u ahead → IsIn u after) → AllByRecursion (λ u. IsIn u (put ++ after)) (turned new) → Searched board done (ahead ++ s ∷ []) → Searched board put after
+tries board done ahead after new put s e off steps keeps made h =
+    subst (λ put. Searched board put after) (sym e) (tried board done ahead after new s off steps keeps (subst (λ put. AllByRecursion (λ u. IsIn u (put ++ after)) (turned new)) e made) h)
 
 pub seen_ahead : (board : Board) (done ahead rest : List Node) (node : Node) → ahead ≡ rest ++ node ∷ [] → Searched board (views done) (views ahead) → Searched board (views done) (views rest ++ view node ∷ [])
 seen_ahead board done ahead rest node e h = subst (Searched board (views done)) (ap views e ∙ map-append view rest (node ∷ [])) h
+
+pub none_left : (keys : List Node) (last : Option Node) → last ≡ None → (IsSome last ↔ (0 < length keys)) → keys ≡ []
+none_left [] last e h = refl
+none_left (k ∷ keys) last e h = let some : IsSome {T = Node} None = subst IsSome e (h.1 (omega arith)) in absurd (cc some)
 
 pub none_ahead : (ops : List Stamped) (board : Board) (done ahead : List Node) → IsBoard ops board → ahead ≡ [] → Searched board (views done) (views ahead) → IsOfQueue ops → ⊥
 none_ahead ops board done ahead is e h q = nothing_left ops board (views done) is (subst (λ l. Searched board (views done) (views l)) e h) q
 
 pub begins_so : (board : Board) (done ahead : List Node) → views done ≡ [] → views ahead ≡ start ∷ [] → Searched board (views done) (views ahead)
 begins_so board done ahead e f = subst (λ l. Searched board l (views ahead)) (sym e) (subst (Searched board []) (sym f) (begins board))
-
-turned_length : (us : List Spot) → length (turned us) ≡ length us
-turned_length [] = refl
-turned_length (u ∷ us) = length-append (turned us) (u ∷ []) ∙ (let e = turned_length us in omega (arith, e))
-
--- what was put ahead is no more than what is counted for it allows
-pub grown : (ahead after new : List Node) (old bytes now : ℕ) → views after ≡ views ahead ++ turned (views new) → length new ≤ bytes * 18446744073709551616 → now ≡ old + bytes
-    → length after + old * 18446744073709551616 ≤ length ahead + now * 18446744073709551616
-grown ahead after new old bytes now e h is =
-    let a : length (views after) ≡ length after = length-map after view in
-    let b : length (views ahead) ≡ length ahead = length-map ahead view in
-    let c : length (views new) ≡ length new = length-map new view in
-    let d : length (turned (views new)) ≡ length (views new) = turned_length (views new) in
-    let f : length (views after) ≡ length (views ahead) + length (turned (views new)) = ap length e ∙ length-append (views ahead) (turned (views new)) in
-    omega (arith, a, b, c, d, f, h, is)

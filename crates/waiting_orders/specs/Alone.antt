@@ -1,8 +1,6 @@
 -- What a search looks at, before a pop goes without alternatives.
-use Rattle.std.specs.Prelude.{◌≡◌, ℕ, max, nat_le, nat_eq, Bool, true, false, not, ◌&&◌, ◌||◌, List, [], Option, None, Some}
+use Rattle.std.specs.Prelude.{◌≡◌, ℕ, max, Bool, true, false, not, ◌&&◌, ◌||◌, List, [], Option, None, Some}
 use Rattle.std.specs.List.{AllByRecursion}
-use Rattle.history.specs.declared.operations.Op.{Op}
-use Rattle.history.specs.declared.operations.Op.TheVariants.{Enq, Deq, Shut}
 use Rattle.history.specs.declared.operations.Taken.{Taken}
 use Rattle.history.specs.declared.operations.Reply.{Reply}
 use Rattle.history.specs.declared.operations.Reply.TheVariants.{Done, Value, Empty, Refused}
@@ -10,37 +8,12 @@ use Rattle.history.specs.declared.operations.Stamped.{Stamped}
 use Rattle.waiting_orders.specs.declared.lines.Pick.{Pick}
 use Rattle.waiting_orders.specs.declared.steps.Front.{Front}
 use Rattle.waiting_orders.specs.Waiting.{IsCall, is_open_at, sooner, pushes_value, fits}
-use Rattle.waiting_orders.specs.Lines.{left_of, view_left}
-use Rattle.waiting_orders.specs.Nodes.{Spot, one, time_of}
-
--- the value that a pop was told, if it was told one
-abbrev pub told : Op → Option Reply → Option Taken
-told (Enq body) reply = None
-told Deq None = None
-told Deq (Some Done) = None
-told Deq (Some (Value v)) = Some v
-told Deq (Some Empty) = None
-told Deq (Some (Refused refusal)) = None
-told Shut reply = None
-
--- whether a reply is a value
-abbrev pub is_told : Taken → Option Reply → Bool
-is_told v None = false
-is_told v (Some Done) = false
-is_told v (Some (Value w)) = nat_eq w.from v.from && nat_eq w.body v.body
-is_told v (Some Empty) = false
-is_told v (Some (Refused refusal)) = false
+use Rattle.waiting_orders.specs.Lines.{left_of, view_left, ends_by}
+use Rattle.waiting_orders.specs.Nodes.{Spot, one, time_of, told, is_told, is_calm}
 
 -- whether an operation pushes a value, or was told it
 abbrev pub is_of : Taken → Stamped → Bool
 is_of v o = is_told v o.reply || pushes_value v o.actor o.op
-
--- whether a last number is no later than another one
-abbrev pub ends_by : (last later : Option ℕ) → Bool
-ends_by None None = true
-ends_by None (Some later) = false
-ends_by (Some last) None = true
-ends_by (Some last) (Some later) = nat_le last later
 
 -- whether an operation pushes a value, or was told it, and ends before a number
 abbrev pub ends_sooner : Taken → Option ℕ → Stamped → Bool
@@ -80,10 +53,6 @@ BeginsLater first way = way.operation.reply ≡ Some Empty → ends_by first (So
 -- the number at which a pop takes a push, at the least
 abbrev pub take_time : Spot → Pick → Pick → ℕ
 take_time s way take = max (time_of s way) take.operation.first
-
--- whether a number is no later than that of the state, or no pop told that the queue is empty began before it
-abbrev pub is_calm : Spot → Front → (time : ℕ) → Bool
-is_calm s f time = nat_le time s.time || is_open_at time f.empty
 
 -- A pop that was told a value takes a push of it, and nothing that is left and pushes the value, or was told it, ends sooner
 -- than the one or the other. Where the take's number is later than that of the state, no pop that was told that the queue is

@@ -58,6 +58,13 @@ abbrev pub lowered : Option ℕ → Option Stamped → Option ℕ
 lowered limit None = limit
 lowered limit (Some o) = sooner limit o.last
 
+-- whether a last number is no later than another one
+abbrev pub ends_by : (last later : Option ℕ) → Bool
+ends_by None None = true
+ends_by None (Some later) = false
+ends_by (Some last) None = true
+ends_by (Some last) (Some later) = nat_le last later
+
 -- whether an operation began behind a limit
 abbrev pub begins_past : Option ℕ → Option Stamped → Bool
 begins_past limit None = false

@@ -1,5 +1,5 @@
 -- States of the search: what is left of the pushes that wait, and of all other operations, each by first numbers.
-use Rattle.std.specs.Prelude.{◌≡◌, ℕ, zero, suc, max, nat_le, nat_eq, Bool, true, false, not, ◌&&◌, ◌||◌, ◌⊎◌, List, [], ◌∷◌, ◌++◌, Option, None, Some, is_some, length, slice_get, map, take}
+use Rattle.std.specs.Prelude.{◌≡◌, ℕ, zero, suc, max, nat_le, nat_lt, nat_eq, Bool, true, false, not, ◌&&◌, ◌||◌, ◌⊎◌, List, [], ◌∷◌, ◌++◌, Option, None, Some, is_some, length, slice_get, map, take}
 use Rattle.std.specs.List.{AllByRecursion, filter, list_all}
 use Rattle.std.specs.List.Sorted.{IsPermutation}
 use Rattle.std.specs.Ordering.{on, eq_of_both}
@@ -19,7 +19,7 @@ use Rattle.waiting_orders.specs.declared.steps.Front.{Front}
 use Rattle.waiting_orders.specs.declared.boards.Board.{Board}
 use Rattle.waiting_orders.specs.Waiting.{IsCall, State, Same, IsEnd, CanEnd, waits, is_open_at, fits}
 use Rattle.waiting_orders.specs.Pending.{is_pending_pop}
-use Rattle.waiting_orders.specs.Lines.{Left, view_left, left_of, spelled, IsRising}
+use Rattle.waiting_orders.specs.Lines.{Left, view_left, left_of, spelled, ends_by, IsRising}
 
 -- what is left, whether the queue is shut, and the number of the last operation placed
 pub record Spot : Type 0 where
@@ -120,10 +120,67 @@ is_by None limit = false
 is_by (Some last) None = false
 is_by (Some last) (Some limit) = nat_le last limit
 
--- whether a push is of a value that was told, or ended first where none was
-abbrev pub suits : Option ℕ → Option Taken → Stamped → Bool
-suits limit None p = is_by p.last limit
-suits limit (Some v) p = fits v p
+-- whether an operation ends before another one, or with it and began before it
+abbrev pub is_before : (q p : Stamped) → Bool
+is_before q p = not (ends_by p.last q.last) || (ends_by q.last p.last && nat_lt q.first p.first)
+
+-- whether a push is of a value, and may be taken
+abbrev pub may_be_taken : Front → Taken → Stamped → Bool
+may_be_taken f v q = fits v q && is_open_at q.first f.push_limit && is_open_at q.first f.limit
+
+-- whether no push of a value that may be taken is before one
+abbrev pub none_before : Front → Taken → Stamped → Bool
+none_before f v p = list_all (λ take. not (may_be_taken f v take.operation && is_before take.operation p)) f.takes.items
+
+-- whether a push is of a value that was told, and none of it is before it; or ended first where none was told
+abbrev pub suits : Front → Option Taken → Stamped → Bool
+suits f None p = is_by p.last f.push_limit
+suits f (Some v) p = fits v p && none_before f v p
+
+-- the value that a pop was told, if it was told one
+abbrev pub told : Op → Option Reply → Option Taken
+told (Enq body) reply = None
+told Deq None = None
+told Deq (Some Done) = None
+told Deq (Some (Value v)) = Some v
+told Deq (Some Empty) = None
+told Deq (Some (Refused refusal)) = None
+told Shut reply = None
+
+-- whether a reply is a value
+abbrev pub is_told : Taken → Option Reply → Bool
+is_told v None = false
+is_told v (Some Done) = false
+is_told v (Some (Value w)) = nat_eq w.from v.from && nat_eq w.body v.body
+is_told v (Some Empty) = false
+is_told v (Some (Refused refusal)) = false
+
+-- whether an operation is a pop that was told a value
+abbrev pub gets : Taken → Op → Option Reply → Bool
+gets v (Enq body) reply = false
+gets v Deq reply = is_told v reply
+gets v Shut reply = false
+
+-- whether a number is no later than that of the state, or no pop told that the queue is empty began before it
+abbrev pub is_calm : Spot → Front → (time : ℕ) → Bool
+is_calm s f time = nat_le time s.time || is_open_at time f.empty
+
+-- whether a pop was told a value, and may take it as soon as it began, before no pop that found the queue empty
+abbrev pub may_get : Spot → Front → Taken → Stamped → Bool
+may_get s f v o = gets v o.op o.reply && is_open_at o.first f.limit && is_calm s f o.first
+
+-- whether no pop that was told a value and may take it is before one
+abbrev pub none_in_front : Spot → Front → (ways : List Pick) → Taken → Stamped → Bool
+none_in_front s f ways v o = list_all (λ way. not (may_get s f v way.operation && is_before way.operation o)) ways
+
+-- the same of a pop that was told a value, if it was told one
+abbrev pub goes_by : Option Taken → Spot → Front → (ways : List Pick) → Stamped → Bool
+goes_by None s f ways o = true
+goes_by (Some v) s f ways o = none_in_front s f ways v o
+
+-- whether an operation was told no value, or no pop that was told it and may take it is before it
+abbrev pub is_in_turn : Spot → Front → (ways : List Pick) → Stamped → Bool
+is_in_turn s f ways o = goes_by (told o.op o.reply) s f ways o
 
 -- the state behind a take of a push that waits
 abbrev pub take_of : (Stamped → Bool) → Spot → Front → Pick → Pick → List Spot
@@ -156,22 +213,27 @@ steps_of (Enq body) (Some Done) pushes s f way = []
 steps_of Deq (Some Done) pushes s f way = []
 steps_of Shut (Some Done) pushes s f way = shut_of pushes s f way
 steps_of (Enq body) (Some (Value v)) pushes s f way = []
-steps_of Deq (Some (Value v)) pushes s f way = takes_to (length f.takes.items) (suits f.push_limit (Some v)) s f way
+steps_of Deq (Some (Value v)) pushes s f way = takes_to (length f.takes.items) (suits f (Some v)) s f way
 steps_of Shut (Some (Value v)) pushes s f way = []
 steps_of (Enq body) (Some Empty) pushes s f way = []
 steps_of Deq (Some Empty) pushes s f way = stay (not s.shut && is_open_at (time_of s way) f.push_limit) s f way
 steps_of Shut (Some Empty) pushes s f way = []
 steps_of op (Some (Refused refusal)) pushes s f way = refused_of refusal op pushes s f way
 
--- the states behind the operation at a place, if there is one
-abbrev pub steps_at : (pushes : List Stamped) → Spot → Front → Option Pick → List Spot
-steps_at pushes s f None = []
-steps_at pushes s f (Some way) = steps_of way.operation.op way.operation.reply pushes s f way
+-- the states behind an operation, where something holds
+abbrev pub steps_where : Bool → (pushes : List Stamped) → Spot → Front → Pick → List Spot
+steps_where true pushes s f way = steps_of way.operation.op way.operation.reply pushes s f way
+steps_where false pushes s f way = []
+
+-- the states behind the operation at a place, if there is one and it is in turn
+abbrev pub steps_at : (pushes : List Stamped) → Spot → Front → (ways : List Pick) → Option Pick → List Spot
+steps_at pushes s f ways None = []
+steps_at pushes s f ways (Some way) = steps_where (is_in_turn s f ways way.operation) pushes s f way
 
 -- the states behind the first of the operations that may be placed
 abbrev pub steps_to : ℕ → (pushes : List Stamped) → Spot → Front → (ways : List Pick) → List Spot
 steps_to zero pushes s f ways = []
-steps_to (suc k) pushes s f ways = steps_to k pushes s f ways ++ steps_at pushes s f (slice_get ways k)
+steps_to (suc k) pushes s f ways = steps_to k pushes s f ways ++ steps_at pushes s f ways (slice_get ways k)
 
 -- ---- pending pops wait
 
@@ -212,7 +274,7 @@ goes_first first ways = list_all (λ way. not (is_pending way) || nat_le first w
 
 -- the states behind a take of the push that ended first, where something holds
 abbrev pub takes_where : Bool → Spot → Front → Pick → List Spot
-takes_where true s f way = takes_to (length f.takes.items) (suits f.push_limit None) s f way
+takes_where true s f way = takes_to (length f.takes.items) (suits f None) s f way
 takes_where false s f way = []
 
 -- the states behind the operation at a place, where that is a pending pop and none began before it

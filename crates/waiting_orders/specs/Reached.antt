@@ -59,16 +59,21 @@ abbrev pub AreApart : List Spot → Type 0
 AreApart [] = Unit {0}
 AreApart (u ∷ us) = (IsIn u us → ⊥) × AreApart us
 
--- how many bytes the states take at most to which one step leads, of a history with so many others and pushes
-abbrev pub most : (others pushes : ℕ) → ℕ
-most others pushes = (others + 1) * (pushes + 1) * (8 * (others + pushes) + 160)
+-- how many bytes a state takes, about: 160, and 8 for each operation that it keeps behind which another one is gone
+abbrev pub size : Spot → ℕ
+size s = 8 * (length s.others.kept + length s.pushes.kept) + 160
 
--- States that are reached are too many for so many bytes: each leads to states that take no more than they can at most.
+-- how many several states take
+abbrev pub sizes : List Spot → ℕ
+sizes [] = 0
+sizes (s ∷ ss) = size s + sizes ss
+
+-- states that are reached, each listed once, take so many bytes or more
 pub record AreTooMany (others pushes : List Stamped) (room : ℕ) : Type 0 where
   pub states : List Spot
   pub apart : AreApart states
   pub reached : AllByRecursion (IsReached others pushes states) states
-  pub many : room ≤ length states * most (length others) (length pushes)
+  pub many : room ≤ sizes states
 
 -- the same of a history, whose operations are pushes that wait, and others, each by first numbers
 pub record TakesRoom (ops : List Stamped) (room : ℕ) : Type 0 where

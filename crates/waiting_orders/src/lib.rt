@@ -13,6 +13,7 @@ mod pending;
 mod searching;
 mod staying;
 mod steps;
+mod taking;
 mod unchanging;
 
 pub use searching::{Found, searched};

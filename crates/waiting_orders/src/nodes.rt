@@ -1,5 +1,5 @@
 //! States of a search for orders in which pushes wait.
-ghost use Rattle.std.specs.Prelude.{◌≡◌, ◌≤◌, ◌<◌, ◌++◌, true, None, IfOk, length};
+ghost use Rattle.std.specs.Prelude.{◌≡◌, ◌≤◌, ◌++◌, true, None, IfOk};
 ghost use Rattle.std.specs.List.{AllByRecursion};
 ghost use Rattle.std.specs.Hash as fed;
 ghost use Rattle.std.specs.Cmp.Rules.{comparing, hashing};
@@ -7,7 +7,7 @@ ghost use Rattle.std.proofs.Common.{rules};
 ghost use Rattle.waiting_orders.specs.Lines as lines;
 ghost use Rattle.waiting_orders.specs.Nodes as next;
 ghost use Rattle.waiting_orders.specs.Nodes.{view, views};
-ghost use Rattle.waiting_orders.specs.Reached.{Leads};
+ghost use Rattle.waiting_orders.specs.Reached.{Leads, size};
 
 use crate::boards::Board;
 use crate::lines::Rest;
@@ -98,9 +98,10 @@ impl Node {
         self.others.limit(others).is_none()
     }
 
-    // How many bytes the state takes, about.
-    fn bytes(&self) -> u64
-        ensures { 1 ≤ result }
+    /// How many bytes the state takes, about.
+    pub(crate) fn bytes(&self) -> u64
+        ensures least { 1 ≤ result }
+        ensures most { result ≤ size (view self.now) }
     {
         (self.others.kept.len() as u64)
             .saturating_add(self.pushes.kept.len() as u64)
@@ -118,15 +119,4 @@ impl Node {
         let new = self.steps_over(alloc, &board.others.operations, &board.pushes.operations)?;
         Ok(new)
     }
-}
-
-/// How many bytes states take, about.
-pub(crate) fn bytes_of(nodes: &[Node]) -> u64
-    ensures { result < 18446744073709551615 → length nodes.now ≤ result }
-{
-    let mut bytes: u64 = 0;
-    for node in nodes {
-        bytes = bytes.saturating_add(node.bytes());
-    }
-    bytes
 }

@@ -1,6 +1,7 @@
 //! Operations that are left in a search.
 ghost use Rattle.std.specs.Prelude.{◌≡◌};
 ghost use Rattle.history.specs.History as history_rule;
+ghost use Rattle.waiting_orders.specs.Lines as lines;
 ghost use Rattle.waiting_orders.specs.Nodes as next;
 ghost use Rattle.waiting_orders.specs.Waiting as rule;
 
@@ -83,22 +84,23 @@ pub(crate) fn fits(value: &Taken, operation: &Stamped) -> bool
     pushes_value(value, operation.actor, operation.op)
 }
 
-/// Whether a push is of a value that was told, or ended by a number where none was.
-pub(crate) fn suits(limit: Option<u64>, value: &Option<Taken>, operation: &Stamped) -> bool
-    ensures { result ≡ next.suits limit value.now operation.now }
-{
-    match value {
-        None => is_by(operation.last, limit),
-        Some(value) => fits(value, operation),
-    }
-}
-
-// Whether one number is there and no later than another one that is there.
-fn is_by(last: Option<u64>, limit: Option<u64>) -> bool
+/// Whether one number is there and no later than another one that is there.
+pub(crate) fn is_by(last: Option<u64>, limit: Option<u64>) -> bool
     ensures { result ≡ next.is_by last limit }
 {
     match (last, limit) {
         (None, _) | (Some(_), None) => false,
         (Some(last), Some(limit)) => last <= limit,
+    }
+}
+
+/// Whether a last number is no later than another one; none, of what never ended, is later than any.
+pub(crate) fn ends_by(last: Option<u64>, later: Option<u64>) -> bool
+    ensures { result ≡ lines.ends_by last later }
+{
+    match (last, later) {
+        (_, None) => true,
+        (None, Some(_)) => false,
+        (Some(last), Some(later)) => last <= later,
     }
 }

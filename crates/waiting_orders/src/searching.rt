@@ -1,13 +1,13 @@
 //! The search: states are tried, the last ones made first, until an end is found, none is left, or they take too much.
-ghost use Rattle.std.specs.Prelude.{◌≡◌, ◌≤◌, ◌+◌, ◌*◌, ◌++◌, ◌∷◌, [], true, false, None, Some, length, IfOk, OnOk};
+ghost use Rattle.std.specs.Prelude.{◌≡◌, ◌≤◌, ◌+◌, ◌++◌, ◌∷◌, [], true, false, None, Some, length, IfOk, OnOk};
 ghost use Rattle.waiting_orders.specs.declared.searching.Found.TheVariants.{Nothing, Room};
 ghost use Rattle.waiting_orders.specs.Waiting.{IsOfQueue};
 ghost use Rattle.waiting_orders.specs.Nodes.{view, views, start, turned, AreRising, IsIn, Searched};
-ghost use Rattle.waiting_orders.specs.Reached.{TakesRoom};
-ghost use Rattle.waiting_orders.specs.Search.{IsSearched, IsCounted, HasNoRoom, most_of};
+ghost use Rattle.waiting_orders.specs.Reached.{TakesRoom, size};
+ghost use Rattle.waiting_orders.specs.Search.{IsSearched, IsCounted, IsCountedSearch, IsPut, IsFull, WerePut, HasNoRoom};
 
 use crate::boards::Board;
-use crate::nodes::{Node, bytes_of};
+use crate::nodes::Node;
 use crate::orders::order;
 use history::Stamped;
 use indexmap::IndexSet;
@@ -25,12 +25,12 @@ pub enum Found {
     Room,
 }
 
-// States that were tried, and those that wait for it.
+// States that were tried, and those that wait for it, each of them once.
 #[derive(Drop)]
 struct Search {
     done: IndexSet<Node>,
-    ahead: Vec<Node>,
-    /// How many bytes the states take that were made.
+    ahead: IndexSet<Node>,
+    /// How many bytes these states take.
     bytes: u64,
 }
 
@@ -42,13 +42,17 @@ struct Search {
 pub fn searched(alloc: Global, history: &[Stamped], room: u64) -> Result<Found, AllocError>
     //= judge/nothing: Where a search has no state left to try, the recorded history is not one of a queue.
     ensures none { IfOk result (λ found. found ≡ Nothing → ¬ IsOfQueue history.now) }
-    //= judge/room: A search ends for want of room only where so many states are reached from the start, each listed once,
-    //=   that for each of them as many bytes as a state can lead to come to the room or more. A step leaves out one
-    //=   operation that is no waiting push, and with it a push that is taken or those that a shut leaves out.
+    //= judge/room: A search ends for want of room only where states that are reached from the start, each listed once,
+    //=   take as many bytes as the room or more, of which a state takes 160, and 8 for each operation that it keeps. A step
+    //=   leaves out one operation that is no waiting push, and with it a push that is taken or those that a shut leaves
+    //=   out.
     ensures room { IfOk result (λ found. found ≡ Room → TakesRoom history.now room) }
 {
     let board = Board::of(alloc, history)?;
     let mut search = Search::new(alloc)?;
+    if room <= search.bytes {
+        return Ok(Found::Room);
+    }
     while let Some(node) = search.ahead.pop() {
         match search.try_one(alloc, &board, room, node)? {
             Some(found) => return Ok(found),
@@ -62,15 +66,17 @@ impl Search {
     fn new(alloc: Global) -> Result<Search, AllocError>
         ensures { IfOk result (λ search.
             (views search.done.keys ≡ [])
-            × (views search.ahead.items ≡ start ∷ [])
-            × (search.bytes ≡ 0)) }
+            × (views search.ahead.keys ≡ start ∷ [])
+            × (search.bytes ≤ size start)) }
     {
-        let mut ahead = Vec::new(alloc);
-        ahead.push(Node::start(alloc))?;
+        let node = Node::start(alloc);
+        let bytes = node.bytes();
+        let mut ahead = IndexSet::new(alloc);
+        ahead.insert(node)?;
         Ok(Search {
             done: IndexSet::new(alloc),
             ahead,
-            bytes: 0,
+            bytes,
         })
     }
 
@@ -82,48 +88,32 @@ impl Search {
         room: u64,
         node: Node,
     ) -> Result<Option<Found>, AllocError>
-        requires { AreRising board.now }
+        requires rising { AreRising board.now }
+        requires counted { IsCounted board.now (views self.old.done.keys)
+            (views self.old.ahead.keys ++ view node ∷ []) self.old.bytes }
         ensures kept { Searched board.now (views self.old.done.keys)
-            (views self.old.ahead.items ++ view node ∷ [])
+            (views self.old.ahead.keys ++ view node ∷ [])
             → IfOk result (λ found. found ≡ None → IsSearched board.now self.new) }
-        ensures counted { IsCounted board.now (views self.old.done.keys)
-            (views self.old.ahead.items ++ view node ∷ []) self.old.bytes
-            → IfOk result (λ found. found ≡ None → IsCounted board.now (views self.new.done.keys)
-            (views self.new.ahead.items) self.new.bytes) }
-        ensures told { IsCounted board.now (views self.old.done.keys)
-            (views self.old.ahead.items ++ view node ∷ []) self.old.bytes
-            → IfOk result (λ found. found ≡ Some Room → HasNoRoom board.now room) }
+        ensures counted { IfOk result (λ found. found ≡ None → IsCountedSearch board.now self.new) }
+        ensures told { IfOk result (λ found. found ≡ Some Room → HasNoRoom board.now room) }
         ensures left { IfOk result (λ found. ¬ (found ≡ Some Nothing)) }
         ensures room { IfOk result (λ found. found ≡ None → self.old.bytes ≤ room
             → self.new.bytes ≤ room) }
         ensures fewer { IfOk result (λ found. found ≡ None
-            → length self.new.ahead.items + self.old.bytes * 18446744073709551616
-            ≤ length self.old.ahead.items + self.new.bytes * 18446744073709551616) }
+            → length self.new.ahead.keys + self.old.bytes
+            ≤ length self.old.ahead.keys + self.new.bytes) }
     {
-        if self.is_known(&node) {
-            return Ok(None);
-        }
         if node.is_end(&board.others.operations) {
             let order = order(alloc, board, self.done.as_slice(), &node)?;
             return Ok(Some(Found::Order(order)));
         }
         let new = node.successors(alloc, board)?;
-        let bytes = counted(board, &new);
-        if room.saturating_sub(self.bytes) <= bytes {
-            return Ok(Some(Found::Room));
-        }
-        self.bytes = self.bytes.saturating_add(bytes);
         self.put(node)?;
-        self.put_ahead(new)?;
-        Ok(None)
-    }
-
-    // Whether a state is one of those that were tried.
-    fn is_known(&self, node: &Node) -> bool
-        ensures known { result ≡ true → IsIn (view node.now) (views self.now.done.keys) }
-        ensures new { result ≡ false → ¬ IsIn (view node.now) (views self.now.done.keys) }
-    {
-        self.done.contains(node)
+        if self.put_ahead(room, new)? {
+            Ok(None)
+        } else {
+            Ok(Some(Found::Room))
+        }
     }
 
     // Puts a state to those that were tried, of which it is none.
@@ -131,54 +121,64 @@ impl Search {
         requires { ¬ IsIn (view node) (views self.old.done.keys) }
         ensures { OnOk result (
             (views self.new.done.keys ≡ views self.old.done.keys ++ view node ∷ [])
-            × (self.new.ahead.items ≡ self.old.ahead.items)
+            × (self.new.ahead ≡ self.old.ahead)
             × (self.new.bytes ≡ self.old.bytes)) }
     {
         self.done.insert(node)?;
         Ok(())
     }
 
-    // Puts states to those that wait, the last ones first.
-    fn put_ahead(&mut self, new: Vec<Node>) -> Result<(), AllocError>
-        ensures { OnOk result (
-            (views self.new.ahead.items ≡ views self.old.ahead.items ++ turned (views new.items))
-            × (self.new.done ≡ self.old.done)
-            × (self.new.bytes ≡ self.old.bytes)) }
+    // Puts states to those that wait, the last ones first, but for those that are known, as long as there is room.
+    fn put_ahead(&mut self, room: u64, new: Vec<Node>) -> Result<bool, AllocError>
+        ensures same { OnOk result (self.new.done ≡ self.old.done) }
+        ensures all { IfOk result (λ fits. fits ≡ true → WerePut room (views self.old.done.keys)
+            (views self.old.ahead.keys) self.old.bytes (turned (views new.items))
+            (views self.new.ahead.keys) self.new.bytes) }
+        ensures full { IfOk result (λ fits. fits ≡ false → IsFull room (views self.old.done.keys)
+            (views self.old.ahead.keys) self.old.bytes (turned (views new.items))) }
     {
         let parent = self.done.len().saturating_sub(1);
         let mut new = new;
         while let Some(node) = new.pop() {
             let mut node = node;
             node.placed.parent = parent;
-            self.ahead.push(node)?;
+            if !self.put_last(room, node)? {
+                return Ok(false);
+            }
         }
-        Ok(())
+        Ok(true)
     }
-}
 
-// How many bytes are counted for a state that leads to these: as many as they take, and no more than they can take.
-fn counted(board: &Board, new: &[Node]) -> u64
-    ensures most { result ≤ most_of board.now }
-    ensures few { length new.now ≤ result * 18446744073709551616 }
-{
-    let bytes = bytes_of(new);
-    let most = most_bytes(board);
-    if bytes <= most { bytes } else { most }
-}
+    // Puts a state to those that wait, if it isn't known, and there is room for it.
+    fn put_last(&mut self, room: u64, node: Node) -> Result<bool, AllocError>
+        ensures same { OnOk result (self.new.done ≡ self.old.done) }
+        ensures put { IfOk result (λ fits. fits ≡ true → IsPut room (views self.old.done.keys)
+            (views self.old.ahead.keys) self.old.bytes (view node) (views self.new.ahead.keys)
+            self.new.bytes) }
+        ensures new { IfOk result (λ fits. fits ≡ false → ¬ IsIn (view node)
+            (views self.old.done.keys ++ views self.old.ahead.keys)) }
+        ensures full { IfOk result (λ fits. fits ≡ false
+            → room ≤ self.old.bytes + size (view node)) }
+    {
+        if self.is_known(&node) {
+            return Ok(true);
+        }
+        let bytes = node.bytes();
+        if room.saturating_sub(self.bytes) <= bytes {
+            return Ok(false);
+        }
+        self.bytes = self.bytes.saturating_add(bytes);
+        self.ahead.insert(node)?;
+        Ok(true)
+    }
 
-// How many bytes the states take at most to which one step leads.
-fn most_bytes(board: &Board) -> u64
-    ensures least { 1 ≤ result }
-    ensures most { result ≤ most_of board.now }
-{
-    let others = board.others.operations.len() as u64;
-    let pushes = board.pushes.operations.len() as u64;
-    let bytes = others
-        .saturating_add(pushes)
-        .saturating_mul(8)
-        .saturating_add(160);
-    let ways = others
-        .saturating_add(1)
-        .saturating_mul(pushes.saturating_add(1));
-    ways.saturating_mul(bytes)
+    // Whether a state is one of those that were tried, or that wait for it.
+    fn is_known(&self, node: &Node) -> bool
+        ensures known { result ≡ true → IsIn (view node.now)
+            (views self.now.done.keys ++ views self.now.ahead.keys) }
+        ensures new { result ≡ false → ¬ IsIn (view node.now)
+            (views self.now.done.keys ++ views self.now.ahead.keys) }
+    {
+        self.done.contains(node) || self.ahead.contains(node)
+    }
 }

@@ -9,8 +9,9 @@ ghost use Rattle.waiting_orders.specs.Reached.{Leads};
 use crate::alone::first_empty;
 use crate::lines::{Pick, Rest};
 use crate::nodes::{Node, Placed};
-use crate::operations::{is_closed, is_open_at, leaves, suits};
+use crate::operations::{is_closed, is_open_at, leaves};
 use crate::staying::{all_may_go, staying};
+use crate::taking::suits;
 use history::{Op, Refusal, Reply, Stamped, Taken};
 use std::alloc::{AllocError, Global};
 
@@ -100,12 +101,33 @@ impl Node {
         at: usize,
     ) -> Result<(), AllocError>
         ensures { OnOk result (views new.new.items ≡ views new.old.items
-            ++ next.steps_at pushes.now (view self.now) front.now (slice_get ways.now at)) }
+            ++ next.steps_at pushes.now (view self.now) front.now ways.now
+            (slice_get ways.now at)) }
     {
         match ways.get(at) {
-            Some(way) => self.push_steps(new, alloc, pushes, front, way),
+            Some(way) => self.push_in_turn(new, alloc, pushes, front, ways, way),
             None => Ok(()),
         }
+    }
+
+    // Pushes the states behind an operation, where it is in turn.
+    fn push_in_turn(
+        &self,
+        new: &mut Vec<Node>,
+        alloc: Global,
+        pushes: &[Stamped],
+        front: &Front,
+        ways: &[Pick],
+        way: &Pick,
+    ) -> Result<(), AllocError>
+        ensures { OnOk result (views new.new.items ≡ views new.old.items
+            ++ next.steps_where (next.is_in_turn (view self.now) front.now ways.now way.now.operation)
+            pushes.now (view self.now) front.now way.now) }
+    {
+        if self.is_in_turn(front, ways, &way.operation) {
+            self.push_steps(new, alloc, pushes, front, way)?;
+        }
+        Ok(())
     }
 
     fn push_steps(
@@ -251,7 +273,7 @@ impl Node {
     ) -> Result<(), AllocError>
         ensures { OnOk result (views new.new.items ≡ views new.old.items
             ++ next.takes_to (length front.now.takes.items)
-            (next.suits front.now.push_limit value.now) (view self.now)
+            (next.suits front.now value.now) (view self.now)
             front.now way.now) }
     {
         for at in 0..front.takes.len() {
@@ -270,7 +292,7 @@ impl Node {
         at: usize,
     ) -> Result<(), AllocError>
         ensures { OnOk result (views new.new.items ≡ views new.old.items
-            ++ next.take_at (next.suits front.now.push_limit value.now) (view self.now) front.now
+            ++ next.take_at (next.suits front.now value.now) (view self.now) front.now
             way.now
             (slice_get front.now.takes.items at)) }
     {
@@ -290,11 +312,11 @@ impl Node {
         take: &Pick,
     ) -> Result<(), AllocError>
         ensures { OnOk result (views new.new.items ≡ views new.old.items
-            ++ next.take_of (next.suits front.now.push_limit value.now) (view self.now) front.now
+            ++ next.take_of (next.suits front.now value.now) (view self.now) front.now
             way.now take.now) }
     {
         let time = later(self.time_of(way), take.operation.first);
-        if suits(front.push_limit, value, &take.operation)
+        if suits(front, value, &take.operation)
             && is_open_at(take.operation.first, front.push_limit)
             && is_open_at(time, front.limit)
         {

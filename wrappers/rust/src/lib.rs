@@ -2,11 +2,11 @@
 //!
 //! [`channel::bounded`] makes a channel, as crossbeam-channel does: `send` and `recv` sleep while it is full, or empty, and its ends
 //! disconnect. A [`Queue`] passes values of any type that may go to another thread, which any thread pushes and pops, and is closed.
-//! These take memory as they are made, for a value that lies in a box, and where one is dropped that is worn. In [`seats`] a thread has
-//! a seat of its own, by which it passes numbers.
+//! These take memory as they are made, for the box of a value, and to sleep. In [`seats`] a thread has a seat of its own, by which it
+//! passes numbers.
 //!
 //! ```
-//! let (sender, receiver) = msq::channel::bounded(16).unwrap();
+//! let (sender, receiver) = msq::channel::bounded(16);
 //! sender.send("a value").unwrap();
 //! assert_eq!(receiver.recv(), Ok("a value"));
 //! ```
@@ -14,16 +14,15 @@
 
 use std::fmt;
 
-mod bells;
+mod boxes;
 pub mod channel;
-mod passing;
-mod pooled;
 mod queues;
 mod raw;
 pub mod seats;
+mod step;
+mod waits;
 
-pub use queues::{PushError, Queue};
-pub use seats::Length;
+pub use queues::{Missed, PushError, Queue};
 
 /// Which queue.
 #[derive(Clone, Copy, Debug, PartialEq, Eq)]
@@ -69,22 +68,25 @@ pub enum Refusal {
     Closed,
 }
 
+// Each refusal, the code that include/msq_codes.h has for it, and what it says.
+#[rustfmt::skip]
+const REFUSALS: [(Refusal, u32, &str); 10] = [
+    (Refusal::NoNode, raw::NO_NODE, "all nodes were in use"),
+    (Refusal::WornOut(WornWord::Free), raw::WORN_FREE, "the count of the free list is at its limit"),
+    (Refusal::WornOut(WornWord::Next), raw::WORN_NEXT, "the count of a node is at its limit"),
+    (Refusal::WornOut(WornWord::Tail), raw::WORN_TAIL, "the count of the tail is at its limit"),
+    (Refusal::WornOut(WornWord::Head), raw::WORN_HEAD, "the count of the head is at its limit"),
+    (Refusal::Busy, raw::BUSY, "others were in the way"),
+    (Refusal::Memory, raw::MEMORY, "no memory"),
+    (Refusal::BadSize, raw::BAD_SIZE, "a number is out of its range"),
+    (Refusal::ZeroCapacity, raw::BAD_SIZE, "there is no queue without room: no send waits for its receive"),
+    (Refusal::Closed, raw::CLOSED, "the queue is shut"),
+];
+
 impl fmt::Display for Refusal {
     fn fmt(&self, f: &mut fmt::Formatter<'_>) -> fmt::Result {
-        f.write_str(match self {
-            Refusal::NoNode => "all nodes were in use",
-            Refusal::WornOut(WornWord::Free) => "the count of the free list is at its limit",
-            Refusal::WornOut(WornWord::Next) => "the count of a node is at its limit",
-            Refusal::WornOut(WornWord::Tail) => "the count of the tail is at its limit",
-            Refusal::WornOut(WornWord::Head) => "the count of the head is at its limit",
-            Refusal::Busy => "others were in the way",
-            Refusal::Memory => "no memory",
-            Refusal::BadSize => "a number is out of its range",
-            Refusal::ZeroCapacity => {
-                "there is no queue without room: no send waits for its receive"
-            }
-            Refusal::Closed => "the queue is shut",
-        })
+        let found = REFUSALS.iter().find(|it| it.0 == *self);
+        f.write_str(found.map_or("", |it| it.2))
     }
 }
 
@@ -92,45 +94,9 @@ impl std::error::Error for Refusal {}
 
 // The answer of a code. No other code comes: each seat is full, and does what its role lets it.
 fn answer(code: u32) -> Result<(), Refusal> {
-    match code {
-        raw::OK => Ok(()),
-        raw::NO_NODE => Err(Refusal::NoNode),
-        raw::WORN_FREE => Err(Refusal::WornOut(WornWord::Free)),
-        raw::WORN_NEXT => Err(Refusal::WornOut(WornWord::Next)),
-        raw::WORN_TAIL => Err(Refusal::WornOut(WornWord::Tail)),
-        raw::WORN_HEAD => Err(Refusal::WornOut(WornWord::Head)),
-        raw::BUSY => Err(Refusal::Busy),
-        raw::MEMORY => Err(Refusal::Memory),
-        raw::BAD_SIZE => Err(Refusal::BadSize),
-        raw::CLOSED => Err(Refusal::Closed),
-        other => unreachable!("libmsq answered {other}"),
+    if code == raw::OK {
+        return Ok(());
     }
-}
-
-#[cfg(test)]
-mod tests {
-    use super::{answer, raw, Refusal, WornWord};
-
-    // A worn count of a node comes to a seat alone that pushes and pops, which the seats of this crate that have a limit don't.
-    #[test]
-    fn each_code_has_its_answer() {
-        let refusals = [
-            (raw::NO_NODE, Refusal::NoNode),
-            (raw::WORN_FREE, Refusal::WornOut(WornWord::Free)),
-            (raw::WORN_NEXT, Refusal::WornOut(WornWord::Next)),
-            (raw::WORN_TAIL, Refusal::WornOut(WornWord::Tail)),
-            (raw::WORN_HEAD, Refusal::WornOut(WornWord::Head)),
-            (raw::BUSY, Refusal::Busy),
-            (raw::MEMORY, Refusal::Memory),
-            (raw::BAD_SIZE, Refusal::BadSize),
-            (raw::CLOSED, Refusal::Closed),
-        ];
-        assert_eq!(answer(raw::OK), Ok(()));
-        for (code, refusal) in refusals {
-            assert_eq!(answer(code), Err(refusal));
-            assert!(refusals.iter().all(|(_, other)| {
-                *other == refusal || other.to_string() != refusal.to_string()
-            }));
-        }
-    }
+    let found = REFUSALS.iter().find(|it| it.1 == code);
+    Err(found.unwrap_or_else(|| unreachable!("libmsq answered {code}")).0)
 }

@@ -1,26 +1,43 @@
 //! A queue of values of any type, which any thread calls.
-use crate::bells::after;
-use crate::pooled::{Pooled, THREADS};
-use crate::{Kind, Length, Refusal};
+use crate::boxes::{looks, Boxes};
+use crate::raw::MOST_COUNT;
+use crate::step::{calls_for, Answer, Task};
+use crate::waits::Until;
+use crate::{Kind, Refusal};
 use std::fmt;
 use std::time::Duration;
 
-/// A bounded queue of values of any type that may go to another thread, as crossbeam's `ArrayQueue`, shared by reference or in an
-/// `Arc`. It can be closed, and calls may sleep. A value of up to 24 bytes, aligned to 8 at most, as a `String` or a `Box`, lies in
-/// the queue itself; any other, and each in a ring, is in a box. Those of one thread come in its order, each once, and what is left
-/// is dropped with the queue.
+/// A queue of values of any type that may go to another thread, with room for exactly as many as are asked for, shared by reference or
+/// in an `Arc`. Any thread pushes, pops and closes it. Each value is in a box; those of one thread come in its order, each once, and
+/// what is left is dropped with the queue.
 ///
 /// ```
 /// let queue = msq::Queue::new(8).unwrap();
 /// std::thread::scope(|scope| {
 ///     scope.spawn(|| {
-///         queue.push_wait("text".to_string()).unwrap();
-///         queue.close().unwrap();
+///         (1..=100).for_each(|number| queue.push(number).unwrap());
+///         queue.close();
 ///     });
-///     while let Ok(text) = queue.pop_wait() {
-///         assert_eq!(text, "text");
-///     }
+///     assert_eq!(queue.pop(), Ok(1));
+///     assert!(queue.iter().eq(2..=100));
 /// });
+/// ```
+///
+/// Why a call wasn't done it tells by a [`Missed`]; a value that wasn't pushed comes back:
+///
+/// ```
+/// use msq::{Missed, PushError};
+/// use std::time::Duration;
+/// let (queue, time) = (msq::Queue::new(1).unwrap(), Duration::from_millis(1));
+/// queue.push("one").unwrap();
+/// assert!(queue.is_full() && queue.len() == queue.capacity());
+/// assert_eq!(queue.try_push("two"), Err(PushError { why: Missed::Full, value: "two" }));
+/// assert_eq!(queue.push_timeout("two", time).unwrap_err().why, Missed::TimedOut);
+/// assert!(queue.try_iter().eq(["one"]) && queue.is_empty());
+/// assert_eq!(queue.try_pop(), Err(Missed::Empty));
+/// assert_eq!(queue.pop_timeout(time), Err(Missed::TimedOut));
+/// queue.close();
+/// assert_eq!(queue.pop(), Err(Missed::Closed));
 /// ```
 ///
 /// Threads share it where its values may go to another thread, and not else:
@@ -34,248 +51,162 @@ use std::time::Duration;
 /// is_shared::<msq::Queue<std::rc::Rc<u8>>>();
 /// ```
 pub struct Queue<T> {
-    queue: Pooled<T>,
+    pub(crate) boxes: Boxes<T>,
 }
+
+/// Why a push or a pop wasn't done.
+#[derive(Clone, Copy, Debug, PartialEq, Eq)]
+pub enum Missed {
+    /// A try of a push: the queue is full.
+    Full,
+    /// A try of a pop: the queue is empty.
+    Empty,
+    /// A try: others were in the way, or as many calls were under way as may be.
+    Busy,
+    /// The time was over.
+    TimedOut,
+    /// The queue is closed; of a pop, and empty.
+    Closed,
+    /// The queue is worn out.
+    Worn,
+}
+
+impl fmt::Display for Missed {
+    fn fmt(&self, f: &mut fmt::Formatter<'_>) -> fmt::Result {
+        f.write_str(match self {
+            Missed::Full => "the queue is full",
+            Missed::Empty => "the queue is empty",
+            Missed::Busy => "others were in the way",
+            Missed::TimedOut => "the time is over",
+            Missed::Closed => "the queue is closed",
+            Missed::Worn => "the queue is worn out",
+        })
+    }
+}
+
+impl std::error::Error for Missed {}
 
 /// A value that wasn't pushed, and why.
 #[derive(Clone, Copy, PartialEq, Eq)]
 pub struct PushError<T> {
-    /// `NoNode` where the queue is full, `Closed`, `WornOut`, or `Busy`.
-    pub refusal: Refusal,
+    /// Why.
+    pub why: Missed,
     /// The value.
     pub value: T,
 }
 
-impl<T> PushError<T> {
-    /// The value.
-    ///
-    /// ```
-    /// let queue = msq::Queue::new(8).unwrap();
-    /// queue.close().unwrap();
-    /// assert_eq!(queue.push(1).unwrap_err().into_inner(), 1);
-    /// ```
-    pub fn into_inner(self) -> T {
-        self.value
-    }
-}
-
 impl<T> fmt::Debug for PushError<T> {
     fn fmt(&self, f: &mut fmt::Formatter<'_>) -> fmt::Result {
-        write!(f, "PushError({:?}, ..)", self.refusal)
+        write!(f, "PushError({:?}, ..)", self.why)
     }
 }
 
 impl<T> fmt::Display for PushError<T> {
     fn fmt(&self, f: &mut fmt::Formatter<'_>) -> fmt::Result {
-        self.refusal.fmt(f)
+        self.why.fmt(f)
     }
 }
 
 impl<T> std::error::Error for PushError<T> {}
 
-fn unpushed<T>((refusal, value): (Refusal, T)) -> PushError<T> {
-    PushError { refusal, value }
+// Why a call wasn't done: one with a time is late, and a try found nothing so.
+fn missed(answer: Answer, until: Until, nothing: Missed) -> Missed {
+    match answer {
+        Answer::Worn => Missed::Worn,
+        Answer::Busy if until.is_now() => Missed::Busy,
+        Answer::Nothing if until.is_now() => nothing,
+        Answer::Busy | Answer::Nothing => Missed::TimedOut,
+        Answer::Closed | Answer::Done => Missed::Closed,
+    }
 }
 
 impl<T: Send> Queue<T> {
-    /// A non-blocking queue with room for so many values at least, 1 or more. Refused `ZeroCapacity`, `BadSize` or `Memory`.
+    /// A ring with room for exactly so many values, 1 or more; two calls more than that, 16 at most, may be under way at one
+    /// moment beside those that sleep. Refused `ZeroCapacity`, `BadSize` or `Memory`.
     ///
     /// ```
-    /// let queue = msq::Queue::new(8).unwrap();
-    /// queue.push("text").unwrap();
     /// assert_eq!(msq::Queue::<String>::new(0).err(), Some(msq::Refusal::ZeroCapacity));
     /// ```
-    pub fn new(capacity: u32) -> Result<Queue<T>, Refusal> {
-        Queue::of(Kind::NonBlocking, capacity, THREADS)
+    pub fn new(capacity: usize) -> Result<Queue<T>, Refusal> {
+        Queue::of(Kind::Ring, capacity, calls_for(capacity))
     }
 
-    /// A queue of this kind, with seats for so many threads, 1 to 65,535, of a ring 32,767: if more are in a call at one time, some
-    /// wait, and a try is refused `Busy`. A thread that sleeps has no seat. A ring has room for just `capacity` values.
+    /// A queue of this kind, of which so many calls, 1 to 32,767, may be under way at one moment beside those that sleep: further ones
+    /// wait for these, and a try is told `Busy`.
     ///
     /// ```
-    /// let queue = msq::Queue::of(msq::Kind::Ring, 8, 4).unwrap();
+    /// let queue = msq::Queue::of(msq::Kind::NonBlocking, 8, 4).unwrap();
     /// queue.push("text").unwrap();
-    /// assert_eq!(queue.pop(), Ok(Some("text")));
+    /// assert_eq!(queue.pop(), Ok("text"));
     /// ```
-    pub fn of(kind: Kind, capacity: u32, threads: u16) -> Result<Queue<T>, Refusal> {
-        Ok(Queue {
-            queue: Pooled::new(kind, capacity, threads)?,
-        })
+    pub fn of(kind: Kind, capacity: usize, calls: u16) -> Result<Queue<T>, Refusal> {
+        Ok(Queue { boxes: Boxes::new(kind, capacity, calls, MOST_COUNT)? })
     }
 }
 
 impl<T> Queue<T> {
-    /// Pushes a value, and waits for nothing. Refused `NoNode` where the queue is full, `Busy` where others are in the way, or have all
-    /// seats, `Closed`, or `WornOut`.
-    ///
-    /// ```
-    /// let queue = msq::Queue::new(8).unwrap();
-    /// queue.push(1).unwrap();
-    /// queue.close().unwrap();
-    /// let unpushed = queue.push(2).unwrap_err();
-    /// assert_eq!((unpushed.refusal, unpushed.value), (msq::Refusal::Closed, 2));
-    /// assert_eq!(queue.pop(), Ok(Some(1)));
-    /// assert_eq!(queue.pop(), Err(msq::Refusal::Closed));
-    /// ```
+    fn put(&self, value: T, until: Until) -> Result<(), PushError<T>> {
+        self.boxes.push(value, until).map_err(|(answer, value)| {
+            let why = missed(answer, until, Missed::Full);
+            PushError { why, value }
+        })
+    }
+
+    fn get(&self, until: Until) -> Result<T, Missed> {
+        let got = self.boxes.pop(until);
+        got.map_err(|answer| missed(answer, until, Missed::Empty))
+    }
+
+    /// Pushes a value, and sleeps while the queue is full. `Closed` or `Worn`.
     pub fn push(&self, value: T) -> Result<(), PushError<T>> {
-        self.queue.try_push(value).map_err(unpushed)
+        self.put(value, Until::Ever)
     }
 
-    /// Pushes a value, and sleeps while the queue is full. Refused `Closed` or `WornOut`.
-    ///
-    /// ```
-    /// let queue = msq::Queue::new(1).unwrap();
-    /// std::thread::scope(|scope| {
-    ///     scope.spawn(|| (1..=100).for_each(|number| queue.push_wait(number).unwrap()));
-    ///     assert!((1..=100).all(|number| queue.pop_wait() == Ok(number)));
-    /// });
-    /// ```
-    pub fn push_wait(&self, value: T) -> Result<(), PushError<T>> {
-        self.queue.push_until(value, None).map_err(unpushed)
+    /// Pushes a value, and waits for nothing. `Full`, `Busy`, `Closed` or `Worn`.
+    pub fn try_push(&self, value: T) -> Result<(), PushError<T>> {
+        self.put(value, Until::Now)
     }
 
-    /// The same, for this time at most; refused also `NoNode` after it, or `Busy` where others were in the way of the last try.
-    ///
-    /// ```
-    /// use std::time::Duration;
-    /// let queue = msq::Queue::new(1).unwrap();
-    /// while queue.push(1).is_ok() {}
-    /// let unpushed = queue.push_timeout(2, Duration::from_millis(1)).unwrap_err();
-    /// assert_eq!((unpushed.refusal, unpushed.value), (msq::Refusal::NoNode, 2));
-    /// ```
+    /// Pushes a value, and sleeps while the queue is full, for this time at most. `TimedOut`, `Closed` or `Worn`.
     pub fn push_timeout(&self, value: T, time: Duration) -> Result<(), PushError<T>> {
-        self.queue.push_until(value, after(time)).map_err(unpushed)
+        self.put(value, Until::after(time))
     }
 
-    /// Pops the value at the front, and waits for nothing; none where the queue is empty. Refused `Closed` where it is closed too,
-    /// `Busy` where others are in the way, or have all seats, or `WornOut`.
-    ///
-    /// ```
-    /// let queue = msq::Queue::new(8).unwrap();
-    /// assert_eq!(queue.pop(), Ok(None));
-    /// queue.push(1).unwrap();
-    /// assert_eq!(queue.pop(), Ok(Some(1)));
-    /// ```
-    pub fn pop(&self) -> Result<Option<T>, Refusal> {
-        self.queue.try_pop()
+    /// Pops the value at the front, and sleeps while the queue is empty. `Closed` or `Worn`.
+    pub fn pop(&self) -> Result<T, Missed> {
+        self.get(Until::Ever)
     }
 
-    /// Pops the value at the front, and sleeps while the queue is empty. Refused `Closed` where it is closed too, or `WornOut`.
-    ///
-    /// ```
-    /// let queue = msq::Queue::new(8).unwrap();
-    /// queue.push(1).unwrap();
-    /// queue.close().unwrap();
-    /// assert_eq!(queue.pop_wait(), Ok(1));
-    /// assert_eq!(queue.pop_wait(), Err(msq::Refusal::Closed));
-    /// ```
-    pub fn pop_wait(&self) -> Result<T, Refusal> {
-        self.queue.pop_wait()
+    /// Pops the value at the front, and waits for nothing. `Empty`, `Busy`, `Closed` or `Worn`.
+    pub fn try_pop(&self) -> Result<T, Missed> {
+        self.get(Until::Now)
     }
 
-    /// Pops the value at the front, and sleeps while the queue is empty, for this time at most; none after it. Refused `Closed` where
-    /// it is closed too, `WornOut`, or `Busy` where others were in the way of the last look.
-    ///
-    /// ```
-    /// use std::time::Duration;
-    /// let queue = msq::Queue::<String>::new(8).unwrap();
-    /// assert_eq!(queue.pop_timeout(Duration::from_millis(1)), Ok(None));
-    /// ```
-    pub fn pop_timeout(&self, time: Duration) -> Result<Option<T>, Refusal> {
-        self.queue.pop_until(after(time))
+    /// Pops the value at the front, and sleeps while the queue is empty, for this time at most. `TimedOut`, `Closed` or `Worn`.
+    pub fn pop_timeout(&self, time: Duration) -> Result<T, Missed> {
+        self.get(Until::after(time))
     }
 
-    /// Closes the queue: no push comes after it, and what is in it stays to be popped. All that sleep are woken. Refused
-    /// `Closed` where it was closed before, or `WornOut`.
-    ///
-    /// ```
-    /// let queue = msq::Queue::new(8).unwrap();
-    /// queue.push(1).unwrap();
-    /// queue.close().unwrap();
-    /// assert!(queue.push(2).is_err());
-    /// assert_eq!(queue.pop_wait(), Ok(1));
-    /// ```
-    pub fn close(&self) -> Result<(), Refusal> {
-        self.queue.shut()
+    /// Closes the queue: no push comes after it, and what is in it stays to be popped. All that sleep are told.
+    pub fn close(&self) {
+        self.boxes.end(Task::Shut);
     }
 
-    /// Bounds of how many values the queue held at a moment of the call; none of the two-lock queue.
-    ///
-    /// ```
-    /// let queue = msq::Queue::new(8).unwrap();
-    /// queue.push(1).unwrap();
-    /// assert_eq!(queue.len(), Some(msq::Length { least: 1, most: 1 }));
-    /// ```
-    pub fn len(&self) -> Option<Length> {
-        self.queue.len()
-    }
-
-    /// Whether the queue held no value at a moment of the call. Of a ring that is closed it waits while the push at its front hasn't
-    /// ended.
-    ///
-    /// ```
-    /// let queue = msq::Queue::new(8).unwrap();
-    /// assert!(queue.is_empty());
-    /// queue.push(1).unwrap();
-    /// assert!(!queue.is_empty());
-    /// ```
-    pub fn is_empty(&self) -> bool {
-        self.queue.is_empty()
-    }
-
-    /// Whether the queue held as many values as there is room for at least; none of the two-lock queue, which counts no length.
-    ///
-    /// ```
-    /// let queue = msq::Queue::new(8).unwrap();
-    /// while queue.push(1).is_ok() {}
-    /// assert_eq!(queue.is_full(), Some(true));
-    /// ```
-    pub fn is_full(&self) -> Option<bool> {
-        let held = self.len()?;
-        Some(held.least >= u64::from(self.capacity()))
-    }
-
-    /// The values that come, which sleeps while there is none, until the queue is closed and empty, or worn, as `pop_wait` then tells.
-    ///
-    /// ```
-    /// let queue = msq::Queue::new(8).unwrap();
-    /// std::thread::scope(|scope| {
-    ///     scope.spawn(|| {
-    ///         (1..=100).for_each(|number| queue.push_wait(number).unwrap());
-    ///         queue.close().unwrap();
-    ///     });
-    ///     assert!(queue.iter().eq(1..=100));
-    /// });
-    /// ```
+    /// The values that come, which sleeps while there is none, until the queue is closed and empty, or worn, as `pop` then tells.
     pub fn iter(&self) -> impl Iterator<Item = T> + '_ {
-        std::iter::from_fn(|| self.pop_wait().ok())
+        std::iter::from_fn(|| self.pop().ok())
     }
 
     /// The values that are there, until the queue is found empty; it tries again while others are in the way.
-    ///
-    /// ```
-    /// let queue = msq::Queue::new(8).unwrap();
-    /// (1..=3).for_each(|number| queue.push(number).unwrap());
-    /// assert!(queue.try_iter().eq(1..=3));
-    /// ```
     pub fn try_iter(&self) -> impl Iterator<Item = T> + '_ {
-        std::iter::from_fn(|| self.queue.pop_now().ok().flatten())
-    }
-
-    /// How many values there is room for at least.
-    ///
-    /// ```
-    /// assert_eq!(msq::Queue::<String>::new(8).unwrap().capacity(), 8);
-    /// ```
-    pub fn capacity(&self) -> u32 {
-        self.queue.capacity()
+        std::iter::from_fn(|| self.boxes.pop_now().ok())
     }
 }
 
+looks!(Queue, "queue", boxes);
+
 impl<T> fmt::Debug for Queue<T> {
     fn fmt(&self, f: &mut fmt::Formatter<'_>) -> fmt::Result {
-        f.debug_struct("Queue")
-            .field("capacity", &self.capacity())
-            .finish_non_exhaustive()
+        f.debug_struct("Queue").field("capacity", &self.capacity()).finish_non_exhaustive()
     }
 }

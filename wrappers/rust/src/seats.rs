@@ -1,29 +1,27 @@
-//! Seats of a thread's own, by which it passes numbers: a [`Giver`] pushes, a [`Taker`] pops. The last of them that goes doesn't end
-//! the queue: [`Giver::try_shut`] does. `send`, `recv` and those with a timeout sleep while the queue is full, or empty; no other call
-//! of a seat waits. Memory is taken where a queue or a pool is made, and by [`Taker::try_pop_up_to`]. Threads that come and go each have
-//! a clone of a [`SeatPool`], and lease its seats.
+//! For experts: seats of a thread's own, by which it passes numbers: a [`Giver`] pushes, a [`Taker`] pops. None of their calls waits, and
+//! the last of them that goes doesn't end the queue: [`Giver::try_shut`] does. Memory is taken where a queue is made, and by
+//! [`Taker::try_pop_up_to`].
 //!
 //! ```
-//! use msq::seats::{queue, Body, Value};
+//! use msq::seats::{queue, Body, Emptiness, Length, Value};
 //! let (mut givers, mut takers) = queue(msq::Kind::NonBlocking, 64, 1, 1).unwrap();
-//! let body = Body::new(42).unwrap();
-//! givers[0].try_push(body, 8).unwrap();
-//! assert_eq!(takers[0].try_pop(8), Ok(Some(Value { body, from: 1 })));
+//! let (giver, taker, body) = (&mut givers[0], &mut takers[0], Body::new(42).unwrap());
+//! giver.try_push(body, 8).unwrap();
+//! assert_eq!(taker.len(), Some(Length { least: 1, most: 1 }));
+//! assert_eq!(taker.try_pop(8), Ok(Some(Value { body, from: 1 })));
+//! assert_eq!(taker.try_pop(8), Ok(None));
+//! assert_eq!(giver.try_push_all(&[body, body], 8), (2, Ok(())));
+//! giver.try_shut(8).unwrap();
+//! assert_eq!(giver.try_push(body, 8), Err(msq::Refusal::Closed));
+//! let (values, told) = taker.try_pop_up_to(8, 8);
+//! assert_eq!((values.len(), told), (2, Err(msq::Refusal::Closed)));
+//! assert_eq!(taker.emptiness(), Emptiness::ShutEmpty);
+//! assert!(giver.left().pushes > 1 << 40);
 //! ```
-use crate::bells::{self, Bells};
 use crate::{answer, raw, Kind, Refusal};
 use std::cell::Cell;
 use std::fmt;
 use std::marker::PhantomData;
-use std::sync::Arc;
-use std::time::Duration;
-
-mod leases;
-mod looks;
-mod many;
-
-pub use leases::{Lease, SeatPool};
-pub use looks::{Emptiness, Left, Length};
 
 /// What is pushed: a number below 2^48.
 #[derive(Clone, Copy, Debug, PartialEq, Eq, PartialOrd, Ord, Hash)]
@@ -49,10 +47,6 @@ impl Body {
     }
 
     /// Its number.
-    ///
-    /// ```
-    /// assert_eq!(msq::seats::Body::from(42).number(), 42);
-    /// ```
     pub const fn number(self) -> u64 {
         self.0
     }
@@ -66,6 +60,7 @@ impl From<u32> for Body {
 
 /// A value of a queue: its body, and the number of the seat that pushed it, from 1 on: givers first.
 #[derive(Clone, Copy, Debug, PartialEq, Eq)]
+#[repr(C)]
 pub struct Value {
     /// Its body.
     pub body: Body,
@@ -73,116 +68,134 @@ pub struct Value {
     pub from: u16,
 }
 
-// A seat. It may go to another thread, and isn't shared, which the cell says.
-struct Seat {
-    raw: raw::Seat,
-    bells: Arc<Bells>,
-    alone: PhantomData<Cell<()>>,
+// What a pop writes over.
+pub(crate) const NONE: Value = Value { body: Body(0), from: 0 };
+
+/// Whether a queue held a value, at a moment of the call.
+#[derive(Clone, Copy, Debug, PartialEq, Eq)]
+pub enum Emptiness {
+    /// It was empty, and not shut.
+    Empty,
+    /// It was empty and shut: nothing comes any more.
+    ShutEmpty,
+    /// It held a value at least.
+    Holds,
+    /// Pops took effect meanwhile, or a ring is shut and the push at its front hasn't ended: look again.
+    Moved,
 }
 
-// SAFETY: a seat has no thread of its own, and owns its share of the queue, whose words are atomics.
-unsafe impl Send for Seat {}
+/// How many values a queue held, at a moment of the call: at least and at most so many.
+#[derive(Clone, Copy, Debug, Default, PartialEq, Eq)]
+#[repr(C)]
+pub struct Length {
+    /// At least so many.
+    pub least: u64,
+    /// At most so many.
+    pub most: u64,
+}
 
-impl Seat {
-    fn of(raw: raw::Seat, bells: &Arc<Bells>) -> Seat {
-        Seat {
-            raw,
-            bells: Arc::clone(bells),
-            alone: PhantomData,
+/// How many pushes a queue has left at least, and how often the counts of three of its words can still be raised; of a ring `tail` is
+/// `pushes` again, and `free` and `head` are `u64::MAX`.
+#[derive(Clone, Copy, Debug, Default, PartialEq, Eq)]
+#[repr(C)]
+pub struct Left {
+    /// While fewer pushes begin, done or refused, those under way too, no call finds Free, Tail or Head worn out.
+    pub pushes: u64,
+    /// Free's: each node taken from the free list raises it, and each one given back.
+    pub free: u64,
+    /// Tail's: in the non-blocking queue each push raises it; in the two-lock queue nothing does, and it stays the limit.
+    pub tail: u64,
+    /// Head's: each value popped raises it.
+    pub head: u64,
+}
+
+// A seat, with what any seat can see. It may go to another thread, and isn't shared, which the cell says.
+macro_rules! seat {
+    ($(#[$doc:meta])* $name:ident) => {
+        $(#[$doc])*
+        ///
+        /// It may go to another thread, and is one thread's at a time:
+        ///
+        /// ```
+        /// fn is_sent<T: Send>() {}
+        #[doc = concat!("is_sent::<msq::seats::", stringify!($name), ">();")]
+        /// ```
+        /// ```compile_fail
+        /// fn is_shared<T: Sync>() {}
+        #[doc = concat!("is_shared::<msq::seats::", stringify!($name), ">();")]
+        /// ```
+        /// ```compile_fail
+        /// fn is_copied<T: Clone>() {}
+        #[doc = concat!("is_copied::<msq::seats::", stringify!($name), ">();")]
+        /// ```
+        pub struct $name {
+            raw: raw::Handle,
+            alone: PhantomData<Cell<()>>,
         }
-    }
 
-    // Pushes, and sleeps while there is no node.
-    fn send(&mut self, body: Body, until: bells::Deadline) -> Result<(), Refusal> {
-        let Seat { raw, bells, .. } = self;
-        let sent = bells
-            .nodes()
-            .wait(until, || match push(raw, bells, body, bells::TURNS) {
-                Err(Refusal::NoNode) => Ok(None),
-                answer => answer.map(Some),
-            })?;
-        sent.ok_or(Refusal::NoNode)
-    }
+        // SAFETY: a seat has no thread of its own, and owns its share of the queue, whose words are atomics.
+        unsafe impl Send for $name {}
 
-    // Pops, and sleeps while there is no value.
-    fn recv(&mut self, until: bells::Deadline) -> Result<Option<Value>, Refusal> {
-        let Seat { raw, bells, .. } = self;
-        bells.values().wait(until, || pop(raw, bells, bells::TURNS))
-    }
+        impl $name {
+            fn of(raw: raw::Handle) -> $name {
+                let alone = PhantomData;
+                $name { raw, alone }
+            }
+
+            /// Whether the queue holds a value.
+            pub fn emptiness(&mut self) -> Emptiness {
+                // SAFETY: the seat is full, and borrowed for this call alone.
+                match unsafe { raw::msq_emptiness(&mut self.raw) } {
+                    raw::OK => Emptiness::Holds,
+                    raw::EMPTY => Emptiness::Empty,
+                    raw::CLOSED => Emptiness::ShutEmpty,
+                    raw::BUSY => Emptiness::Moved,
+                    other => unreachable!("libmsq answered {other}"),
+                }
+            }
+
+            /// How many values it holds; none exactly of a two-lock queue, of which that can't be told.
+            #[allow(clippy::len_without_is_empty)]
+            pub fn len(&mut self) -> Option<Length> {
+                let mut length = Length::default();
+                // SAFETY: as for a look at whether it holds a value.
+                let code = unsafe { raw::msq_len(&mut self.raw, &mut length) };
+                (code == raw::OK).then_some(length)
+            }
+
+            /// How many pushes it has left.
+            pub fn left(&mut self) -> Left {
+                let mut left = Left::default();
+                // SAFETY: as for a look at whether it holds a value. So no other code than 0 comes.
+                let code = unsafe { raw::msq_left(&mut self.raw, &mut left) };
+                assert_eq!(code, raw::OK, "libmsq answered {code}");
+                left
+            }
+        }
+
+        impl Drop for $name {
+            fn drop(&mut self) {
+                // SAFETY: the seat is what the last call left, and in no call.
+                unsafe { raw::msq_drop(&mut self.raw) }
+            }
+        }
+
+        impl fmt::Debug for $name {
+            fn fmt(&self, f: &mut fmt::Formatter<'_>) -> fmt::Result {
+                f.pad(concat!(stringify!($name), " { .. }"))
+            }
+        }
+    };
 }
 
-// Pushes by a full seat, and wakes who waits for it.
-fn push(seat: &mut raw::Seat, bells: &Bells, body: Body, turns: u32) -> Result<(), Refusal> {
-    // SAFETY: the seat is full, and borrowed for this call alone.
-    let code = unsafe { raw::msq_try_push(seat, body.0, turns) };
-    bells.pushed(code)
+seat! {
+    /// A seat that pushes.
+    Giver
 }
 
-// Pops by a full seat, and wakes who waits for it.
-fn pop(seat: &mut raw::Seat, bells: &Bells, turns: u32) -> Result<Option<Value>, Refusal> {
-    let mut value = raw::Value { body: 0, from: 0 };
-    // SAFETY: as for a push.
-    let code = unsafe { raw::msq_try_pop(seat, turns, &mut value) };
-    bells.popped(code);
-    if code == raw::EMPTY {
-        return Ok(None);
-    }
-    answer(code)?;
-    Ok(Some(Value {
-        body: Body(value.body),
-        from: value.from,
-    }))
-}
-
-impl Drop for Seat {
-    fn drop(&mut self) {
-        // SAFETY: the seat is what the last call left, and in no call.
-        unsafe { raw::msq_drop(&mut self.raw) }
-    }
-}
-
-/// A seat that pushes. It may go to another thread, and is one thread's at a time:
-///
-/// ```
-/// fn is_sent<T: Send>() {}
-/// is_sent::<msq::seats::Giver>();
-/// ```
-/// ```compile_fail
-/// fn is_shared<T: Sync>() {}
-/// is_shared::<msq::seats::Giver>();
-/// ```
-/// ```compile_fail
-/// fn is_copied<T: Clone>() {}
-/// is_copied::<msq::seats::Giver>();
-/// ```
-pub struct Giver {
-    seat: Seat,
-}
-
-/// A seat that pops. It may go to another thread, and is one thread's at a time:
-///
-/// ```
-/// fn is_sent<T: Send>() {}
-/// is_sent::<msq::seats::Taker>();
-/// ```
-/// ```compile_fail
-/// fn is_shared<T: Sync>() {}
-/// is_shared::<msq::seats::Taker>();
-/// ```
-pub struct Taker {
-    seat: Seat,
-}
-
-impl fmt::Debug for Giver {
-    fn fmt(&self, f: &mut fmt::Formatter<'_>) -> fmt::Result {
-        f.pad("Giver { .. }")
-    }
-}
-
-impl fmt::Debug for Taker {
-    fn fmt(&self, f: &mut fmt::Formatter<'_>) -> fmt::Result {
-        f.pad("Taker { .. }")
-    }
+seat! {
+    /// A seat that pops.
+    Taker
 }
 
 /// A queue with so many nodes, from 2 on, and so many seats that push and that pop. There is room for one value less than
@@ -194,12 +207,7 @@ impl fmt::Debug for Taker {
 /// assert_eq!((givers.len(), takers.len()), (3, 2));
 /// assert_eq!(msq::seats::queue(msq::Kind::Ring, 1, 3, 2).err(), Some(msq::Refusal::BadSize));
 /// ```
-pub fn queue(
-    kind: Kind,
-    nodes: u32,
-    givers: u16,
-    takers: u16,
-) -> Result<(Vec<Giver>, Vec<Taker>), Refusal> {
+pub fn queue(kind: Kind, nodes: u32, givers: u16, takers: u16) -> Result<(Vec<Giver>, Vec<Taker>), Refusal> {
     queue_with_limit(kind, nodes, raw::MOST_COUNT, givers, takers)
 }
 
@@ -210,8 +218,8 @@ pub fn queue(
 /// ```
 /// let (mut givers, mut takers) = msq::seats::queue_with_limit(msq::Kind::NonBlocking, 8, 3, 1, 1).unwrap();
 /// let refusal = loop {
-///     let sent = givers[0].send(msq::seats::Body::from(42));
-///     if let Err(refusal) = sent.and_then(|()| takers[0].recv()) {
+///     let sent = givers[0].try_push(msq::seats::Body::from(42), 8);
+///     if let Err(refusal) = sent.and_then(|()| takers[0].try_pop(8)) {
 ///         break refusal;
 ///     }
 /// };
@@ -224,124 +232,60 @@ pub fn queue_with_limit(
     givers: u16,
     takers: u16,
 ) -> Result<(Vec<Giver>, Vec<Taker>), Refusal> {
-    let (givers, takers) = (usize::from(givers), usize::from(takers));
+    let givers = usize::from(givers);
     let mut roles = vec![raw::GIVER; givers];
-    roles.resize(givers + takers, raw::TAKER);
-    let made = raw::seats(kind, nodes, limit, &roles)?;
-    let bells = Arc::new(Bells::default());
-    let mut seats = made.into_iter().map(|raw| Seat::of(raw, &bells));
-    let givers = seats
-        .by_ref()
-        .take(givers)
-        .map(|seat| Giver { seat })
-        .collect();
-    let takers = seats.map(|seat| Taker { seat }).collect();
-    Ok((givers, takers))
+    roles.resize(givers + usize::from(takers), raw::TAKER);
+    let mut made = raw::seats(kind, nodes, limit, &roles)?.into_iter();
+    let givers = made.by_ref().take(givers).map(Giver::of).collect();
+    Ok((givers, made.map(Taker::of).collect()))
 }
 
 impl Giver {
     /// Pushes a body, in so many turns at most, 1 or more.
-    ///
-    /// ```
-    /// let (mut givers, mut takers) = msq::seats::queue(msq::Kind::NonBlocking, 64, 1, 1).unwrap();
-    /// assert_eq!(givers[0].try_push(msq::seats::Body::from(42), 8), Ok(()));
-    /// assert_eq!(takers[0].try_pop(8).unwrap().unwrap().body.number(), 42);
-    /// ```
     pub fn try_push(&mut self, body: Body, turns: u32) -> Result<(), Refusal> {
-        push(&mut self.seat.raw, &self.seat.bells, body, turns)
+        // SAFETY: the seat is full, and borrowed for this call alone.
+        answer(unsafe { raw::msq_try_push(&mut self.raw, body.0, turns) })
     }
 
-    /// Pushes a body, and sleeps while the queue is full, until a pop or a shut wakes it. Refused `Closed` or `WornOut`.
-    ///
-    /// ```
-    /// use msq::seats::Body;
-    /// use msq::Refusal;
-    /// let (mut givers, mut takers) = msq::seats::queue(msq::Kind::NonBlocking, 64, 1, 1).unwrap();
-    /// givers[0].send(Body::from(42)).unwrap();
-    /// givers[0].try_shut(8).unwrap();
-    /// assert_eq!(givers[0].send(Body::from(43)), Err(Refusal::Closed));
-    /// ```
-    pub fn send(&mut self, body: Body) -> Result<(), Refusal> {
-        self.seat.send(body, None)
-    }
-
-    /// As [`Giver::send`], for this time at most; then it tries once more: refused also `NoNode`, or `Busy` where others
-    /// were in the way of that last try.
-    ///
-    /// ```
-    /// use std::time::Duration;
-    /// let (mut givers, _receivers) = msq::seats::queue(msq::Kind::NonBlocking, 2, 1, 1).unwrap();
-    /// let refusal = loop {
-    ///     if let Err(refusal) = givers[0].send_timeout(msq::seats::Body::from(42), Duration::from_millis(1)) {
-    ///         break refusal;
-    ///     }
-    /// };
-    /// assert_eq!(refusal, msq::Refusal::NoNode);
-    /// ```
-    pub fn send_timeout(&mut self, body: Body, time: Duration) -> Result<(), Refusal> {
-        self.seat.send(body, bells::after(time))
+    /// Pushes these bodies in their order until one is refused: how many were pushed, and why no more were. To a ring as many go at
+    /// one step as there is room for, up to 32; otherwise each goes by itself. A step has so many turns, 1 or more. Pushes of
+    /// other seats may come between two steps.
+    pub fn try_push_all(&mut self, bodies: &[Body], turns: u32) -> (usize, Result<(), Refusal>) {
+        let (first, mut count) = (bodies.as_ptr().cast(), 0);
+        // SAFETY: as for a push; a body is a number, and there are so many.
+        let code = unsafe { raw::msq_push_all(&mut self.raw, first, bodies.len(), turns, &mut count) };
+        (count, answer(code))
     }
 
     /// Shuts the queue, in so many turns at most, 1 or more: no push comes after it, and what is in it stays to be popped.
-    /// `Closed` where it was shut before. All that sleep are woken.
-    ///
-    /// ```
-    /// let (mut givers, mut takers) = msq::seats::queue(msq::Kind::NonBlocking, 64, 1, 1).unwrap();
-    /// givers[0].send(msq::seats::Body::from(42)).unwrap();
-    /// givers[0].try_shut(8).unwrap();
-    /// assert_eq!(givers[0].try_shut(8), Err(msq::Refusal::Closed));
-    /// assert!(takers[0].recv().is_ok());
-    /// assert_eq!(takers[0].recv(), Err(msq::Refusal::Closed));
-    /// ```
+    /// `Closed` where it was shut before.
     pub fn try_shut(&mut self, turns: u32) -> Result<(), Refusal> {
-        // SAFETY: the seat is full, and borrowed for this call alone.
-        let code = unsafe { raw::msq_try_shut(&mut self.seat.raw, turns) };
-        self.seat.bells.shut(code)
+        // SAFETY: as for a push.
+        answer(unsafe { raw::msq_try_shut(&mut self.raw, turns) })
     }
 }
 
 impl Taker {
     /// Pops the value at the front, in so many turns at most, 1 or more; none where the queue was empty.
-    ///
-    /// ```
-    /// let (mut givers, mut takers) = msq::seats::queue(msq::Kind::NonBlocking, 64, 1, 1).unwrap();
-    /// assert_eq!(takers[0].try_pop(8), Ok(None));
-    /// givers[0].send(msq::seats::Body::from(42)).unwrap();
-    /// assert_eq!(takers[0].try_pop(8).unwrap().unwrap().from, 1);
-    /// ```
     pub fn try_pop(&mut self, turns: u32) -> Result<Option<Value>, Refusal> {
-        pop(&mut self.seat.raw, &self.seat.bells, turns)
-    }
-
-    /// Pops the value at the front, and sleeps while the queue is empty, until a push or a shut wakes it. Refused `Closed` or
-    /// `WornOut`.
-    ///
-    /// ```
-    /// let (mut givers, mut takers) = msq::seats::queue(msq::Kind::NonBlocking, 64, 1, 1).unwrap();
-    /// std::thread::scope(|scope| {
-    ///     scope.spawn(|| givers[0].send(msq::seats::Body::from(42)).unwrap());
-    ///     assert_eq!(takers[0].recv().unwrap().body.number(), 42);
-    /// });
-    /// ```
-    pub fn recv(&mut self) -> Result<Value, Refusal> {
-        loop {
-            if let Some(value) = self.seat.recv(None)? {
-                return Ok(value);
-            }
+        let mut value = NONE;
+        // SAFETY: the seat is full, and borrowed for this call alone.
+        match unsafe { raw::msq_try_pop(&mut self.raw, turns, &mut value) } {
+            raw::EMPTY => Ok(None),
+            code => answer(code).map(|()| Some(value)),
         }
     }
 
-    /// As [`Taker::recv`], for this time at most; then it looks once more: none where the queue was empty, and refused
-    /// also `Busy`, where others were in the way of that last look.
-    ///
-    /// ```
-    /// use std::time::Duration;
-    /// let (mut givers, mut takers) = msq::seats::queue(msq::Kind::NonBlocking, 64, 1, 1).unwrap();
-    /// assert_eq!(takers[0].recv_timeout(Duration::from_millis(1)), Ok(None));
-    /// givers[0].send(msq::seats::Body::from(42)).unwrap();
-    /// assert!(takers[0].recv_timeout(Duration::MAX).unwrap().is_some());
-    /// ```
-    pub fn recv_timeout(&mut self, time: Duration) -> Result<Option<Value>, Refusal> {
-        self.seat.recv(bells::after(time))
+    /// Pops values, so many at most, until the queue is empty or a pop is refused: those that were popped, in their order, and why it
+    /// was refused. From a ring up to 32 come at one step; otherwise each comes by itself. A step has so many turns, 1 or more. Takes
+    /// memory for so many values first, and panics where no list is that long.
+    pub fn try_pop_up_to(&mut self, most: usize, turns: u32) -> (Vec<Value>, Result<(), Refusal>) {
+        let (mut values, mut count) = (vec![NONE; most], 0);
+        let first = values.as_mut_ptr();
+        // SAFETY: as for a pop; there is room for so many values.
+        let code = unsafe { raw::msq_pop_up_to(&mut self.raw, turns, first, most, &mut count) };
+        values.truncate(count);
+        let told = if code == raw::EMPTY { Ok(()) } else { answer(code) };
+        (values, told)
     }
 }

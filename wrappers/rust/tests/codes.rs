@@ -1,9 +1,9 @@
 //! What each call of a queue of values, and of a channel, answers in each case that it has an answer for, and what becomes of values.
 use msq::channel::{
-    bounded, RecvError, RecvTimeoutError, SendTimeoutError, TryRecvError, TrySendError,
+    bounded, bounded_of, try_bounded, RecvError, RecvTimeoutError, SendTimeoutError, TryRecvError, TrySendError,
 };
 use msq::seats::{self, Body};
-use msq::{Kind, Queue, Refusal};
+use msq::{Kind, Missed, Queue, Refusal};
 use std::sync::atomic::AtomicIsize;
 use std::sync::atomic::Ordering::SeqCst;
 use std::sync::Arc;
@@ -35,18 +35,22 @@ fn no_queue_has_such_sizes() {
         let refused = |capacity, threads| Queue::<u8>::of(kind, capacity, threads).err();
         assert_eq!(refused(0, 1), Some(Refusal::ZeroCapacity), "no place");
         assert_eq!(refused(1, 0), Some(Refusal::BadSize), "no thread");
+        let most = u32::MAX as usize;
+        assert_eq!(refused(most, 1), Some(Refusal::BadSize), "too many nodes");
+        assert_eq!(refused(usize::MAX, 9), Some(Refusal::BadSize), "more than a number has");
         assert_eq!(
-            refused(u32::MAX - 1, 1),
-            Some(Refusal::BadSize),
-            "too many nodes"
-        );
-        assert_eq!(
-            refused(u32::MAX, 9),
-            Some(Refusal::BadSize),
-            "more than a number has"
+            refused(1, 1 << 15),
+            if kind == Kind::Ring { Some(Refusal::BadSize) } else { None },
+            "too many calls"
         );
     }
-    assert!(matches!(bounded::<u8>(0), Err(Refusal::ZeroCapacity)));
+    assert!(matches!(try_bounded::<u8>(0), Err(Refusal::ZeroCapacity)));
+}
+
+#[test]
+#[should_panic(expected = "a channel for 0 values: there is no queue without room")]
+fn a_channel_without_room_panics() {
+    bounded::<u8>(0);
 }
 
 #[test]
@@ -56,22 +60,14 @@ fn many_pass_at_one_call() {
         let (giver, taker) = (&mut givers[0], &mut takers[0]);
         let bodies: Vec<Body> = (0..100).map(Body::from).collect();
         assert_eq!(giver.try_push_all(&[], 8), (0, Ok(())));
-        assert_eq!(
-            giver.try_push_all(&bodies, 0),
-            (0, Err(Refusal::BadSize)),
-            "no turns"
-        );
+        assert_eq!(giver.try_push_all(&bodies, 0), (0, Err(Refusal::BadSize)), "no turns");
         assert_eq!(taker.try_pop_up_to(4, 8), (vec![], Ok(())), "empty");
         let (held, told) = giver.try_push_all(&bodies, 8);
         assert!((15..48).contains(&held) && told == Err(Refusal::NoNode));
         let (first, told) = taker.try_pop_up_to(4, 8);
         assert_eq!((first.len(), told), (4, Ok(())));
         giver.try_shut(8).unwrap();
-        assert_eq!(
-            giver.try_push_all(&bodies, 8),
-            (0, Err(Refusal::Closed)),
-            "shut"
-        );
+        assert_eq!(giver.try_push_all(&bodies, 8), (0, Err(Refusal::Closed)), "shut");
         let (rest, told) = taker.try_pop_up_to(100, 8);
         assert_eq!(told, Err(Refusal::Closed));
         let came = first.iter().chain(&rest).map(|value| value.body);
@@ -98,74 +94,47 @@ fn more_pass_than_go_at_one_step() {
 fn a_queue_answers() {
     for kind in KINDS {
         let queue = Queue::of(kind, 2, 1).unwrap();
-        assert_eq!(queue.capacity(), 2);
-        assert!(queue.is_empty());
-        assert_eq!(queue.pop(), Ok(None));
-        assert_eq!(queue.pop_timeout(SHORT), Ok(None));
-        queue.push("one".to_string()).unwrap();
-        queue.push_wait("two".to_string()).unwrap();
-        assert!(!queue.is_empty());
-        let length = queue.len().map(|it| (it.least, it.most));
-        assert_eq!(length, (kind != Kind::TwoLock).then_some((2, 2)));
-        while queue.push("more".to_string()).is_ok() {}
-        let full = queue.push("over".to_string()).unwrap_err();
-        assert_eq!(
-            (full.refusal, full.value.as_str()),
-            (Refusal::NoNode, "over")
-        );
-        let full = queue.push_timeout("over".to_string(), SHORT).unwrap_err();
-        assert_eq!(
-            (full.refusal, full.value.as_str()),
-            (Refusal::NoNode, "over")
-        );
-        assert_eq!(queue.pop(), Ok(Some("one".to_string())));
-        assert_eq!(queue.pop_wait(), Ok("two".to_string()));
-        assert_eq!(queue.close(), Ok(()));
-        assert_eq!(queue.close(), Err(Refusal::Closed));
-        let closed = queue.push_wait("late".to_string()).unwrap_err();
-        assert_eq!(
-            (closed.refusal, closed.value.as_str()),
-            (Refusal::Closed, "late")
-        );
-        let closed = queue.push("late".to_string()).unwrap_err();
-        assert_eq!(closed.refusal, Refusal::Closed);
-        let closed = queue.push_timeout("late".to_string(), SHORT).unwrap_err();
-        assert_eq!(
-            (closed.refusal, closed.value.as_str()),
-            (Refusal::Closed, "late")
-        );
-        while queue.pop_timeout(SHORT) == Ok(Some("more".to_string())) {}
-        assert_eq!(queue.pop(), Err(Refusal::Closed));
-        assert_eq!(queue.pop_timeout(SHORT), Err(Refusal::Closed));
-        assert_eq!(queue.pop_wait(), Err(Refusal::Closed));
+        let text = |text: &str| text.to_string();
+        let over = |why| Err((why, text("over")));
+        let told = |pushed: Result<(), msq::PushError<String>>| pushed.map_err(|it| (it.why, it.value));
+        assert_eq!((queue.capacity(), queue.len()), (2, 0));
+        assert!(queue.is_empty() && !queue.is_full());
+        assert_eq!(queue.try_pop(), Err(Missed::Empty));
+        assert_eq!(queue.pop_timeout(SHORT), Err(Missed::TimedOut));
+        queue.push(text("one")).unwrap();
+        queue.try_push(text("two")).unwrap();
+        assert!(queue.is_full() && queue.len() == 2);
+        assert_eq!(told(queue.try_push(text("over"))), over(Missed::Full));
+        assert_eq!(told(queue.push_timeout(text("over"), SHORT)), over(Missed::TimedOut));
+        assert_eq!(queue.try_pop(), Ok(text("one")));
+        assert_eq!(queue.pop(), Ok(text("two")));
+        queue.push_timeout(text("last"), SHORT).unwrap();
+        queue.close();
+        queue.close();
+        assert_eq!(told(queue.push(text("over"))), over(Missed::Closed));
+        assert_eq!(told(queue.try_push(text("over"))), over(Missed::Closed));
+        assert_eq!(told(queue.push_timeout(text("over"), SHORT)), over(Missed::Closed));
+        assert_eq!(queue.pop_timeout(SHORT), Ok(text("last")));
+        assert_eq!(queue.try_pop(), Err(Missed::Closed));
+        assert_eq!(queue.pop_timeout(SHORT), Err(Missed::Closed));
+        assert_eq!(queue.pop(), Err(Missed::Closed));
         assert_eq!(format!("{queue:?}"), "Queue { capacity: 2, .. }");
-        assert_eq!(
-            format!("{closed:?}: {closed}"),
-            "PushError(Closed, ..): the queue is shut"
-        );
+        let closed = queue.push(text("late")).unwrap_err();
+        assert_eq!(format!("{closed:?}: {closed}"), "PushError(Closed, ..): the queue is closed");
     }
 }
 
 #[test]
 fn a_channel_answers() {
-    let (sender, receiver) = bounded(1).unwrap();
+    let (sender, receiver) = bounded(1);
     assert_eq!(receiver.try_recv(), Err(TryRecvError::Empty));
     assert_eq!(receiver.recv_timeout(SHORT), Err(RecvTimeoutError::Timeout));
-    assert_eq!(
-        receiver.recv_deadline(Instant::now()),
-        Err(RecvTimeoutError::Timeout)
-    );
+    assert_eq!(receiver.recv_deadline(Instant::now()), Err(RecvTimeoutError::Timeout));
     assert_eq!(sender.send(1), Ok(()));
-    assert!(sender.is_full() && !receiver.is_empty() && sender.capacity() == Some(1));
+    assert!(sender.is_full() && !receiver.is_empty() && sender.capacity() == 1);
     assert_eq!(sender.try_send(3), Err(TrySendError::Full(3)));
-    assert_eq!(
-        sender.send_timeout(3, SHORT),
-        Err(SendTimeoutError::Timeout(3))
-    );
-    assert_eq!(
-        sender.send_deadline(3, Instant::now()),
-        Err(SendTimeoutError::Timeout(3))
-    );
+    assert_eq!(sender.send_timeout(3, SHORT), Err(SendTimeoutError::Timeout(3)));
+    assert_eq!(sender.send_deadline(3, Instant::now()), Err(SendTimeoutError::Timeout(3)));
     assert_eq!(receiver.recv(), Ok(1));
     assert_eq!(sender.try_send(2), Ok(()));
     assert_eq!(receiver.recv_timeout(SHORT), Ok(2));
@@ -173,14 +142,8 @@ fn a_channel_answers() {
     drop(sender);
     assert!(receiver.try_iter().eq([3]));
     assert_eq!(receiver.try_recv(), Err(TryRecvError::Disconnected));
-    assert_eq!(
-        receiver.recv_timeout(SHORT),
-        Err(RecvTimeoutError::Disconnected)
-    );
-    assert_eq!(
-        receiver.recv_deadline(Instant::now()),
-        Err(RecvTimeoutError::Disconnected)
-    );
+    assert_eq!(receiver.recv_timeout(SHORT), Err(RecvTimeoutError::Disconnected));
+    assert_eq!(receiver.recv_deadline(Instant::now()), Err(RecvTimeoutError::Disconnected));
     assert_eq!(receiver.recv(), Err(RecvError::Disconnected));
     assert_eq!(receiver.into_iter().next(), None);
 }
@@ -188,21 +151,21 @@ fn a_channel_answers() {
 #[test]
 fn a_channel_has_just_the_room_that_was_asked_for() {
     for capacity in 1..10 {
-        let (sender, receiver) = bounded(capacity).unwrap();
+        let (sender, receiver) = bounded(capacity);
         for round in 0..100 {
             let taken = (0..100).take_while(|_| sender.try_send(round).is_ok());
-            assert_eq!(taken.count(), capacity as usize);
+            assert_eq!(taken.count(), capacity);
             assert_eq!(receiver.recv(), Ok(round));
             assert_eq!(sender.try_send(round), Ok(()));
             assert!(sender.is_full() && sender.try_send(round) == Err(TrySendError::Full(round)));
-            assert_eq!(receiver.try_iter().count(), capacity as usize);
+            assert_eq!(receiver.try_iter().count(), capacity);
         }
     }
 }
 
 #[test]
 fn a_place_is_handed_from_hand_to_hand() {
-    let (sender, receiver) = bounded(1).unwrap();
+    let (sender, receiver) = bounded(1);
     thread::scope(|scope| {
         for number in 0..3 {
             let sender = sender.clone();
@@ -220,7 +183,7 @@ fn a_place_is_handed_from_hand_to_hand() {
 
 #[test]
 fn with_the_last_receiver_sends_end() {
-    let (sender, receiver) = bounded(4).unwrap();
+    let (sender, receiver) = bounded(4);
     let further = receiver.clone();
     assert!(receiver.same_channel(&further));
     drop(receiver);
@@ -228,26 +191,43 @@ fn with_the_last_receiver_sends_end() {
     drop(further);
     assert_eq!(sender.send(2).unwrap_err().into_inner(), 2);
     assert_eq!(sender.try_send(2), Err(TrySendError::Disconnected(2)));
-    assert_eq!(
-        sender.send_timeout(2, SHORT),
-        Err(SendTimeoutError::Disconnected(2))
-    );
-    assert_eq!(
-        sender.send_deadline(2, Instant::now()),
-        Err(SendTimeoutError::Disconnected(2))
-    );
+    assert_eq!(sender.send_timeout(2, SHORT), Err(SendTimeoutError::Disconnected(2)));
+    assert_eq!(sender.send_deadline(2, Instant::now()), Err(SendTimeoutError::Disconnected(2)));
     assert_eq!(format!("{sender:?}"), "Sender { .. }");
 }
 
 #[test]
 fn a_sleeper_is_woken_by_the_last_sender() {
-    let (sender, receiver) = bounded::<u8>(1).unwrap();
+    let (sender, receiver) = bounded::<u8>(1);
     thread::scope(|scope| {
         let waits = scope.spawn(|| receiver.recv());
         thread::sleep(Duration::from_millis(20));
         drop(sender);
         assert_eq!(waits.join().unwrap(), Err(RecvError::Disconnected));
     });
+}
+
+#[test]
+fn all_that_sleep_are_told_of_an_end() {
+    for kind in KINDS {
+        let (queue, full) = (Queue::<u8>::of(kind, 1, 4).unwrap(), Queue::of(kind, 1, 4).unwrap());
+        let (sender, receiver) = bounded_of::<u8>(kind, 1, 4).unwrap();
+        full.push(0).unwrap();
+        thread::scope(|scope| {
+            let receiver = &receiver;
+            let pops = [(); 3].map(|()| scope.spawn(|| queue.pop()));
+            let pushes = [(); 3].map(|()| scope.spawn(|| full.push(1)));
+            let receives = [(); 3].map(|()| scope.spawn(|| receiver.recv()));
+            thread::sleep(Duration::from_millis(50));
+            queue.close();
+            full.close();
+            drop(sender);
+            pops.into_iter().for_each(|it| assert_eq!(it.join().unwrap(), Err(Missed::Closed)));
+            pushes.into_iter().for_each(|it| assert_eq!(it.join().unwrap().unwrap_err().why, Missed::Closed));
+            receives.into_iter().for_each(|it| assert_eq!(it.join().unwrap(), Err(RecvError::Disconnected)));
+        });
+        assert_eq!(full.pop(), Ok(0));
+    }
 }
 
 #[test]
@@ -258,7 +238,7 @@ fn what_is_left_is_dropped() {
         for number in 0..8 {
             assert!(queue.push(Counted::new(&alive, number)).is_ok());
         }
-        assert!(queue.pop().is_ok_and(|it| it.is_some_and(|it| it.1 == 0)));
+        assert!(queue.pop().is_ok_and(|it| it.1 == 0));
         assert_eq!(alive.load(SeqCst), 7);
         drop(queue);
         assert_eq!(alive.load(SeqCst), 0);
@@ -269,7 +249,7 @@ fn what_is_left_is_dropped() {
 fn values_without_bytes_pass() {
     let queue = Queue::new(3).unwrap();
     assert_eq!(queue.push(()), Ok(()));
-    assert_eq!(queue.pop(), Ok(Some(())));
+    assert_eq!(queue.pop(), Ok(()));
 }
 
 // Whether values come as they were, through a queue of each kind.
@@ -280,7 +260,7 @@ fn come<T: Clone + Send + PartialEq + std::fmt::Debug>(values: &[T]) {
             queue.push(value.clone()).unwrap();
         }
         for value in values {
-            assert_eq!(queue.pop(), Ok(Some(value.clone())), "{kind:?}");
+            assert_eq!(queue.pop(), Ok(value.clone()), "{kind:?}");
         }
     }
 }
@@ -305,11 +285,9 @@ fn large_values_that_are_left_are_dropped() {
     for kind in KINDS {
         let queue = Queue::of(kind, 8, 2).unwrap();
         for number in 0..8 {
-            queue
-                .push((Counted::new(&alive, number), [number; 8]))
-                .unwrap();
+            queue.push((Counted::new(&alive, number), [number; 8])).unwrap();
         }
-        assert!(matches!(queue.pop(), Ok(Some((_, [0, ..])))));
+        assert!(matches!(queue.pop(), Ok((_, [0, ..]))));
         assert_eq!(alive.load(SeqCst), 7);
         drop(queue);
         assert_eq!(alive.load(SeqCst), 0, "{kind:?}");

@@ -1,10 +1,10 @@
 //! Ends that come early: of a queue of replies, which who pops the reply drops, beside who rings for it; of one that is closed and
 //! dropped; and of values whose drops panic.
 use msq::channel::{bounded, bounded_of};
-use msq::{Kind, Queue, Refusal};
+use msq::{Kind, Missed, Queue};
 use std::panic::{catch_unwind, AssertUnwindSafe};
-use std::sync::atomic::AtomicUsize;
 use std::sync::atomic::Ordering::SeqCst;
+use std::sync::atomic::{AtomicBool, AtomicUsize};
 use std::sync::Arc;
 use std::thread;
 use std::time::Duration;
@@ -15,7 +15,7 @@ const KINDS: [Kind; 3] = [Kind::NonBlocking, Kind::TwoLock, Kind::Ring];
 #[test]
 fn a_reply_ends_its_channel() {
     for kind in KINDS {
-        let (asks, asked) = bounded(2).unwrap();
+        let (asks, asked) = bounded(2);
         thread::scope(|scope| {
             scope.spawn(move || {
                 for (number, reply) in asked {
@@ -40,9 +40,9 @@ fn a_close_ends_its_queue() {
         for _ in 0..1000 {
             let queue = Arc::new(Queue::of(kind, 4, 2).unwrap());
             let other = Arc::clone(&queue);
-            let takes = thread::spawn(move || while other.pop_wait().is_ok() {});
-            queue.push_wait(1).unwrap();
-            queue.close().unwrap();
+            let takes = thread::spawn(move || while other.pop().is_ok() {});
+            queue.push(1).unwrap();
+            queue.close();
             drop(queue);
             takes.join().unwrap();
         }
@@ -53,18 +53,24 @@ fn a_close_ends_its_queue() {
 #[test]
 fn a_late_pop_is_no_close() {
     let queue = Queue::<u8>::new(4).unwrap();
+    let was_late = AtomicBool::new(false);
     thread::scope(|scope| {
         scope.spawn(|| {
-            thread::sleep(Duration::from_millis(200));
+            while !was_late.load(SeqCst) {
+                thread::yield_now();
+            }
             queue.push(1).unwrap();
-            queue.close().unwrap();
+            queue.close();
         });
         let (mut came, mut late) = (0, 0);
         loop {
             match queue.pop_timeout(Duration::from_millis(1)) {
-                Ok(Some(_)) => came += 1,
-                Ok(None) | Err(Refusal::Busy) => late += 1,
-                Err(refusal) => break assert_eq!(refusal, Refusal::Closed),
+                Ok(_) => came += 1,
+                Err(Missed::TimedOut) => {
+                    late += 1;
+                    was_late.store(true, SeqCst);
+                }
+                Err(why) => break assert_eq!(why, Missed::Closed),
             }
         }
         assert!(came == 1 && late > 0);

@@ -1,17 +1,14 @@
-//! What each call of a seat answers in each state of a queue, and how a pool hands seats out.
-use msq::seats::{queue_with_limit, Body, Giver, SeatPool, Taker};
+//! What each call of a seat answers in each state of a queue.
+use msq::seats::{queue_with_limit, Body, Giver, Taker};
 use msq::{Kind, Refusal, WornWord};
-use std::time::Duration;
 
 const KINDS: [Kind; 3] = [Kind::NonBlocking, Kind::TwoLock, Kind::Ring];
 const LONG: u64 = 1 << 48;
-const SOON: Duration = Duration::from_nanos(1);
 const TURNS: u32 = 8;
 
-/// A call of a seat, by its name; it may wait as long as it takes.
+/// A call of a seat, by its name.
 struct Call<S, T> {
     name: &'static str,
-    waits: bool,
     make: fn(&mut S) -> Result<T, Refusal>,
 }
 
@@ -26,12 +23,8 @@ struct Calls<S, R> {
     shut: fn(&mut S, u32) -> Result<(), Refusal>,
 }
 
-fn call<S, T>(
-    name: &'static str,
-    waits: bool,
-    make: fn(&mut S) -> Result<T, Refusal>,
-) -> Call<S, T> {
-    Call { name, waits, make }
+fn call<S, T>(name: &'static str, make: fn(&mut S) -> Result<T, Refusal>) -> Call<S, T> {
+    Call { name, make }
 }
 
 fn one_of_each<S, R>((mut givers, mut takers): (Vec<S>, Vec<R>)) -> (S, R) {
@@ -42,40 +35,23 @@ fn numbers() -> Calls<Giver, Taker> {
     Calls {
         open: |kind, nodes, limit| queue_with_limit(kind, nodes, limit, 1, 1).map(one_of_each),
         pushes: vec![
-            call("try_push", false, |it| it.try_push(Body::from(7), TURNS)),
-            call("try_push_all", false, |it| {
-                it.try_push_all(&[Body::from(7)], TURNS).1
-            }),
-            call("send_timeout", false, |it| {
-                it.send_timeout(Body::from(7), SOON)
-            }),
-            call("send", true, |it| it.send(Body::from(7))),
+            call("try_push", |it| it.try_push(Body::from(7), TURNS)),
+            call("try_push_all", |it| it.try_push_all(&[Body::from(7)], TURNS).1),
         ],
         pops: vec![
-            call("try_pop", false, |it| {
-                Ok(it.try_pop(TURNS)?.map(|value| value.body.number()))
-            }),
-            call("try_pop_up_to", false, |it| {
+            call("try_pop", |it| Ok(it.try_pop(TURNS)?.map(|value| value.body.number()))),
+            call("try_pop_up_to", |it| {
                 let (values, told) = it.try_pop_up_to(1, TURNS);
                 told.map(|()| values.first().map(|value| value.body.number()))
             }),
-            call("recv_timeout", false, |it| {
-                Ok(it.recv_timeout(SOON)?.map(|value| value.body.number()))
-            }),
-            call("recv", true, |it| Ok(Some(it.recv()?.body.number()))),
         ],
         shut: Giver::try_shut,
     }
 }
 
-/// Each of these calls answers so, but for those that would wait.
-fn each<S, T: PartialEq + std::fmt::Debug>(
-    calls: &[Call<S, T>],
-    seat: &mut S,
-    waits: bool,
-    due: Result<T, Refusal>,
-) {
-    for call in calls.iter().filter(|call| waits || !call.waits) {
+/// Each of these calls answers so.
+fn each<S, T: PartialEq + std::fmt::Debug>(calls: &[Call<S, T>], seat: &mut S, due: Result<T, Refusal>) {
+    for call in calls {
         assert_eq!((call.make)(seat), due, "{}", call.name);
     }
 }
@@ -84,22 +60,22 @@ fn answers<S, R>(calls: &Calls<S, R>, kind: Kind) {
     let (mut giver, mut taker) = (calls.open)(kind, 32, LONG).unwrap();
     assert_eq!((calls.open)(kind, 1, LONG).err(), Some(Refusal::BadSize));
     assert_eq!((calls.open)(kind, 32, 0).err(), Some(Refusal::BadSize));
-    each(&calls.pushes, &mut giver, true, Ok(()));
+    each(&calls.pushes, &mut giver, Ok(()));
     let held = calls.pushes.len();
     for call in calls.pops.iter().cycle().take(held) {
         assert_eq!((call.make)(&mut taker), Ok(Some(7)), "{}", call.name);
     }
-    each(&calls.pops, &mut taker, false, Ok(None));
+    each(&calls.pops, &mut taker, Ok(None));
     assert_eq!((calls.shut)(&mut giver, 0), Err(Refusal::BadSize));
     assert_eq!((calls.shut)(&mut giver, TURNS), Ok(()));
     assert_eq!((calls.shut)(&mut giver, TURNS), Err(Refusal::Closed));
-    each(&calls.pushes, &mut giver, true, Err(Refusal::Closed));
-    each(&calls.pops, &mut taker, true, Err(Refusal::Closed));
+    each(&calls.pushes, &mut giver, Err(Refusal::Closed));
+    each(&calls.pops, &mut taker, Err(Refusal::Closed));
 
     let (mut giver, _receiver) = (calls.open)(kind, 2, LONG).unwrap();
     let push = calls.pushes[0].make;
     while push(&mut giver).is_ok() {}
-    each(&calls.pushes, &mut giver, false, Err(Refusal::NoNode));
+    each(&calls.pushes, &mut giver, Err(Refusal::NoNode));
 }
 
 /// At the limit 1 each word is raised once.
@@ -111,38 +87,34 @@ fn wears_out<S, R>(calls: &Calls<S, R>, kind: Kind) {
         assert_eq!(pop(&mut taker), Ok(Some(7)));
     }
     if kind == Kind::Ring {
-        return each(&calls.pushes, &mut giver, true, worn(WornWord::Tail));
+        return each(&calls.pushes, &mut giver, worn(WornWord::Tail));
     }
-    each(&calls.pushes, &mut giver, true, worn(WornWord::Free));
+    each(&calls.pushes, &mut giver, worn(WornWord::Free));
     let (mut giver, mut taker) = (calls.open)(kind, 16, 1).unwrap();
     assert_eq!((push(&mut giver), push(&mut giver)), (Ok(()), Ok(())));
     if kind == Kind::NonBlocking {
-        each(&calls.pushes, &mut giver, true, worn(WornWord::Tail));
+        each(&calls.pushes, &mut giver, worn(WornWord::Tail));
         assert_eq!((calls.shut)(&mut giver, TURNS), worn(WornWord::Tail));
     }
     assert_eq!(pop(&mut taker), Ok(Some(7)));
-    let end = if kind == Kind::TwoLock {
-        WornWord::Head
-    } else {
-        WornWord::Tail
-    };
+    let end = if kind == Kind::TwoLock { WornWord::Head } else { WornWord::Tail };
     let due = Err(Refusal::WornOut(end));
-    each(&calls.pops, &mut taker, true, due);
+    each(&calls.pops, &mut taker, due);
 }
 
-/// At the limit 2 the free list is worn with nothing in it, so that the queue counts as full; of a worn Head a push is told.
+/// At the limit 2 the free list is worn with nothing in it, so that the queue counts as full.
 fn tells_of_a_worn_head<S, R>(calls: &Calls<S, R>) {
     let (push, pop) = (calls.pushes[0].make, calls.pops[0].make);
     let (mut giver, mut taker) = (calls.open)(Kind::TwoLock, 4, 2).unwrap();
-    let mut push = || push(&mut giver);
-    assert_eq!([push(), push(), push()], [Ok(()); 3]);
+    let push = |giver: &mut S| push(giver);
+    assert_eq!([push(&mut giver), push(&mut giver), push(&mut giver)], [Ok(()); 3]);
     assert_eq!(pop(&mut taker), Ok(Some(7)));
-    assert_eq!(push(), Ok(()));
+    assert_eq!(push(&mut giver), Ok(()));
     assert_eq!(pop(&mut taker), Ok(Some(7)));
-    assert_eq!(push(), Err(Refusal::NoNode));
+    assert_eq!(push(&mut giver), Err(Refusal::NoNode));
     let due = Refusal::WornOut(WornWord::Head);
     assert_eq!(pop(&mut taker), Err(due));
-    each(&calls.pushes, &mut giver, true, Err(due));
+    each(&calls.pushes, &mut giver, Err(Refusal::NoNode));
 }
 
 #[test]
@@ -157,28 +129,11 @@ fn calls_of_numbers_answer() {
 #[test]
 fn a_call_has_a_turn_at_least() {
     for kind in KINDS {
+        assert_eq!(queue_with_limit(kind, 8, LONG, 0, 0).err(), Some(Refusal::BadSize), "no seat");
         let (mut giver, mut taker) = (numbers().open)(kind, 8, LONG).unwrap();
         assert_eq!(giver.try_push(Body::from(7), 0), Err(Refusal::BadSize));
         assert_eq!(taker.try_pop(0), Err(Refusal::BadSize));
         let none = taker.try_pop_up_to(1, 0);
         assert_eq!(none, (vec![], Err(Refusal::BadSize)));
-    }
-}
-
-#[test]
-fn a_pool_hands_out_each_seat_once() {
-    for kind in KINDS {
-        let refused = |nodes, seats| SeatPool::new(kind, nodes, seats, seats).err();
-        assert_eq!(refused(1, 1), Some(Refusal::BadSize), "one node");
-        assert_eq!(refused(8, 0), Some(Refusal::BadSize), "no seat");
-        let pool = SeatPool::with_limit(kind, 8, LONG, 1, 1).unwrap();
-        let mut giver = pool.giver().unwrap();
-        assert!(pool.giver().is_none());
-        assert_eq!(giver.try_push(Body::from(7), TURNS), Ok(()));
-        drop(giver);
-        assert!(pool.giver().is_some());
-        let mut taker = pool.taker().unwrap();
-        assert!(pool.taker().is_none());
-        assert_eq!(taker.recv().map(|it| it.body), Ok(Body::from(7)));
     }
 }

@@ -1,6 +1,6 @@
 //! What calls answer where others are in the way: another thread pushes and pops, and a signal stops it within a call.
 use msq::seats::{queue, Body, Emptiness};
-use msq::{Kind, Queue, Refusal};
+use msq::{Kind, Missed, Queue, Refusal};
 use std::ffi::{c_int, c_ulong};
 use std::sync::atomic::Ordering::SeqCst;
 use std::sync::atomic::{AtomicBool, AtomicU64};
@@ -76,7 +76,6 @@ fn locks_are_held() {
     stop_within(&mut act, || {
         let told = sender.try_push(Body::from(7), TURNS);
         if told == busy {
-            assert_eq!(sender.send_timeout(Body::from(7), SOON), busy);
             assert_eq!(sender.try_push_all(&[Body::from(7)], TURNS), (0, busy));
             assert_eq!(sender.try_shut(TURNS), busy);
         } else {
@@ -88,33 +87,32 @@ fn locks_are_held() {
     stop_within(act, || {
         let told = receiver.try_pop(TURNS);
         if told == Err(Refusal::Busy) {
-            assert_eq!(receiver.recv_timeout(SOON), Err(Refusal::Busy));
             assert_eq!(receiver.try_pop_up_to(1, TURNS), (vec![], busy));
         }
         told == Err(Refusal::Busy)
     });
 }
 
-/// The same of a queue of values.
+/// The same of a queue of values: a try is busy, and a call with a time is late.
 fn locks_of_values_are_held() {
     let queue = Queue::of(Kind::TwoLock, 16, 4).unwrap();
     let act = || {
-        let _ = queue.push(7);
-        let _ = queue.pop();
+        let _ = queue.try_push(7);
+        let _ = queue.try_pop();
     };
     stop_within(act, || {
-        let told = queue.push_timeout(7, SOON).map_err(|it| it.refusal);
-        let is_busy = told == Err(Refusal::Busy);
+        let is_busy = queue.try_push(7).map_err(|it| it.why) == Err(Missed::Busy);
         if is_busy {
-            assert_eq!(queue.push(7).map_err(|it| it.refusal), told);
+            let told = queue.push_timeout(7, SOON).map_err(|it| it.why);
+            assert_eq!(told, Err(Missed::TimedOut));
         } else {
             let _ = queue.pop_timeout(SOON);
         }
         is_busy
     });
     stop_within(act, || {
-        let is_busy = queue.pop_timeout(SOON) == Err(Refusal::Busy);
-        assert!(!is_busy || queue.pop() == Err(Refusal::Busy));
+        let is_busy = queue.try_pop() == Err(Missed::Busy);
+        assert!(!is_busy || queue.pop_timeout(SOON) == Err(Missed::TimedOut));
         is_busy
     });
 }

@@ -193,3 +193,52 @@ fn a_full_ring_of_values_says_so(rt: HostRuntime) -> Result<(), Fail> {
     }
     Ok(())
 }
+
+/// Values that are words in their places come out whole, in order, each of the seat that pushed it, over many laps; a full ring
+/// refuses, an empty one has none, and the end tells those left.
+#[test]
+fn words_lie_in_their_places(rt: HostRuntime) -> Result<(), Fail> {
+    let roles = [RingRole::Both, RingRole::Both];
+    let (queue, mut seats) = RingQueue::<()>::with_words(rt.alloc(), 3, AMPLE, &roles)?;
+    for i in 0..ROUNDS {
+        for j in 0..3u64 {
+            queue.push_word(&mut seats[(j % 2) as usize], u64::MAX - 3 * i - j, 8)?;
+        }
+        same(
+            &rt,
+            queue.push_word(&mut seats[0], 7, 8).err(),
+            Some(NoNode),
+            "full",
+        );
+        for j in 0..3u64 {
+            let popped = queue.pop_word(&mut seats[1], 8)?;
+            let told = popped.map(|r| (r.0.from, r.1));
+            same(
+                &rt,
+                told,
+                Some((1 + (j % 2) as u16, u64::MAX - 3 * i - j)),
+                i,
+            );
+        }
+        same(
+            &rt,
+            queue.pop_word(&mut seats[0], 8)?.is_none(),
+            true,
+            "none",
+        );
+    }
+    queue.push_word(&mut seats[1], 5, 8)?;
+    queue.push_word(&mut seats[0], 6, 8)?;
+    queue.shut_words(&mut seats[0])?;
+    same(
+        &rt,
+        queue.push_word(&mut seats[0], 7, 8).err(),
+        Some(Closed),
+        "shut",
+    );
+    let (numbers, values) = queue.word_rooms(rt.alloc())?;
+    let (_, values) = queue.close_words(numbers, values, seats);
+    same(&rt, values.len(), 2, "left");
+    same(&rt, (values[0], values[1]), (5, 6), "left");
+    Ok(())
+}

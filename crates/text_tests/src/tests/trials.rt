@@ -57,17 +57,17 @@ impl Engine {
             Engine::ShowRecipe(view) => show_recipe(alloc, reader, writer, view)?,
             Engine::Show(view) => show_text(alloc, reader, writer, view)?,
             Engine::Timeline(view) => show_history(alloc, reader, writer, view)?,
-            Engine::Reason(view) => show_found(alloc, reader, writer, view, 1_000)?,
+            Engine::Reason(view) => show_found(alloc, reader, writer, view, 1_000_000)?,
             Engine::Check => return Ok(Ending::from(check_text(alloc, reader, writer)?)),
             Engine::Place => {
-                return Ok(ending_of(&place_text(alloc, reader, writer, 1_000, false)?.found));
+                return Ok(ending_of(&place_text(alloc, reader, writer, 1_000_000, false)?.found));
             }
             Engine::Why => {
-                return Ok(ending_of(&place_text(alloc, reader, writer, 1_000, true)?.found));
+                return Ok(ending_of(&place_text(alloc, reader, writer, 1_000_000, true)?.found));
             }
             Engine::Holding => {
                 let held: [&[u8]; 2] = [b"one", b"two"];
-                let told = place_holding(alloc, reader, writer, 1_000, true, &held)?;
+                let told = place_holding(alloc, reader, writer, 1_000_000, true, &held)?;
                 return Ok(ending_of(&told.found));
             }
         }

@@ -17,7 +17,7 @@ returns-clause-seat g c =
     dealt c.args.plan.now _ c.args.number c.args.role c.split_seat-token.result _ _ c.requires.table.planned
     (ap (λ (z : Layout). z.slots) c.plan.view_is) c.requires.number c.requires.role (e.3 ∙ c.requires.keeper.table)
     (ap (λ y. y.0.plain) e.4 ∙ ap dealt_right c.requires.keeper.seat) (ap (λ y. y.0.deeds) e.4) (ap (λ y. length y.1) e.4, ap (λ y. slots_in y.0.hand) e.4)
-    (let n = c.from.ensures in omega (arith, n))
+    (let n = c.from.ensures in omega (arith, n)) (ap (λ y. y.0.placing.deeds) e.4)
 
 pub returns-clause-keeper : goal.returns-clause-keeper
 returns-clause-keeper g c =

@@ -1,11 +1,9 @@
-use Rattle.std.proofs.Common.{◌≤◌, ◌+◌, ◌*◌, ◌-◌, length}
-use Rattle.waiting_orders.specs.Nodes.{views}
-use Rattle.waiting_orders.specs.Search.{IsCounted, IsSearched}
+use Rattle.std.proofs.Common.{◌≤◌, ◌+◌, ◌-◌, length}
+use Rattle.waiting_orders.specs.Search.{IsCountedSearch, IsSearched}
 use Rattle.waiting_orders.proofs.searching.searched.Given as goal
 
 abbrev pub invariant-loop-node : goal.invariant-loop-node
-invariant-loop-node l =
-    IsSearched l.board l.search × (l.search.bytes ≤ l.room) × IsCounted l.board (views l.search.done.keys) (views l.search.ahead.items) l.search.bytes
+invariant-loop-node l = IsSearched l.board l.search × (l.search.bytes ≤ l.room) × IsCountedSearch l.board l.search
 
 abbrev pub decreases-loop-node : goal.decreases-loop-node
-decreases-loop-node l = length l.search.ahead.items + (l.room - l.search.bytes) * 18446744073709551616
+decreases-loop-node l = length l.search.ahead.keys + (l.room - l.search.bytes)

@@ -1,4 +1,5 @@
-use Rattle.std.proofs.Common.{◌≡◌, ◌+◌, Some, drop, ap, ◌∙◌, arith}
+use mathlib.Core.Bool.{true≢false}
+use Rattle.std.proofs.Common.{◌≡◌, ◌+◌, Some, drop, ap, sym, ◌∙◌, arith}
 use Rattle.ring_queue.specs.Words.{payload}
 use Rattle.ring_queue.specs.Knowledge.{standing}
 use Rattle.ring_queue.specs.Steps.{next_stage, contents}
@@ -35,3 +36,6 @@ loop-i-preserved g c =
           (fillings_at n c.args.bodies.now c.loop-i.i c.index-bodies-i.result c.loop-i-test.true c.index-bodies-i.is))
           ∙ ap (λ p. standing p (drop (c.loop-i.i + 1) (contents n c.args.bodies.now))) (let e : c.args.place + c.loop-i.i + 1 ≡ c.args.place + (c.loop-i.i + 1) = omega arith in e);
     }
+
+pub fill-requires-clause-stored : goal.fill-requires-clause-stored
+fill-requires-clause-stored g c placed = absurd (true≢false (sym placed ∙ c.requires.unplaced))

@@ -14,9 +14,9 @@ load-tail-requires g c =
     let q = c.args.self.now in
     let sits = c.requires.ready.sits in
     let words = q.laid.words in
-    asks q.plan q.table.shared.key q.table.shared.table_id c.args.seat.now EndFound q.laid 0 (λ n. n) sits (omega (arith, words))
+    asks q.plan q.table.shared.key q.table.shared.table_id c.args.seat.now EndFound q.laid 0 (λ n. n) sits (omega (arith, words)) tt
     (reads q.plan 0 (view c.args.seat.now) (EndFound q.plan) (λ ws seats r is run whole knew. reads_end q.plan ws seats r (view c.args.seat.now) is run whole knew c.requires.ready.rests c.requires.due))
-    (λ n v' k. ran_read q.plan P4 0 n (view c.args.seat.now) v' k.went)
+    (λ n v' k. ran_read q.plan P4 0 n (view c.args.seat.now) v' k.went) c.requires.ready.rests
 
 pub returns-then-tail-seat-clause-tried : goal.returns-then-tail-seat-clause-tried
 returns-then-tail-seat-clause-tried g c = tried_one _ _ (reading P4 0 _) 0 c.load-tail.ensures.2.1.learns.number c.load-tail.ensures.2.1.went.0 refl

@@ -3,6 +3,7 @@ use Rattle.ring_queue.specs.Steps.{FrontFound}
 use Rattle.ring_queue.specs.Seats.{view}
 use Rattle.ring_queue.proofs.Calls.{fronts_there}
 use Rattle.ring_queue.proofs.Asks.{asks}
+use Rattle.ring_queue.proofs.Placing.{even_slot}
 use Rattle.ring_queue.specs.Paths.{P2, reading}
 use Rattle.ring_queue.proofs.Runs.{ran_read_at}
 use Rattle.ring_queue.proofs.Tries.{tried_one}
@@ -16,9 +17,9 @@ load-word-requires g c =
     let words = q.laid.words in
     let slot = c.slot_of-slot.ensures in
     let within = slot.within in
-    asks q.plan q.table.shared.key q.table.shared.table_id s FrontFound q.laid (32 + 2 * c.slot_of-slot.result) (λ n. n) sits (omega (arith, words, within))
+    asks q.plan q.table.shared.key q.table.shared.table_id s FrontFound q.laid (32 + 2 * c.slot_of-slot.result) (λ n. n) sits (omega (arith, words, within)) (even_slot c.slot_of-slot.result)
     (fronts_there q.plan (view s) _ c.requires.rests (ap (λ k. 32 + 2 * k) (slot.value ∙ ap (λ h. h % q.plan.slots) sits.head)))
-    (λ n v' k. ran_read_at q.plan P2 (32 + 2 * c.slot_of-slot.result) _ n (view s) v' (ap (λ k. 32 + 2 * k) (slot.value ∙ ap (λ h. h % q.plan.slots) sits.head)) k.went)
+    (λ n v' k. ran_read_at q.plan P2 (32 + 2 * c.slot_of-slot.result) _ n (view s) v' (ap (λ k. 32 + 2 * k) (slot.value ∙ ap (λ h. h % q.plan.slots) sits.head)) k.went) c.requires.rests
 
 pub returns-then-word-parity_of-clause-tried : goal.returns-then-word-parity_of-clause-tried
 returns-then-word-parity_of-clause-tried g c = tried_one _ _ (reading P2 _ _) 0 c.load-word.ensures.2.1.learns.number c.load-word.ensures.2.1.went.0 refl

@@ -14,9 +14,9 @@ load-tail-requires g c =
     let q = c.args.self.now in
     let sits = c.requires.sits in
     let words = q.laid.words in
-    asks q.plan q.table.shared.key q.table.shared.table_id c.args.seat.now TailFound q.laid 0 (λ n. n) sits (omega (arith, words))
+    asks q.plan q.table.shared.key q.table.shared.table_id c.args.seat.now TailFound q.laid 0 (λ n. n) sits (omega (arith, words)) tt
     (reads q.plan 0 (view c.args.seat.now) (TailFound q.plan) (λ ws seats r is run whole knew. reads_tail q.plan ws seats r (view c.args.seat.now) is run whole knew c.requires.rests))
-    (λ n v' k. ran_read q.plan C1 0 n (view c.args.seat.now) v' k.went)
+    (λ n v' k. ran_read q.plan C1 0 n (view c.args.seat.now) v' k.went) c.requires.rests
 
 pub returns-then-tail-ge-SHUT-clause-tried : goal.returns-then-tail-ge-SHUT-clause-tried
 returns-then-tail-ge-SHUT-clause-tried g c = tried_one _ _ (reading C1 0 _) 0 c.load-tail.ensures.2.1.learns.number c.load-tail.ensures.2.1.went.0 refl

@@ -1,3 +1,4 @@
+use mathlib.Core.Bool.{true≢false}
 use Rattle.std.proofs.Common.{ap, sym, ◌∙◌, arith}
 use Rattle.ring_queue.specs.Seats.{view}
 use Rattle.ring_queue.proofs.Moved.{kept_none, gave_slot, gives_then}
@@ -28,3 +29,6 @@ pub returns-else-was-ge-SHUT-clause-says : goal.returns-else-was-ge-SHUT-clause-
 returns-else-was-ge-SHUT-clause-says g c =
     let small = c.if-was-ge-SHUT.false in
     lost_by c.args.self.now.plan c.args.seat.now c.claim-was.new.seat _ _ c.claim-was.ensures.told c.requires.ready.sits.tail c.claim-was.ensures.seat.tail c.if-was-tail.false (omega (arith, small))
+
+pub fill-requires-clause-stored : goal.fill-requires-clause-stored
+fill-requires-clause-stored g c placed = absurd (true≢false (sym placed ∙ c.requires.ready.unplaced))

@@ -20,7 +20,7 @@ compare_exchange-was-requires g c =
     let has = c.requires.1.1.1.1.0 in
     let same : length g.taken ≡ c.args.count = ap length has.0 ∙ sym c.requires.1.1.1.1.1.0.0 in
     let Raises : ℕ × ℕ → Type 0 = λ y. Does q.plan 16 (view s) (λ n. either (nat_eq n y.0) (y.0 + y.1) n) (pops (view s).number g.taken) (FrontsTaken q.plan g.taken) in
-    asks_all q.plan q.table.shared.key q.table.shared.table_id s (λ y. FrontsTaken y g.taken) q.laid 16 (λ n. either (nat_eq n s.head) (s.head + c.args.count) n) sits (omega (arith, words))
+    asks_all q.plan q.table.shared.key q.table.shared.table_id s (λ y. FrontsTaken y g.taken) q.laid 16 (λ n. either (nat_eq n s.head) (s.head + c.args.count) n) c.requires.1.0.unplaced sits (omega (arith, words))
     (subst Raises (λ i. (sym sits.head i, same i)) (λ ws seats r is run whole knew. takes_words q.plan ws seats r (view s) is run whole knew g.taken has.1 c.requires.1.1.1.0 (λ value. c.requires.1.1.0)))
     (subst (λ (y : ℕ × ℕ). (n : ℕ) (v' : SeatView) → FrontsTaken q.plan g.taken (view s) n v' → Made q.plan 16 n (either (nat_eq n y.0) (y.0 + y.1) n) (view s) v') (λ i. (sym sits.head i, same i))
     (λ n v' k. ran_take q.plan g.taken (view s) n v' k))

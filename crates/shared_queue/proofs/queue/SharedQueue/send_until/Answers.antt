@@ -3,8 +3,23 @@ use Rattle.carriers.specs.Answers.{SeesMoreOf}
 use Rattle.carriers.proofs.Learning.{sees_itself, sees_then, push_refused_then}
 use Rattle.shared_queue.specs.Lates.{seat_then}
 use Rattle.shared_queue.specs.Queues.{queue_of}
-use Rattle.shared_queue.proofs.Waiting.{refused_by, busy_by, no_node, heard_on, late_on, some_is}
+use Rattle.shared_queue.proofs.Waiting.{refused_by, busy_by, no_node, hears_on, heard_on, late_now, late_on, some_is}
 use Rattle.shared_queue.proofs.queue.SharedQueue.send_until.Goals as goal
+
+pub loop-preserved-then-not-looks : goal.loop-preserved-then-not-looks
+loop-preserved-then-not-looks g c =
+    let known = g.C.Carrier.known in
+    record {
+      can = tt;
+      finite = tt;
+      seat = c.loop.invariant.seat;
+      more = c.loop.invariant.more;
+      value = c.loop.invariant.value;
+      heard = hears_on (λ s. SeesMoreOf (known s) (known c.loop.seat)) _ _ c.loop.seat c.loop.invariant.heard (sees_itself _) c.step_aside-late.ensures.heard;
+      before = late_now (λ s. SeesMoreOf (known c.args.seat.now) (known s)) _ c.loop.seat c.loop.invariant.more c.step_aside-late.ensures.late;
+      since = late_now (λ s. SeesMoreOf (known s) (known c.loop.seat)) _ c.loop.seat (sees_itself _) c.step_aside-late.ensures.late;
+      comes = c.step_aside-late.ensures.comes;
+    }
 
 pub returns-in-Err-clause-caused : goal.returns-in-Err-clause-caused
 returns-in-Err-clause-caused g c =

@@ -10,5 +10,5 @@ pub returns-in-None : goal.returns-in-None
 returns-in-None c =
     let past : nat_lt c.args.at (length c.args.ways.now) ≡ false = sym c.get.ensures.lookup.0 ∙ ap is_some c.in-None.is in
     let e : slice_get c.args.ways.now c.args.at ≡ None = slice_get_past c.args.ways.now c.args.at (ltb-false _ _ past) in
-    subst (λ x. views c.args.new.now.items ≡ views c.args.new.now.items ++ steps_at c.args.pushes.now (view c.args.self.now) c.args.front.now x) (sym e)
+    subst (λ x. views c.args.new.now.items ≡ views c.args.new.now.items ++ steps_at c.args.pushes.now (view c.args.self.now) c.args.front.now c.args.ways.now x) (sym e)
     (sym (append-nil (views c.args.new.now.items)))

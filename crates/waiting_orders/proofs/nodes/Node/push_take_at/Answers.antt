@@ -13,5 +13,5 @@ returns-in-None c =
     let past : nat_lt c.args.at (length takes) ≡ false =
     subst (λ xs. nat_lt c.args.at (length xs) ≡ false) same (sym c.get.ensures.lookup.0 ∙ ap is_some c.in-None.is) in
     let e : slice_get takes c.args.at ≡ None = slice_get_past takes c.args.at (ltb-false _ _ past) in
-    subst (λ x. views c.args.new.now.items ≡ views c.args.new.now.items ++ take_at (suits c.args.front.now.push_limit c.args.value.now) (view c.args.self.now) c.args.front.now c.args.way.now x) (sym e)
+    subst (λ x. views c.args.new.now.items ≡ views c.args.new.now.items ++ take_at (suits c.args.front.now c.args.value.now) (view c.args.self.now) c.args.front.now c.args.way.now x) (sym e)
     (sym (append-nil (views c.args.new.now.items)))

@@ -56,6 +56,8 @@ returns-clause-all c = λ board e f.
     (subst (λ ops. ArePicks ops s.others c.limit-limit.result (view_picks ways)) e c.in_ok-ways.ensures.all)
     (subst (λ ops. AreOut ops s.others (view_picks ways)) e c.in_ok-ways.ensures.each)
     (subst (λ ops. ArePicks ops s.pushes c.limit-push_limit.result (view_picks c.in_ok-takes.takes.items)) f c.in_ok-takes.ensures.all)
+    (subst (λ ops. AreOut ops s.pushes (view_picks c.in_ok-takes.takes.items)) f c.in_ok-takes.ensures.each)
+    (subst (AllByRecursion (BeginsLater c.first_empty-empty.result)) c.deref.ensures.value c.first_empty-empty.ensures)
     (λ p. subst (λ ops. ArePicks ops s.pushes c.limit-limit.result (view_picks behind)) f (some p))
     (made ∙ ap (λ ops. steps_to (length ways) ops s front ways ++ pending_of s front behind ways) f)
 

@@ -1,0 +1,36 @@
+use Rattle.std.proofs.Common.{◌∙◌, ap, subst, ℕ, List, arith}
+use Rattle.carriers.specs.Numbers.{fifo_of}
+use Rattle.shared_queue.specs.Stepped.{stepped_queue}
+use Rattle.msq_c.specs.Made.{Asks, IsNew}
+use Rattle.msq_c.proofs.NewShares.{may_share, no_room, no_nodes, no_shares, are_new, as_many}
+use Rattle.msq_c.proofs.new_shares.shares_of.Goals as goal
+
+pub returns-then-capacity-eq0-clause-refused : goal.returns-then-capacity-eq0-clause-refused
+returns-then-capacity-eq0-clause-refused c = no_room c.args.kind c.args.capacity c.args.limit c.args.count c.if-capacity-eq0.true
+
+pub returns-in_default-clause-refused : goal.returns-in_default-clause-refused
+returns-in_default-clause-refused c = no_nodes c.args.kind c.args.capacity c.args.limit c.args.count c.in_default.ensures.none.0 c.in_default.ensures.none.1
+
+pub returns-then-not-are_asked-clause-refused : goal.returns-then-not-are_asked-clause-refused
+returns-then-not-are_asked-clause-refused c = no_shares c.args.kind c.args.capacity c.args.limit c.args.count c.in-Some.nodes c.deref.result.now c.in-Some.ensures.nodes
+    (c.deref.ensures.value ∙ c.in_ok-roles.ensures.roles) c.if-not-are_asked.ensures
+
+pub deal-requires-after_bounds : goal.deal-requires-after_bounds
+deal-requires-after_bounds c κs = may_share c.args.kind c.in-Some.nodes c.args.limit c.args.count (stepped_queue c.new-stepped.result) c.in_ok-queue.queue c.in_ok-queue.seats.items
+    (ap fifo_of c.new-stepped.ensures.queue ∙ c.new.ensures)
+    (subst (λ (rs : List ℕ). IsNew c.args.kind c.in-Some.nodes c.args.limit rs c.in_ok-queue.queue c.in_ok-queue.seats.items) (c.deref-2.ensures.value ∙ c.in_ok-roles.ensures.roles) c.in_ok-queue.ensures.new)
+    c.in_ok-queue.ensures.unused c.in_ok-queue.ensures.seats
+
+pub returns-clause-made : goal.returns-clause-made
+returns-clause-made c = are_new c.args.kind c.args.capacity c.args.limit c.args.count c.in-Some.nodes c.in_ok-roles.roles.items c.new.result c.new-stepped.result
+    c.in_ok-queue.queue c.in_ok-queue.seats.items c.in-Ok.shares.items (omega (arith, c.if-capacity-eq0.false)) c.in-Some.ensures.nodes c.in_ok-roles.ensures.roles
+    (subst (Asks c.args.kind c.in-Some.nodes c.args.limit) c.deref.ensures.value c.if-not-are_asked.ensures)
+    c.new-stepped.ensures.queue c.new.ensures (c.new-stepped.ensures.capacity ∙ c.from.ensures)
+    (subst (λ (rs : List ℕ). IsNew c.args.kind c.in-Some.nodes c.args.limit rs c.in_ok-queue.queue c.in_ok-queue.seats.items) c.deref-2.ensures.value c.in_ok-queue.ensures.new)
+    c.in-Ok.ensures.queue c.in-Ok.ensures.seats
+
+pub returns-clause-len : goal.returns-clause-len
+returns-clause-len c = as_many c.args.kind c.args.capacity c.args.limit c.args.count c.in-Some.nodes c.in_ok-roles.roles.items c.in_ok-queue.queue c.in_ok-queue.seats.items
+    c.in-Ok.shares.items c.in_ok-roles.ensures.roles
+    (subst (λ (rs : List ℕ). IsNew c.args.kind c.in-Some.nodes c.args.limit rs c.in_ok-queue.queue c.in_ok-queue.seats.items) c.deref-2.ensures.value c.in_ok-queue.ensures.new)
+    c.in-Ok.ensures.seats

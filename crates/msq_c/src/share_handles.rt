@@ -1,0 +1,100 @@
+//! A share of a queue whose calls are stepped, behind a pointer, as C holds it.
+ghost use Rattle.std.specs.Prelude.{◌≡◌, Bool, true, false};
+ghost use Rattle.msq_c.specs.Boxed.{box_if};
+ghost use Rattle.msq_c.specs.declared.share_blocks.ShareBlock.{ShareBlock};
+ghost use Rattle.msq_c.specs.contracts.share_blocks.ShareBlock.{the_row};
+
+use crate::parts::Parts;
+use crate::share_blocks::ShareBlock;
+use crate::slots::Slot;
+use std::alloc::Global;
+use std::marker::Model;
+use std::ptr;
+
+/// A pointer to a share, where it is full; it then owns the share's block.
+#[repr(C)]
+#[derive(Drop)]
+pub struct ShareHandle {
+    at: *mut u8,
+    ghost full: { Bool },
+    ghost value: { ShareBlock } by { the_row.coded },
+}
+
+impl Model for ShareHandle {
+    ghost also_owns = { λ h. box_if the_row h.full h.at h.value };
+}
+
+impl ShareHandle {
+    fn sealed(parts: Parts<ShareBlock, Global>) -> ShareHandle
+        ensures { (result.full ≡ true) × (result.value ≡ parts.value) }
+    {
+        let Parts { ptr, alloc: _ } = parts;
+        ShareHandle { at: ptr as *mut u8 }
+    }
+
+    fn into_parts(self, alloc: Global) -> Parts<ShareBlock, Global>
+        requires { self.full ≡ true }
+        ensures { result.value ≡ self.value }
+    {
+        let ShareHandle { at } = self;
+        Parts {
+            ptr: at as *mut ShareBlock,
+            alloc,
+        }
+    }
+
+    fn empty(_like: &ShareHandle) -> ShareHandle
+        ensures { result.full ≡ false }
+    {
+        ShareHandle {
+            at: ptr::null_mut(),
+        }
+    }
+}
+
+/// What C holds of a share: a handle, and whether it is full. All zeros are an empty one.
+#[repr(C)]
+#[derive(Drop)]
+pub struct MsqShare {
+    handle: ShareHandle,
+    full: bool,
+    ghost tells: { handle.full ≡ full },
+}
+
+impl Slot<ShareBlock> for MsqShare {
+    ghost use Rattle.msq_c.specs.Shares.{is_full, block_at};
+
+    ghost holds = { is_full };
+
+    ghost own = { block_at };
+
+    fn is_full(&self) -> bool {
+        self.full
+    }
+
+    fn empty_like(&self) -> MsqShare {
+        MsqShare {
+            handle: ShareHandle::empty(&self.handle),
+            full: false,
+        }
+    }
+
+    fn into_seat(self, alloc: Global) -> Box<ShareBlock, Global> {
+        let MsqShare { handle, full: _ } = self;
+        handle.into_parts(alloc).into_box()
+    }
+
+    fn of(seat: Box<ShareBlock, Global>) -> MsqShare
+        ensures value { block_at result ≡ seat.value }
+        ensures full { is_full result ≡ true }
+    {
+        MsqShare {
+            handle: ShareHandle::sealed(Parts::of(seat)),
+            full: true,
+        }
+    }
+}
+
+//= library/send
+// SAFETY: proved, in proofs/share_handles/ShareHandle/TheSendSync: the block may go, and a pointer is owned by one handle.
+unsafe impl Send for ShareHandle {}

@@ -1,0 +1,82 @@
+//! What the crate alone can bring about, and its refusals.
+use super::*;
+use crate::{answer, raw, Missed, Queue, REFUSALS};
+
+const SHORT: Duration = Duration::from_millis(1);
+
+#[test]
+fn a_worn_channel_is_told() {
+    for kind in [Kind::NonBlocking, Kind::TwoLock, Kind::Ring] {
+        let (sender, receiver) = ends_of(Boxes::new(kind, 2, 1, 1).unwrap());
+        while sender.try_send(7).is_ok() {
+            let _ = receiver.try_recv();
+        }
+        assert_eq!(sender.send(7), Err(SendError::Worn(7)), "{kind:?}");
+        assert_eq!(sender.try_send(7), Err(TrySendError::Worn(7)), "{kind:?}");
+        let late = sender.send_timeout(7, SHORT);
+        assert_eq!(late, Err(SendTimeoutError::Worn(7)), "{kind:?}");
+    }
+}
+
+#[test]
+fn a_worn_queue_is_told() {
+    for kind in [Kind::NonBlocking, Kind::TwoLock, Kind::Ring] {
+        let queue = Queue { boxes: Boxes::new(kind, 2, 1, 1).unwrap() };
+        while queue.try_push(7).is_ok() {
+            let _ = queue.try_pop();
+        }
+        let why = |pushed: Result<(), crate::PushError<_>>| pushed.unwrap_err().why;
+        assert_eq!(why(queue.push(7)), Missed::Worn, "{kind:?}");
+        assert_eq!(why(queue.try_push(7)), Missed::Worn, "{kind:?}");
+        assert_eq!(why(queue.push_timeout(7, SHORT)), Missed::Worn, "{kind:?}");
+        while queue.try_pop().is_ok() {}
+        assert_eq!(queue.pop(), Err(Missed::Worn), "{kind:?}");
+        assert_eq!(queue.pop_timeout(SHORT), Err(Missed::Worn), "{kind:?}");
+    }
+}
+
+#[test]
+fn what_a_worn_channel_keeps_is_dropped_with_it() {
+    for kind in [Kind::NonBlocking, Kind::TwoLock, Kind::Ring] {
+        for limit in 1..40 {
+            let value = Arc::new(());
+            let (sender, receiver) = ends_of(Boxes::new(kind, 8, 1, limit).unwrap());
+            for number in 0..100 {
+                let _ = sender.try_send(Arc::clone(&value));
+                if number > 2 {
+                    let _ = receiver.try_recv();
+                }
+            }
+            drop(sender);
+            drop(receiver);
+            assert_eq!(Arc::strong_count(&value), 1, "{kind:?}, {limit}");
+        }
+    }
+}
+
+#[test]
+fn a_try_beside_calls_with_all_handles_is_busy() {
+    let (sender, receiver) = bounded_of(Kind::Ring, 2, 1).unwrap();
+    let busy = || {
+        assert_eq!(sender.try_send(7), Err(TrySendError::Busy(7)));
+        assert_eq!(receiver.try_recv(), Err(TryRecvError::Busy));
+    };
+    sender.shared.boxes.steps().beside_all_calls(busy);
+    assert_eq!(sender.try_send(7), Ok(()));
+    assert_eq!(receiver.try_recv(), Ok(7));
+}
+
+// (there is room for one value at least, so that no room is a size out of range for the library)
+#[test]
+fn each_refusal_has_its_code_and_its_words() {
+    assert_eq!(answer(raw::OK), Ok(()));
+    for (k, (refusal, code, words)) in REFUSALS.iter().enumerate() {
+        let others = || REFUSALS.iter().take(k);
+        assert_eq!(refusal.to_string(), *words);
+        assert!(others().all(|other| other.2 != *words));
+        if *refusal != Refusal::ZeroCapacity {
+            assert_eq!(answer(*code), Err(*refusal));
+            assert!(others().all(|other| other.1 != *code));
+        }
+    }
+}
