@@ -3,8 +3,8 @@
  *
  * A call is stepped by the library, which touches the queue and tells what is to be done before the next step: to let others run,
  * to sleep on a word unless it has changed, or to wake who sleeps on it. A step has a handle to itself. So the handles of a queue
- * lie in a table, from which a call takes a free one, and gives it back before it sleeps. This table and the sleep are all that
- * isn't proved of a call.
+ * lie in a table: the first ones are owned by threads, and of the others a call takes a free one; each is given back before the
+ * call sleeps. This table and the sleep are all that isn't proved of a call.
  */
 #ifndef MSQ_CALLS_H
 #define MSQ_CALLS_H
@@ -12,9 +12,9 @@
 #include "msq_codes.h"
 
 #include <linux/futex.h>
+#include <pthread.h>
 #include <sched.h>
 #include <stdlib.h>
-#include <string.h>
 #include <sys/syscall.h>
 
 #ifdef __cplusplus
@@ -22,13 +22,13 @@
 #include <unistd.h>
 extern "C" {
 #else
-struct timespec;
 extern int clock_gettime(int clock, struct timespec *now); /* time.h and unistd.h name these not to each standard */
 extern long syscall(long number, ...);
 #endif
 
-/* A handle of a queue. All zeros are an empty one. */
+/* A handle of a queue of pointers, and of one of three words. All zeros are an empty one. */
 typedef struct msq_share { void *at; bool full; } msq_share;
+typedef struct msq_words_share { msq_share share; } msq_words_share;
 
 /* A call between two steps, by the library's numbers. */
 typedef struct msq_waiting_call {
@@ -80,13 +80,23 @@ MSQ_NODISCARD uint32_t msq_shares_close(msq_share *shares, size_t shares_len, ms
 /* Drops a handle, which is empty afterwards. With the last one the queue's memory is freed. */
 void msq_share_drop(msq_share *share);
 
+/* Those of queues of three words are as those of pointers. The words of a call lie in its caller's memory from begin to end:
+ * what a push pushes, or what a pop popped; else they stay. Its `word` is 0, and msq_call_give_up gives it up. */
+MSQ_NODISCARD uint32_t msq_words_shares_create(uint32_t kind, uint32_t capacity, uint64_t limit, msq_words_share *shares,
+                                               size_t shares_len);
+MSQ_NODISCARD uint32_t msq_words_share_begin(msq_words_share *share, uint8_t task, bool tries, msq_words *words,
+                                             msq_waiting_call *call, msq_act *act);
+uint32_t msq_words_call_step(msq_words_share *share, msq_words *words, msq_waiting_call *call, bool past, msq_act *act);
+uint32_t msq_words_share_len(msq_words_share *share, uint64_t *len);
+MSQ_NODISCARD uint32_t msq_words_share_listen(msq_words_share *share, uint8_t task, msq_act *act);
+MSQ_NODISCARD uint32_t msq_words_shares_close(msq_words_share *shares, size_t shares_len, msq_item *items, size_t items_len,
+                                              msq_rest *rest);
+void msq_words_share_drop(msq_words_share *share);
+
 #if defined(MSQ_THREAD_SANITIZER)
 void __tsan_acquire(void *at);
 void __tsan_release(void *at);
 #endif
-
-/* A moment of the monotonic clock, as the system has it. */
-typedef struct msq_moment { int64_t s, ns; } msq_moment;
 
 /* A handle, and whether a call has it: so far apart that two lie in lines of the cache of their own. */
 struct msq_place {
@@ -101,12 +111,19 @@ struct msq_watch { uint64_t *word; int more; };
 /* What is done with an object that is left at the end, with the context that the caller gave. */
 typedef void (*msq_free_one)(void *object, void *context);
 
-/* A queue: its handles, and the descriptors of those that wait for room, and for values. What is in it is its own. */
+/* How many threads have numbers, at most, and these threads, each by its identity, which one that ends leaves to whoever gets it
+ * next: a list for a program, and for each shared library. */
+#define MSQ_OWNERS 64
+__attribute__((weak, visibility("hidden"))) uintptr_t msq_owners[MSQ_OWNERS] = {0};
+
+/* A queue, of pointers or of three words: its handles, those that threads own, by their numbers in a list, before those that calls
+ * lease, and the descriptors of those that wait for room, and for values. What is in it is its own. */
 typedef struct msq_queue {
     struct msq_place *places;
-    size_t calls, capacity, references;
+    const uintptr_t *list;
+    size_t owned, calls, capacity, references;
     struct msq_watch watches[2];
-    bool is_closed;
+    bool is_closed, is_wide;
     msq_free_one free_one;
     void *context;
 } msq_queue;
@@ -120,40 +137,56 @@ typedef struct msq_queue {
 MSQ_BEGIN
 
 /* The moment in so many nanoseconds, by CLOCK_MONOTONIC. */
-MSQ_INLINE msq_moment msq_moment_in(uint64_t ns) {
-    msq_moment moment = {0, 0};
-    clock_gettime(1, (struct timespec *)(void *)&moment);
-    moment.ns += (int64_t)(ns % 1000000000);
-    moment.s += (int64_t)(ns / 1000000000) + moment.ns / 1000000000;
-    moment.ns %= 1000000000;
+MSQ_INLINE struct timespec msq_moment_in(uint64_t ns) {
+    struct timespec moment = {0, 0};
+    clock_gettime(1, &moment);
+    moment.tv_nsec += (long)(ns % 1000000000);
+    moment.tv_sec += (time_t)(ns / 1000000000) + moment.tv_nsec / 1000000000;
+    moment.tv_nsec %= 1000000000;
     return moment;
 }
 
 /* Whether there is such a moment, and it is past. */
-MSQ_INLINE bool msq_is_past(const msq_moment *until) {
-    msq_moment now;
+MSQ_INLINE bool msq_is_past(const struct timespec *until) {
+    struct timespec now;
     if (until == NULL) {
         return false;
     }
     now = msq_moment_in(0);
-    return now.s > until->s || (now.s == until->s && now.ns >= until->ns);
+    return now.tv_sec > until->tv_sec || (now.tv_sec == until->tv_sec && now.tv_nsec >= until->tv_nsec);
 }
 
-/* Where this thread begins to look for a handle, as a part of 2^32: far from where the threads before it do. */
-MSQ_INLINE uint32_t msq_first_place(void) {
-    static uint32_t threads;
-    static __thread uint32_t mine;
-    if (mine == 0) {
-        mine = (__atomic_fetch_add(&threads, 1, __ATOMIC_RELAXED) * 2 + 1) * UINT32_C(2654435769);
+/* The number of this thread, its place in the list; MSQ_OWNERS where that is full. */
+MSQ_INLINE size_t msq_number(void) {
+    static __thread size_t above; /* one above it */
+    if (above == 0) {
+        const uintptr_t me = (uintptr_t)pthread_self();
+        size_t k = 0;
+        for (uintptr_t who = 0; k < MSQ_OWNERS; k++, who = 0) {
+            if (__atomic_compare_exchange_n(&msq_owners[k], &who, me, false, __ATOMIC_SEQ_CST, __ATOMIC_SEQ_CST) || who == me) {
+                break;
+            }
+        }
+        above = k + 1;
     }
-    return mine;
+    return above - 1;
 }
 
-/* Takes a handle that is free; NULL where none is. */
+/* Takes a handle that is free: this thread's own, which no other thread takes, unless a call of its has it already; else one of
+ * those that are leased. NULL where none is. */
 MSQ_INLINE struct msq_place *msq_take(const msq_queue *queue) {
-    size_t k = (size_t)((uint64_t)msq_first_place() * queue->calls >> 32);
+    const size_t number = msq_number();
+    size_t k;
+    if (number < queue->owned && queue->list == msq_owners) {
+        struct msq_place *own = &queue->places[number];
+        if (!__atomic_load_n(&own->taken, __ATOMIC_ACQUIRE)) {
+            __atomic_store_n(&own->taken, true, __ATOMIC_RELAXED);
+            return own;
+        }
+    }
+    k = (uint32_t)((uintptr_t)pthread_self() >> 12) * UINT32_C(2654435769) * (uint64_t)queue->calls >> 32; /* far from others' */
     for (size_t looked = 0; looked < queue->calls; looked++) {
-        struct msq_place *place = &queue->places[k];
+        struct msq_place *place = &queue->places[queue->owned + k];
         if (!__atomic_load_n(&place->taken, __ATOMIC_RELAXED) && !__atomic_exchange_n(&place->taken, true, __ATOMIC_ACQUIRE)) {
             return place;
         }
@@ -200,7 +233,7 @@ MSQ_INLINE struct msq_sleep_word msq_sleep_word_of(uint32_t heard, const void *w
 }
 
 /* Sleeps unless one of these words has changed since it was heard, until a wake or this moment, if there is one. */
-MSQ_INLINE void msq_sleep_on(const struct msq_sleep_word *words, size_t count, const msq_moment *until) {
+MSQ_INLINE void msq_sleep_on(const struct msq_sleep_word *words, size_t count, const struct timespec *until) {
     /* futex_waitv, which older headers don't name; before Linux 5.16 there is none */
     if (syscall(449, words, (long)count, 0L, until, 1L) < 0) {
         sched_yield();
@@ -208,7 +241,7 @@ MSQ_INLINE void msq_sleep_on(const struct msq_sleep_word *words, size_t count, c
 }
 
 /* The same on the word of a call; also until `stop`, if there is one, isn't 0, and a wake of it. */
-MSQ_INLINE void msq_sleep(const msq_act *act, const msq_moment *until, const uint32_t *stop) {
+MSQ_INLINE void msq_sleep(const msq_act *act, const struct timespec *until, const uint32_t *stop) {
     if (stop != NULL) {
         const struct msq_sleep_word words[] = {msq_sleep_word_of(act->heard, act->word), msq_sleep_word_of(0, stop)};
         msq_sleep_on(words, 2, until);
@@ -223,9 +256,10 @@ MSQ_INLINE void msq_stop(uint32_t *stop) {
     syscall(SYS_futex, stop, (long)FUTEX_WAKE_PRIVATE, (long)INT32_MAX, NULL, NULL, 0L);
 }
 
-/* A call under way: its word, what is to be done before its next step, and whether it has made one. */
+/* A call under way: its word or words, what is to be done before its next step, and whether it has made one. */
 struct msq_going {
     uint64_t word;
+    msq_words words;
     uint8_t task;
     bool tries, begun;
     msq_waiting_call call;
@@ -240,9 +274,14 @@ MSQ_INLINE void msq_start(struct msq_going *it, uint8_t task, bool tries, uint64
     it->act.what = MSQ_YIELD;
 }
 
-/* Makes the next steps of a call by a handle. */
-MSQ_INLINE void msq_step(msq_share *share, struct msq_going *it, bool past) {
-    if (it->begun) {
+/* Makes the next steps of a call by a handle of its queue. */
+MSQ_INLINE void msq_step(const msq_queue *queue, msq_share *share, struct msq_going *it, bool past) {
+    msq_words_share *wide = (msq_words_share *)(void *)share;
+    if (queue->is_wide && it->begun) {
+        (void)msq_words_call_step(wide, &it->words, &it->call, past, &it->act);
+    } else if (queue->is_wide) {
+        it->begun = msq_words_share_begin(wide, it->task, it->tries, &it->words, &it->call, &it->act) == MSQ_OK;
+    } else if (it->begun) {
         (void)msq_call_step(share, &it->call, past, &it->act);
         it->word = it->call.word;
     } else {
@@ -262,7 +301,7 @@ MSQ_INLINE void msq_go_on(const msq_queue *queue, struct msq_going *it, bool pas
 #if defined(MSQ_THREAD_SANITIZER)
     __tsan_release(queue->places);
 #endif
-    for (msq_step(&place->share, it, past); it->act.what == MSQ_WAKE; msq_step(&place->share, it, past)) {
+    for (msq_step(queue, &place->share, it, past); it->act.what == MSQ_WAKE; msq_step(queue, &place->share, it, past)) {
         msq_wake(queue, &it->act);
     }
 #if defined(MSQ_THREAD_SANITIZER)
@@ -284,7 +323,7 @@ MSQ_INLINE void msq_back_off(unsigned *times) {
 }
 
 /* Makes a call to its end that has begun: it sleeps until then, or until this moment, or a stop, if there is one. */
-MSQ_INLINE void msq_finish(const msq_queue *queue, struct msq_going *it, const msq_moment *until, const uint32_t *stop) {
+MSQ_INLINE void msq_finish(const msq_queue *queue, struct msq_going *it, const struct timespec *until, const uint32_t *stop) {
     unsigned times = 0;
     while (it->act.what != MSQ_TELL) {
         if (it->act.what == MSQ_SLEEP) {
@@ -304,7 +343,7 @@ MSQ_INLINE msq_code msq_answer(const struct msq_going *it) {
 }
 
 /* Makes a push or a pop, which tries first, and then waits, if it is to. */
-MSQ_INLINE msq_code msq_make(const msq_queue *queue, struct msq_going *it, bool waits, const msq_moment *until,
+MSQ_INLINE msq_code msq_make(const msq_queue *queue, struct msq_going *it, bool waits, const struct timespec *until,
                              const uint32_t *stop) {
     msq_go_on(queue, it, true);
     msq_finish(queue, it, NULL, NULL);
@@ -314,33 +353,6 @@ MSQ_INLINE msq_code msq_make(const msq_queue *queue, struct msq_going *it, bool 
         msq_finish(queue, it, until, stop);
     }
     return msq_answer(it);
-}
-
-/* The descriptor of those that wait as calls of this task do: made where there is none yet; below 0, and errno, where it can't
- * be. */
-MSQ_INLINE int msq_watch(msq_queue *queue, uint8_t task) {
-    struct msq_watch *watch = &queue->watches[task];
-    int more = __atomic_load_n(&watch->more, __ATOMIC_SEQ_CST), made;
-    struct msq_place *place;
-    msq_act act;
-    if (more > 0) {
-        return more - 1;
-    }
-    made = (int)syscall(SYS_eventfd2, 0L, 02004000L); /* it neither blocks, nor goes to another program */
-    if (made < 0) {
-        return made;
-    }
-    if (!__atomic_compare_exchange_n(&watch->more, &more, made + 1, false, __ATOMIC_SEQ_CST, __ATOMIC_SEQ_CST)) {
-        syscall(SYS_close, (long)made);
-        return more - 1;
-    }
-    place = msq_take_once_free(queue);
-    if (msq_share_listen(&place->share, task, &act) == MSQ_OK) {
-        __atomic_store_n(&watch->word, act.word, __ATOMIC_SEQ_CST);
-    }
-    msq_give(place);
-    msq_signal(watch); /* also for what was rung before the word was known */
-    return made;
 }
 
 MSQ_END

@@ -54,6 +54,14 @@ typedef struct msq_value {
     uint16_t from;
 } msq_value;
 
+/* A value of three words, and one with the number of its seat. */
+typedef struct msq_words { uint64_t word[3]; } msq_words;
+
+typedef struct msq_item {
+    msq_words words;
+    uint16_t from;
+} msq_item;
+
 typedef struct msq_rest {
     uint64_t left;  /* how many values were left */
     uint64_t taken; /* how many were popped in all */
@@ -80,7 +88,7 @@ typedef struct msq_rest {
 #define MSQ_BEGIN
 #define MSQ_END
 #else
-#define MSQ_INLINE inline
+#define MSQ_INLINE inline __attribute__((visibility("hidden"))) /* so that it is of one library */
 #if defined(MSQ_THREAD_SANITIZER)
 #define MSQ_BEGIN inline namespace msq_with_threads {
 #elif defined(MSQ_DEBUG) && defined(MSQ_ADDRESS_SANITIZER)

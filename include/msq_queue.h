@@ -30,22 +30,28 @@ typedef struct msq_case {
     msq_code code;
 } msq_case;
 
-/* How many calls of a queue may be under way at one moment where nothing else is said, and the cases of one msq_select, at most. */
+/* How many calls of further threads may be under way at one moment where nothing else is said, and the cases of one msq_select. */
 #define MSQ_CALLS_AT_ONCE 16
 #define MSQ_MOST_CASES 64
+/* The greatest limit, which asks for as much as a queue can have. */
+#define MSQ_MOST (((uint64_t)1 << 62) - 1)
 
 MSQ_BEGIN
 
 /* A new queue, whose words count up to a limit. Its handles are made at the front of their places, and then put apart. */
 MSQ_NODISCARD MSQ_INLINE msq_code msq_queue_open(msq_queue **queue, msq_kind kind, size_t capacity, unsigned calls, uint64_t limit,
-                                                 msq_free_one free_one, void *context) {
-    const size_t count = calls > 0 ? calls : capacity < MSQ_CALLS_AT_ONCE - 2 ? capacity + 2 : MSQ_CALLS_AT_ONCE;
+                                                 bool is_wide, msq_free_one free_one, void *context) {
+    const size_t leased = calls > 0 ? calls : capacity < MSQ_CALLS_AT_ONCE - 2 ? capacity + 2 : MSQ_CALLS_AT_ONCE;
+    const size_t most = leased < MSQ_OWNERS ? leased : MSQ_OWNERS, few = capacity / 2 < most ? capacity / 2 : most;
+    const size_t owned = leased + few > INT16_MAX ? 0 : few, count = owned + leased;
     msq_queue *made = (msq_queue *)calloc(1, sizeof *made);
     struct msq_place *places = (struct msq_place *)calloc(count, sizeof *places);
     msq_share *shares = (msq_share *)(void *)places;
     msq_code code = MSQ_MEMORY;
     if (capacity > UINT32_MAX || count > INT16_MAX) {
         code = MSQ_BAD_SIZE;
+    } else if (made != NULL && places != NULL && is_wide) {
+        code = (msq_code)msq_words_shares_create((uint32_t)kind, (uint32_t)capacity, limit, (msq_words_share *)(void *)shares, count);
     } else if (made != NULL && places != NULL) {
         code = (msq_code)msq_shares_create((uint32_t)kind, (uint32_t)capacity, limit, shares, count);
     }
@@ -58,7 +64,7 @@ MSQ_NODISCARD MSQ_INLINE msq_code msq_queue_open(msq_queue **queue, msq_kind kin
         const struct msq_place place = {shares[k], false, {0}};
         places[k] = place;
     }
-    const msq_queue filled = {places, count, capacity, 1, {{NULL, 0}, {NULL, 0}}, false, free_one, context};
+    const msq_queue filled = {places, msq_owners, owned, leased, capacity, 1, {{NULL, 0}, {NULL, 0}}, false, is_wide, free_one, context};
     *made = filled;
     *queue = made;
     return MSQ_OK;
@@ -76,7 +82,7 @@ MSQ_INLINE msq_code msq_told(msq_queue *queue, msq_code code, bool has_time, msq
 }
 
 /* A push up to this moment, or a stop, if there is one. */
-MSQ_INLINE msq_code msq_queue_put(msq_queue *queue, void *object, bool tries, const msq_moment *until, const uint32_t *stop) {
+MSQ_INLINE msq_code msq_queue_put(msq_queue *queue, void *object, bool tries, const struct timespec *until, const uint32_t *stop) {
     struct msq_going push;
     if ((uint64_t)(uintptr_t)object >> 48 != 0) {
         return MSQ_BAD_SIZE;
@@ -86,7 +92,7 @@ MSQ_INLINE msq_code msq_queue_put(msq_queue *queue, void *object, bool tries, co
 }
 
 /* A pop up to this moment, or a stop, if there is one. */
-MSQ_INLINE msq_code msq_queue_get(msq_queue *queue, void **object, bool tries, const msq_moment *until, const uint32_t *stop) {
+MSQ_INLINE msq_code msq_queue_get(msq_queue *queue, void **object, bool tries, const struct timespec *until, const uint32_t *stop) {
     struct msq_going pop;
     msq_code code;
     msq_start(&pop, MSQ_POPS, true, 0);
@@ -103,20 +109,25 @@ MSQ_INLINE void msq_queue_free_one(const msq_queue *queue, void *object) {
     }
 }
 
-/* Drops all handles, put together again. Of a list whose words are worn, they end the queue, and what no pop gives is freed; where
- * there is no memory for these objects, they are lost. */
+/* Drops all handles, put together again. Of a list of pointers whose words are worn, they end the queue, and what no pop gives is
+ * freed; where there is no memory for these objects, they are lost. */
 MSQ_INLINE void msq_queue_drop(const msq_queue *queue, size_t left) {
     msq_share *shares = (msq_share *)(void *)queue->places;
     msq_value *values = left > 0 ? (msq_value *)calloc(left, sizeof *values) : NULL;
+    const size_t count = queue->owned + queue->calls;
     msq_rest rest = {0, 0, false, false};
-    for (size_t k = 1; k < queue->calls; k++) {
+    for (size_t k = 1; k < count; k++) {
         shares[k] = queue->places[k].share;
     }
-    if (values == NULL || msq_shares_close(shares, queue->calls, values, left, &rest) != MSQ_OK) {
+    if (values == NULL || msq_shares_close(shares, count, values, left, &rest) != MSQ_OK) {
         rest.left = 0;
     }
-    for (size_t k = 0; k < queue->calls; k++) {
-        msq_share_drop(&shares[k]);
+    for (size_t k = 0; k < count; k++) {
+        if (queue->is_wide) {
+            msq_words_share_drop((msq_words_share *)(void *)&shares[k]);
+        } else {
+            msq_share_drop(&shares[k]);
+        }
     }
     for (size_t k = 0; k < left && k < rest.left; k++) {
         msq_queue_free_one(queue, (void *)(uintptr_t)values[k].body);
@@ -149,7 +160,7 @@ MSQ_INLINE bool msq_is_done(msq_case *one, const struct msq_going *it) {
 }
 
 /* Steps the calls of all cases until one is done, which is told, or all are late: then it is as many as there are. */
-MSQ_INLINE size_t msq_first_done(msq_case *cases, struct msq_going *calls, size_t count, const msq_moment *until, bool past) {
+MSQ_INLINE size_t msq_first_done(msq_case *cases, struct msq_going *calls, size_t count, const struct timespec *until, bool past) {
     for (unsigned times = 0;; past = past || msq_is_past(until)) {
         struct msq_sleep_word words[MSQ_MOST_CASES];
         size_t asleep = 0, late = 0;
@@ -177,16 +188,15 @@ MSQ_INLINE size_t msq_first_done(msq_case *cases, struct msq_going *calls, size_
     }
 }
 
-/* The calls. */
-
 /* A queue with room for exactly `capacity` objects, 1 or more, and one reference. What is left with the last reference goes to
  * free_one, from the front, unless that is NULL. The first is of a kind, and so many calls of it, up to 32,767, may be under way at
- * one moment beside those that sleep; further ones wait for these, or are told MSQ_BUSY. Each takes some 280 bytes. 0 is as many
- * as the second one takes, which is a ring: two more than it has room for, and MSQ_CALLS_AT_ONCE at most. MSQ_OK, MSQ_BAD_SIZE or
+ * one moment beside those that sleep; further ones wait for these, or are told MSQ_BUSY. 0 is as many as the second one takes,
+ * which is a ring: two more than it has room for, and MSQ_CALLS_AT_ONCE at most. Beside these the first threads that call any queue,
+ * as many, up to 64 and half of the room, have a handle of their own. A handle takes some 280 bytes. MSQ_OK, MSQ_BAD_SIZE or
  * MSQ_MEMORY: refused, `queue` is as it was. */
 MSQ_NODISCARD MSQ_INLINE msq_code msq_queue_new_of(msq_queue **queue, msq_kind kind, size_t capacity, unsigned calls,
                                                    msq_free_one free_one, void *context) {
-    return msq_queue_open(queue, kind, capacity, calls, ((uint64_t)1 << 62) - 1, free_one, context);
+    return msq_queue_open(queue, kind, capacity, calls, MSQ_MOST, false, free_one, context);
 }
 MSQ_NODISCARD MSQ_INLINE msq_code msq_queue_new(msq_queue **queue, size_t capacity, msq_free_one free_one, void *context) {
     return msq_queue_new_of(queue, MSQ_RING, capacity, 0, free_one, context);
@@ -207,13 +217,11 @@ MSQ_NODISCARD MSQ_INLINE msq_code msq_queue_try_push(msq_queue *queue, void *obj
     return msq_queue_put(queue, object, true, NULL, NULL);
 }
 MSQ_NODISCARD MSQ_INLINE msq_code msq_queue_push_for(msq_queue *queue, void *object, uint64_t ns) {
-    const msq_moment until = msq_moment_in(ns);
+    const struct timespec until = msq_moment_in(ns);
     return msq_queue_put(queue, object, false, &until, NULL);
 }
 MSQ_NODISCARD MSQ_INLINE msq_code msq_queue_push_until(msq_queue *queue, void *object, const struct timespec *at) {
-    msq_moment until;
-    memcpy(&until, at, sizeof until);
-    return msq_queue_put(queue, object, false, &until, NULL);
+    return msq_queue_put(queue, object, false, at, NULL);
 }
 
 /* Pops the object at the front, which is written at MSQ_OK alone. MSQ_OK, MSQ_CLOSED or MSQ_WORN; the try also MSQ_EMPTY or
@@ -225,13 +233,11 @@ MSQ_NODISCARD MSQ_INLINE msq_code msq_queue_try_pop(msq_queue *queue, void **obj
     return msq_queue_get(queue, object, true, NULL, NULL);
 }
 MSQ_NODISCARD MSQ_INLINE msq_code msq_queue_pop_for(msq_queue *queue, void **object, uint64_t ns) {
-    const msq_moment until = msq_moment_in(ns);
+    const struct timespec until = msq_moment_in(ns);
     return msq_queue_get(queue, object, false, &until, NULL);
 }
 MSQ_NODISCARD MSQ_INLINE msq_code msq_queue_pop_until(msq_queue *queue, void **object, const struct timespec *at) {
-    msq_moment until;
-    memcpy(&until, at, sizeof until);
-    return msq_queue_get(queue, object, false, &until, NULL);
+    return msq_queue_get(queue, object, false, at, NULL);
 }
 
 /* No more pushes: what is in the queue stays to be popped, and all that sleep are told. Of a closed queue nothing. */
@@ -252,7 +258,7 @@ MSQ_INLINE bool msq_queue_is_closed(const msq_queue *queue) {
 MSQ_INLINE size_t msq_queue_len(const msq_queue *queue) {
     struct msq_place *place = msq_take_once_free(queue);
     uint64_t len = 0;
-    (void)msq_share_len(&place->share, &len);
+    (void)(queue->is_wide ? msq_words_share_len((msq_words_share *)(void *)&place->share, &len) : msq_share_len(&place->share, &len));
     msq_give(place);
     return (size_t)len;
 }
@@ -263,11 +269,11 @@ MSQ_INLINE size_t msq_queue_capacity(const msq_queue *queue) {
 /* One reference less; of NULL nothing. */
 MSQ_INLINE void msq_queue_unref(msq_queue *queue) {
     void *object;
-    msq_code code;
+    msq_code code = MSQ_OK;
     if (queue == NULL || __atomic_fetch_sub(&queue->references, 1, __ATOMIC_ACQ_REL) != 1) {
         return;
     }
-    while ((code = msq_queue_get(queue, &object, true, NULL, NULL)) == MSQ_OK) {
+    while (!queue->is_wide && (code = msq_queue_get(queue, &object, true, NULL, NULL)) == MSQ_OK) {
         msq_queue_free_one(queue, object);
     }
     for (size_t k = 0; k < 2; k++) {
@@ -283,7 +289,28 @@ MSQ_INLINE void msq_queue_unref(msq_queue *queue) {
 /* A descriptor, of the queue, that is readable after an object came, or room, or the queue was closed, and at first: whoever
  * polls it reads its eight bytes and then tries until the queue is empty, or full. -1, and errno, where there can be none. */
 MSQ_INLINE int msq_queue_fd(msq_queue *queue, msq_side side) {
-    return msq_watch(queue, (uint8_t)side);
+    struct msq_watch *watch = &queue->watches[side];
+    int more = __atomic_load_n(&watch->more, __ATOMIC_SEQ_CST), made;
+    struct msq_place *place;
+    msq_act act;
+    if (more > 0) {
+        return more - 1;
+    }
+    made = (int)syscall(SYS_eventfd2, 0L, 02004000L); /* it neither blocks, nor goes to another program */
+    if (made < 0) {
+        return made;
+    }
+    if (!__atomic_compare_exchange_n(&watch->more, &more, made + 1, false, __ATOMIC_SEQ_CST, __ATOMIC_SEQ_CST)) {
+        syscall(SYS_close, (long)made);
+        return more - 1;
+    }
+    place = msq_take_once_free(queue);
+    if (msq_share_listen(&place->share, (uint8_t)side, &act) == MSQ_OK) {
+        __atomic_store_n(&watch->word, act.word, __ATOMIC_SEQ_CST);
+    }
+    msq_give(place);
+    msq_signal(watch); /* also for what was rung before the word was known */
+    return made;
 }
 
 /* Does one of these cases, up to MSQ_MOST_CASES, and tells which, with its answer in its `code`: MSQ_OK, MSQ_CLOSED or MSQ_WORN.
@@ -291,7 +318,7 @@ MSQ_INLINE int msq_queue_fd(msq_queue *queue, msq_side side) {
  * time, or where there are more cases than that, or the `code` of one is MSQ_BAD_SIZE, whose pointer is from 2^48 on. Wants
  * Linux 5.16 to sleep; before that it yields. */
 MSQ_NODISCARD MSQ_INLINE ptrdiff_t msq_select(msq_case *cases, size_t count, uint64_t ns) {
-    const msq_moment until = msq_moment_in(ns);
+    const struct timespec until = msq_moment_in(ns);
     struct msq_going calls[MSQ_MOST_CASES];
     size_t done;
     if (count > MSQ_MOST_CASES) {

@@ -4,8 +4,8 @@
 // A `queue` is a handle, and its copies share one queue, which goes with the last of them; what is left in it is destroyed. Several
 // threads may use one handle, or each its own. What a call answers is true in a condition where it is done, and else tells why not.
 //
-// A number of up to six bytes and a pointer lie in the queue; any other value is in a box, made by the global new as it is pushed.
-// A pointer from 2^48 on is refused. Of calls, what is proved of them and what is tested msq_queue.h says more.
+// What is trivially copyable, and up to 24 bytes, lies in the queue; any other value is in a box, made by the global new as it is
+// pushed. A pointer from 2^48 on is refused. Of calls, what is proved of them and what is tested msq_queue.h says more.
 #ifndef MSQ_QUEUE_HPP
 #define MSQ_QUEUE_HPP
 
@@ -50,20 +50,26 @@ struct options {
 MSQ_BEGIN
 namespace detail {
 
-// Whether a value lies in the queue itself.
-template <class T>
-struct lies_in_word : std::integral_constant<bool, ((std::is_arithmetic<T>::value || std::is_enum<T>::value) && sizeof(T) <= 6) ||
-                                                       std::is_pointer<T>::value> {};
+// How a value goes through a queue: in the queue's word, in three words, or in a box.
+enum class way { word, words, box };
 
-// A value outside of a queue, in a box or as it is, or none. `peek` gives it to a queue as a pointer, `in` takes it from there.
-template <class T, bool in_word = lies_in_word<T>::value> class held {
+template <class T> constexpr way way_of() {
+    return ((std::is_arithmetic<T>::value || std::is_enum<T>::value) && sizeof(T) <= 6) || std::is_pointer<T>::value ? way::word
+           : std::is_trivially_copyable<T>::value && sizeof(T) <= sizeof(msq_words) && alignof(T) <= alignof(msq_words) ? way::words
+                                                                                                                        : way::box;
+}
+
+// A value outside of a queue, in a box or as it is, or none. `peek` gives it to a queue as `passed`, `in` takes it from there.
+template <class T, way = way_of<T>()> class held {
 public:
+    using passed = void *;
     template <class... A> static held made(A &&...from) { return in(::new T(std::forward<A>(from)...)); }
     static held in(void *object) noexcept {
         held it;
         it.box_.reset(static_cast<T *>(object));
         return it;
     }
+    static void end(void *object, void *) noexcept { in(object); }
     void *peek() const noexcept { return box_.get(); }
     void let_go() noexcept { box_.release(); }
     T *get() noexcept { return box_.get(); }
@@ -77,8 +83,10 @@ private:
     };
     std::unique_ptr<T, freed> box_;
 };
-template <class T> class held<T, true> {
+
+template <class T> class held<T, way::word> {
 public:
+    using passed = void *;
     template <class... A> static held made(A &&...from) {
         held it;
         it.value_ = T(std::forward<A>(from)...);
@@ -90,6 +98,7 @@ public:
         std::memcpy(&it.value_, &word, sizeof it.value_);
         return it;
     }
+    static void end(void *, void *) noexcept {}
     void *peek() const noexcept {
         uint64_t word = 0;
         std::memcpy(&word, &value_, sizeof value_);
@@ -101,9 +110,56 @@ public:
 private:
     T value_{};
 };
+template <class T> class held<T, way::words> {
+public:
+    using passed = msq_words;
+    template <class... A> static held made(A &&...from) {
+        held it;
+        ::new (static_cast<void *>(it.bytes_)) T(std::forward<A>(from)...);
+        return it;
+    }
+    static held in(const msq_words &words) noexcept {
+        held it;
+        std::memcpy(it.bytes_, &words, sizeof it.bytes_);
+        return it;
+    }
+    static void end(void *, void *) noexcept {}
+    msq_words peek() const noexcept {
+        msq_words words{};
+        std::memcpy(&words, bytes_, sizeof bytes_);
+        return words;
+    }
+    void let_go() noexcept {}
+    T *get() noexcept { return reinterpret_cast<T *>(bytes_); }
+
+private:
+    alignas(T) unsigned char bytes_[sizeof(T)];
+};
+
+// A push and a pop of what is passed: as msq_queue_put and msq_queue_get, also of three words.
+inline msq_code put(msq_queue *at, void *object, bool tries, const timespec *until, const uint32_t *stop) noexcept {
+    return msq_queue_put(at, object, tries, until, stop);
+}
+inline msq_code put(msq_queue *at, const msq_words &words, bool tries, const timespec *until, const uint32_t *stop) noexcept {
+    msq_going push;
+    msq_start(&push, MSQ_PUSHES, true, 0);
+    push.words = words;
+    return msq_told(at, msq_make(at, &push, !tries, until, stop), until != nullptr || stop != nullptr, MSQ_FULL);
+}
+inline msq_code get(msq_queue *at, void *&object, bool tries, const timespec *until, const uint32_t *stop) noexcept {
+    return msq_queue_get(at, &object, tries, until, stop);
+}
+inline msq_code get(msq_queue *at, msq_words &words, bool tries, const timespec *until, const uint32_t *stop) noexcept {
+    msq_going pop;
+    msq_start(&pop, MSQ_POPS, true, 0);
+    pop.words = words;
+    const msq_code code = msq_make(at, &pop, !tries, until, stop);
+    words = pop.words;
+    return msq_told(at, code, until != nullptr || stop != nullptr, MSQ_EMPTY);
+}
 
 // The moment in so much time: none below 0 nanoseconds, and at most about 292 years.
-template <class Rep, class Period> msq_moment moment_in(std::chrono::duration<Rep, Period> time) {
+template <class Rep, class Period> timespec moment_in(std::chrono::duration<Rep, Period> time) {
     const long double ns = std::chrono::duration<long double, std::nano>(time).count();
     return msq_moment_in(static_cast<uint64_t>(std::min(std::max(ns, 0.0L), 9.2e18L)));
 }
@@ -139,7 +195,7 @@ public:
 
 private:
     template <class U> friend class queue;
-    popped(msq_code code, void *object) : code_(static_cast<status>(code)), value_(detail::held<T>::in(object)) {}
+    popped(msq_code code, detail::held<T> value) : code_(static_cast<status>(code)), value_(std::move(value)) {}
     status code_;
     detail::held<T> value_;
 };
@@ -186,7 +242,7 @@ public:
     template <class... A> pushed<T> emplace(A &&...from) { return put(held::made(std::forward<A>(from)...), false); }
     pushed<T> try_push(T value) { return put(held::made(std::move(value)), true); }
     template <class Rep, class Period> pushed<T> push_for(T value, std::chrono::duration<Rep, Period> time) {
-        const msq_moment until = detail::moment_in(time);
+        const timespec until = detail::moment_in(time);
         return put(held::made(std::move(value)), false, &until);
     }
     template <class Clock, class Duration> pushed<T> push_until(T value, std::chrono::time_point<Clock, Duration> at) {
@@ -197,7 +253,7 @@ public:
     popped<T> pop() { return get(false); }
     popped<T> try_pop() { return get(true); }
     template <class Rep, class Period> popped<T> pop_for(std::chrono::duration<Rep, Period> time) {
-        const msq_moment until = detail::moment_in(time);
+        const timespec until = detail::moment_in(time);
         return get(false, &until);
     }
     template <class Clock, class Duration> popped<T> pop_until(std::chrono::time_point<Clock, Duration> at) {
@@ -266,7 +322,7 @@ public:
         friend class queue;
         explicit iterator(queue *from) : from_(from) { ++*this; }
         queue *from_ = nullptr;
-        mutable popped<T> value_{MSQ_CLOSED, nullptr};
+        mutable popped<T> value_{MSQ_CLOSED, held::in({})};
     };
     iterator begin() { return iterator(this); }
     iterator end() noexcept { return iterator(); }
@@ -277,21 +333,21 @@ private:
     queue() noexcept = default;
 
     msq_code open(std::size_t capacity, options how) noexcept {
-        return msq_queue_new_of(&at_, static_cast<msq_kind>(how.kind), capacity, how.calls, end_one, nullptr);
+        const bool is_wide = detail::way_of<T>() == detail::way::words;
+        return msq_queue_open(&at_, static_cast<msq_kind>(how.kind), capacity, how.calls, MSQ_MOST, is_wide, held::end, nullptr);
     }
-    static void end_one(void *object, void *) noexcept { held::in(object); }
 
-    pushed<T> put(held value, bool tries, const msq_moment *until = nullptr, const uint32_t *stop = nullptr) {
-        const msq_code code = msq_queue_put(at_, value.peek(), tries, until, stop);
+    pushed<T> put(held value, bool tries, const timespec *until = nullptr, const uint32_t *stop = nullptr) {
+        const msq_code code = detail::put(at_, value.peek(), tries, until, stop);
         if (code == MSQ_OK) {
             value.let_go();
         }
         return {code, std::move(value)};
     }
-    popped<T> get(bool tries, const msq_moment *until = nullptr, const uint32_t *stop = nullptr) {
-        void *object = nullptr;
-        const msq_code code = msq_queue_get(at_, &object, tries, until, stop);
-        return {code, object};
+    popped<T> get(bool tries, const timespec *until = nullptr, const uint32_t *stop = nullptr) {
+        typename held::passed one{};
+        const msq_code code = detail::get(at_, one, tries, until, stop);
+        return {code, held::in(one)};
     }
 
     msq_queue *at_ = nullptr;

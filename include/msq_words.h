@@ -13,15 +13,6 @@
 extern "C" {
 #endif
 
-/* A value of three words. */
-typedef struct msq_words { uint64_t word[3]; } msq_words;
-
-/* A value that was popped, and the number of the seat that pushed it, from 1 on in the order of the roles. */
-typedef struct msq_item {
-    msq_words words;
-    uint16_t from;
-} msq_item;
-
 /* Seats of queues of three words, and of one: all zeros, or what the last call left. */
 typedef struct msq_words_seat { msq_seat seat; } msq_words_seat;
 typedef struct msq_word_seat { msq_seat seat; } msq_word_seat;

@@ -49,14 +49,24 @@ static void sizes_have_their_ranges(msq_kind kind) {
     msq_queue_unref(NULL);
 }
 
-/* As many calls at once as fit the room, where nobody says how many. */
+/* As many calls at once as fit the room, where nobody says how many, and as many threads with handles as half of it. */
 static void calls_fit_the_room(msq_kind kind) {
     msq_queue *queue = NULL;
-    for (size_t capacity = 1; capacity < 30; capacity++) {
+    for (size_t capacity = 1; capacity < 40; capacity++) {
         expect("a queue", msq_queue_new_of(&queue, kind, capacity, 0, NULL, NULL), MSQ_OK);
         expect("its calls", queue->calls, capacity < 14 ? capacity + 2 : 16);
+        expect("its owners", queue->owned, capacity < 32 ? capacity / 2 : 16);
         msq_queue_unref(queue);
     }
+    for (unsigned calls = 1; calls < 200; calls += 9) {
+        expect("a queue", msq_queue_new_of(&queue, kind, 1000, calls, NULL, NULL), MSQ_OK);
+        expect("its calls", queue->calls, calls);
+        expect("its owners", queue->owned, calls < MSQ_OWNERS ? calls : MSQ_OWNERS);
+        msq_queue_unref(queue);
+    }
+    expect("most calls", msq_queue_new_of(&queue, kind, 1000, INT16_MAX, NULL, NULL), MSQ_OK);
+    expect("no owner beside them", queue->owned, 0);
+    msq_queue_unref(queue);
 }
 
 /* Room is what was asked for: full there, and never above. */
@@ -99,19 +109,80 @@ static void a_time_is_told(msq_kind kind) {
     msq_queue_unref(queue);
 }
 
-/* A call that finds each handle taken: a try is busy, and what has a time is late. */
+/* A call that finds each handle taken, as one within another call does: a try is busy, and what has a time is late. */
 static void calls_are_busy(msq_kind kind) {
     msq_queue *queue = made(kind, 2);
     void *object = queue;
-    struct msq_place *place = msq_take(queue);
-    expect("a handle", place != NULL, true);
+    struct msq_place *own = msq_take(queue), *place = msq_take(queue);
+    expect("its own handle", own == queue->places, true);
+    expect("a push by the other one", msq_queue_try_push(queue, objects), MSQ_BUSY);
+    msq_give(place);
+    expect("a push by the other one", msq_queue_try_push(queue, objects), MSQ_OK);
+    expect("a pop by it", msq_queue_try_pop(queue, &object), MSQ_OK);
+    object = queue;
+    expect("the other one", msq_take(queue) == place && place == queue->places + 1, true);
     expect("a push", msq_queue_try_push(queue, objects), MSQ_BUSY);
     expect("a pop", msq_queue_try_pop(queue, &object), MSQ_BUSY);
     expect("a push for some time", msq_queue_push_for(queue, objects, MILLISECOND), MSQ_TIMED_OUT);
     expect("a pop for some time", msq_queue_pop_for(queue, &object, MILLISECOND), MSQ_TIMED_OUT);
     expect("nothing is written", object == queue, true);
+    msq_give(own);
     msq_give(place);
     expect("a push", msq_queue_try_push(queue, objects), MSQ_OK);
+    msq_queue_unref(queue);
+}
+
+/* A library that was made by itself has a list of its own: threads that call a queue by another one's list own none of its handles. */
+static void another_list_has_other_threads(msq_kind kind) {
+    static const uintptr_t another[MSQ_OWNERS];
+    msq_queue *queue = made(kind, 2);
+    struct msq_place *place = msq_take(queue);
+    expect("this one's", place == queue->places, true);
+    msq_give(place);
+    queue->list = another;
+    place = msq_take(queue);
+    expect("another one's", place == queue->places + 1, true);
+    expect("no further one", msq_take(queue) == NULL, true);
+    msq_give(place);
+    msq_queue_unref(queue);
+}
+
+/* More threads than have numbers push each its own object and pop one, many times; some stay, and others come and go. */
+enum { STAYING = 80, VISITS = 40, TIMES = 100 };
+
+static void *push_and_pop(void *given) {
+    msq_queue *queue = (msq_queue *)given;
+    for (size_t k = 0; k < TIMES; k++) {
+        void *object = NULL;
+        if (msq_queue_push(queue, &queue) != MSQ_OK || msq_queue_pop(queue, &object) != MSQ_OK || object == NULL) {
+            return NULL;
+        }
+    }
+    return given;
+}
+
+static bool joins(pthread_t thread) {
+    void *done = NULL;
+    return pthread_join(thread, &done) == 0 && done != NULL;
+}
+
+static void threads_come_and_go(msq_kind kind, unsigned calls) {
+    msq_queue *queue = NULL;
+    pthread_t threads[STAYING], visitor;
+    size_t done = 0;
+    expect("a queue", msq_queue_new_of(&queue, kind, 2 * STAYING, calls, NULL, NULL), MSQ_OK);
+    for (size_t k = 0; k < STAYING; k++) {
+        expect("a thread", (uint64_t)pthread_create(&threads[k], NULL, push_and_pop, queue), 0);
+    }
+    for (size_t k = 0; k < VISITS; k++) {
+        expect("a thread", (uint64_t)pthread_create(&visitor, NULL, push_and_pop, queue), 0);
+        done += joins(visitor);
+    }
+    for (size_t k = 0; k < STAYING; k++) {
+        done += joins(threads[k]);
+    }
+    expect("each thread is done", done, STAYING + VISITS);
+    expect("nothing is left", msq_queue_len(queue), 0);
     msq_queue_unref(queue);
 }
 
@@ -193,7 +264,7 @@ static bool push_wakes(msq_queue *queue) {
     struct msq_going push;
     bool wakes = false;
     msq_start(&push, MSQ_PUSHES, true, (uintptr_t)objects);
-    for (msq_step(&place->share, &push, true); push.act.what != MSQ_TELL; msq_step(&place->share, &push, true)) {
+    for (msq_step(queue, &place->share, &push, true); push.act.what != MSQ_TELL; msq_step(queue, &place->share, &push, true)) {
         if (push.act.what == MSQ_WAKE) {
             wakes = true;
             msq_wake(queue, &push.act);
@@ -228,7 +299,7 @@ static bool a_case_is_given_up(msq_kind kind, unsigned milliseconds) {
 
 /* Who is to sleep doesn't, where the bell rang since it looked; with a stop beside it or without. */
 static void a_ring_ends_a_sleep(msq_kind kind, const uint32_t *stop) {
-    const msq_moment until = msq_moment_in((uint64_t)1000 * MILLISECOND);
+    const struct timespec until = msq_moment_in((uint64_t)1000 * MILLISECOND);
     msq_queue *queue = made(kind, 1);
     struct msq_going pop;
     msq_start(&pop, MSQ_POPS, false, 0);
@@ -250,7 +321,7 @@ static void a_worn_queue_is_told(msq_kind kind) {
     void *object;
     size_t pushed = 0, popped = 0;
     msq_code code = MSQ_OK;
-    expect("a queue", msq_queue_open(&queue, kind, 8, 1, 1, count_one, objects), MSQ_OK);
+    expect("a queue", msq_queue_open(&queue, kind, 8, 1, 1, false, count_one, objects), MSQ_OK);
     while (pushed < 100 && (code = msq_queue_try_push(queue, &objects[pushed])) == MSQ_OK) {
         pushed++;
         if (pushed % 2 == 0 && (code = msq_queue_try_pop(queue, &object)) == MSQ_OK) {
@@ -304,6 +375,10 @@ int main(void) {
         }
         a_time_is_told((msq_kind)kind);
         calls_are_busy((msq_kind)kind);
+        another_list_has_other_threads((msq_kind)kind);
+        for (unsigned calls = 1; calls <= 100; calls *= 10) {
+            threads_come_and_go((msq_kind)kind, calls);
+        }
         a_closed_queue_is_told((msq_kind)kind);
         what_is_left_is_freed((msq_kind)kind);
         pointers_have_their_range((msq_kind)kind);

@@ -80,20 +80,25 @@ static bool all_run(msq_kind kind, atomic_uint *runs, task *tasks, size_t count)
     scheduler all;
     pthread_t ids[STAYING + VISITORS];
     size_t workers = 0, dropped = 0;
-    bool right = scheduler_open(&all, kind, count_dropped, &dropped) == MSQ_OK;
+    bool right = true;
+    if (scheduler_open(&all, kind, count_dropped, &dropped) != MSQ_OK) {
+        return false;
+    }
     while (right && workers < STAYING) {
-        right = pthread_create(&ids[workers++], NULL, stay, &all) == 0;
+        right = pthread_create(&ids[workers], NULL, stay, &all) == 0;
+        workers += right;
     }
     for (size_t number = 0; right && number < count; number++) {
         if (number % (count / VISITORS + 1) == 0) {
-            right = pthread_create(&ids[workers++], NULL, visit, &all) == 0;
+            right = pthread_create(&ids[workers], NULL, visit, &all) == 0;
+            workers += right;
         }
         tasks[number].run = count_up;
         tasks[number].context = &runs[number];
         right = right && submit(&all, &tasks[number]) == MSQ_OK;
     }
     scheduler_close(&all);
-    while (right && workers > 0) {
+    while (workers > 0) {
         pthread_join(ids[--workers], NULL);
     }
     right = right && submit(&all, tasks) == MSQ_CLOSED;
@@ -108,29 +113,31 @@ static bool all_run(msq_kind kind, atomic_uint *runs, task *tasks, size_t count)
 static bool what_is_left_is_dropped(msq_kind kind, task *it) {
     scheduler none;
     size_t dropped = 0;
-    if (scheduler_open(&none, kind, count_dropped, &dropped) != MSQ_OK || submit(&none, it) != MSQ_OK) {
+    bool right;
+    if (scheduler_open(&none, kind, count_dropped, &dropped) != MSQ_OK) {
         return false;
     }
+    right = submit(&none, it) == MSQ_OK;
     scheduler_end(&none);
-    return dropped == 1;
+    return right && dropped == 1;
 }
 
 int main(int argc, char **argv) {
     const size_t count = argc == 2 ? strtoul(argv[1], NULL, 10) : 0;
     atomic_uint *runs = calloc(count, sizeof *runs);
     task *tasks = calloc(count, sizeof *tasks);
-    if (count == 0 || runs == NULL || tasks == NULL) {
-        fprintf(stderr, "usage: scheduler TASKS\n");
-        return 2;
-    }
-    for (uint32_t kind = MSQ_NON_BLOCKING; kind <= MSQ_RING; kind++) {
-        if (!all_run((msq_kind)kind, runs, tasks, count) || !what_is_left_is_dropped((msq_kind)kind, tasks)) {
-            fprintf(stderr, "scheduler: wrong\n");
-            return 1;
+    int status = count == 0 || runs == NULL || tasks == NULL ? 2 : 0;
+    for (uint32_t kind = MSQ_NON_BLOCKING; status == 0 && kind <= MSQ_RING; kind++) {
+        if (all_run((msq_kind)kind, runs, tasks, count) && what_is_left_is_dropped((msq_kind)kind, tasks)) {
+            printf("%s: %zu tasks ran, each once\n", msq_kind_name(kind), count);
+        } else {
+            status = 1;
         }
-        printf("%s: %zu tasks ran, each once\n", msq_kind_name(kind), count);
+    }
+    if (status != 0) {
+        fprintf(stderr, status == 1 ? "scheduler: wrong\n" : "usage: scheduler TASKS\n");
     }
     free(tasks);
     free(runs);
-    return 0;
+    return status;
 }

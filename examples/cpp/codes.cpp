@@ -2,12 +2,17 @@
 // answers were as they should be. Compiled without exceptions, it leaves out the constructor that throws.
 #include "msq_queue.hpp"
 
+#include <array>
+#include <atomic>
+#include <cstdint>
 #include <cstdio>
 #include <cstring>
+#include <initializer_list>
 #include <limits>
 #include <memory>
 #include <string>
 #include <thread>
+#include <vector>
 
 static unsigned right, wrong;
 
@@ -37,6 +42,13 @@ private:
     std::unique_ptr<int> at_;
 };
 long boxed::alive = 0;
+
+// Three words, which lie in the queue.
+struct three {
+    explicit three(int number) : first(number), second(~first), third(first * 0x100000001) {}
+    bool operator==(int number) const { return first == number && second == ~first && third == first * 0x100000001; }
+    std::int64_t first, second, third;
+};
 
 template <class T> static msq::queue<T> made(msq::kind kind, std::size_t capacity) {
     return msq::queue<T>::create(capacity, {kind, 1});
@@ -168,7 +180,7 @@ static void a_worn_queue_is_told(msq::kind kind) {
         auto whole = std::move(queue);
         msq_queue *raw = nullptr;
         static_assert(sizeof raw == sizeof queue, "a handle is a pointer");
-        expect("a queue", msq_queue_open(&raw, static_cast<msq_kind>(kind), 8, 1, 1, end_boxed, nullptr) == MSQ_OK);
+        expect("a queue", msq_queue_open(&raw, static_cast<msq_kind>(kind), 8, 1, 1, false, end_boxed, nullptr) == MSQ_OK);
         std::memcpy(static_cast<void *>(&queue), &raw, sizeof raw);
         int pushed = 0, popped = 0;
         auto told = queue.try_push(boxed(0));
@@ -204,6 +216,60 @@ static void words_have_their_range(msq::kind kind) {
     expect("one too far", told.code() == status::bad_size && std::move(told).value() == far && pointers.empty());
 }
 
+// Values of each size come out as they went in, those up to three words without a box.
+template <class T> static void come_as_they_were(msq::kind kind, std::initializer_list<T> values) {
+    auto queue = made<T>(kind, values.size());
+    for (const T &value : values) {
+        expect("a push", static_cast<bool>(queue.push(value)));
+    }
+    for (const T &value : values) {
+        expect("the same", *queue.pop() == value);
+    }
+}
+
+static void values_come_as_they_were(msq::kind kind) {
+    come_as_they_were<std::uint64_t>(kind, {0, std::uint64_t{1} << 48, std::numeric_limits<std::uint64_t>::max()});
+    come_as_they_were<double>(kind, {0.5, -1e300, std::numeric_limits<double>::infinity()});
+    come_as_they_were<std::array<char, 9>>(kind, {{{'n', 'i', 'n', 'e'}}, {}});
+    come_as_they_were<std::array<char, 24>>(kind, {{{'f', 'u', 'l', 'l'}}, {}});
+    come_as_they_were<std::array<char, 25>>(kind, {{{'m', 'o', 'r', 'e'}}, {}});
+    come_as_they_were<std::string>(kind, {"", "a text that takes memory of its own"});
+    come_as_they_were<long double>(kind, {0.5L, -1e300L});
+}
+
+// Values of three words from two threads come whole to two others, those of a thread in its order.
+static void three_words_stay_whole(msq::kind kind) {
+    const int most = 5000;
+    auto queue = msq::queue<three>::create(4, {kind, 3});
+    std::atomic<long> sum{0}, wrongs{0};
+    std::vector<std::thread> pushers, poppers;
+    for (int k = 0; k < 2; k++) {
+        poppers.emplace_back([&] {
+            int last[2] = {-1, -1};
+            for (three &value : queue) {
+                const int number = static_cast<int>(value.first);
+                wrongs += !(value == number) || number <= last[number % 2];
+                last[number % 2] = number;
+                sum += number;
+            }
+        });
+        pushers.emplace_back([&, k] {
+            for (int number = k; number < most; number += 2) {
+                wrongs += !queue.push(three(number));
+            }
+        });
+    }
+    for (auto &thread : pushers) {
+        thread.join();
+    }
+    queue.close();
+    for (auto &thread : poppers) {
+        thread.join();
+    }
+    expect("whole, and in order", wrongs == 0);
+    expect("each once", sum == static_cast<long>(most) * (most - 1) / 2);
+}
+
 #if defined(__cpp_lib_jthread)
 // A stop ends a call that waits, and one that has no need to wait is done.
 static void stops_are_told(msq::kind kind) {
@@ -227,9 +293,12 @@ int main() {
     for (auto kind : {msq::kind::non_blocking, msq::kind::two_lock, msq::kind::ring}) {
         a_queue_answers<int>(kind);
         a_queue_answers<boxed>(kind);
+        a_queue_answers<three>(kind);
         sizes_have_their_ranges(kind);
         values_end_once(kind);
         words_have_their_range(kind);
+        values_come_as_they_were(kind);
+        three_words_stay_whole(kind);
         a_worn_queue_is_told(kind);
 #if defined(__cpp_exceptions)
         a_move_may_throw(kind);

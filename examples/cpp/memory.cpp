@@ -81,6 +81,13 @@ template <class T> msq::queue<T> queue_of(msq::kind kind) {
     return made;
 }
 
+// A value that lies in the queue takes none.
+void in_place(msq::queue<uint64_t> queue) {
+    before = 0;
+    expect("a push", bool(queue.push(7)) && *queue.pop() == 7 && before == 0);
+    before = -1;
+}
+
 // A value that finds no box isn't pushed.
 void boxes(msq::kind kind) {
     auto queue = queue_of<large>(kind);
@@ -128,7 +135,7 @@ void *__wrap_realloc(void *old, size_t size) { return is_refused() ? nullptr : _
 int main() {
     for (auto kind : {msq::kind::non_blocking, msq::kind::two_lock, msq::kind::ring}) {
         seats(kind);
-        queue_of<uint64_t>(kind);
+        in_place(queue_of<uint64_t>(kind));
         boxes(kind);
     }
     std::printf("%u allocations were refused, and %u answers were not as they should be\n", refused, wrong);

@@ -1,7 +1,7 @@
 //! Producers push numbers, consumers pop them, over either queue: each producer's values come in order, each once.
 //!
 //!     pipeline THREADS VALUES: half of the threads push, half pop; so many values go through each queue.
-use msq::seats::{Body, Giver, Taker};
+use msq::seats::{Giver, Taker};
 use msq::{Kind, Refusal};
 use std::thread;
 use std::time::Instant;
@@ -10,9 +10,8 @@ const NODES: u32 = 1024;
 
 fn push_all(giver: &mut Giver, values: u64) -> Result<(), Refusal> {
     for value in 0..values {
-        let body = Body::new(value).ok_or(Refusal::BadSize)?;
         loop {
-            match giver.try_push(body, 8) {
+            match giver.try_push(value, 8) {
                 Err(Refusal::NoNode | Refusal::Busy) => thread::yield_now(),
                 done => break done?,
             }
@@ -29,7 +28,7 @@ fn pop_all(mut taker: Taker, givers: usize, values: u64) -> Result<Vec<u64>, Ref
         match taker.try_pop(8) {
             Ok(Some(value)) => {
                 let from = usize::from(value.from);
-                let number = value.body.number();
+                let number = value.body;
                 assert!(number >= next[from] && number < values, "out of order");
                 next[from] = number + 1;
                 let place = (from - 1) * values as usize + number as usize;

@@ -6,7 +6,7 @@
 //! A giver sees that its queue is worn by `WornOut(Free)`, and that it is full by `NoNode`. It publishes the link to a further
 //! queue, and then shuts its own: who is refused `Closed` always finds the link, and goes on there. A pop is refused so only
 //! where nothing is left. examples/c/renewal.c says what sizes and limits have to be.
-use msq::seats::{self, Body, Value};
+use msq::seats::{self, Value};
 use msq::{Kind, Refusal, WornWord};
 use std::sync::atomic::{AtomicU8, AtomicUsize, Ordering};
 use std::sync::{Arc, Mutex, OnceLock};
@@ -90,7 +90,7 @@ impl Giver {
     }
 
     /// Pushes on the whole, or is refused `Closed` or `Memory`.
-    fn give(&mut self, body: Body) -> Result<(), Refusal> {
+    fn give(&mut self, body: u64) -> Result<(), Refusal> {
         loop {
             match self.seat.try_push(body, 8) {
                 Err(Refusal::Busy) => thread::yield_now(),
@@ -175,7 +175,7 @@ impl Taker {
 
 fn push_all(mut giver: Giver, values: u64) -> Result<Giver, Refusal> {
     for value in 0..values {
-        giver.give(Body::new(value).ok_or(Refusal::BadSize)?)?;
+        giver.give(value)?;
     }
     Ok(giver)
 }
@@ -186,7 +186,7 @@ fn pop_all(mut taker: Taker, values: u64, seen: &[AtomicU8]) -> Result<(), Refus
     loop {
         match taker.take() {
             Ok(Some(value)) => {
-                let (from, number) = (usize::from(value.from), value.body.number());
+                let (from, number) = (usize::from(value.from), value.body);
                 assert!(number >= next[from] && number < values, "out of order");
                 next[from] = number + 1;
                 seen[(from - 1) * values as usize + number as usize].fetch_add(1, Ordering::Relaxed);

@@ -149,7 +149,7 @@ waits c =
 abbrev pub after_look : Call → Seen → (past : Bool) → After
 after_look c seen.Got past = rings_gift c
 after_look c seen.Took past = goes c phase.Gives
-after_look c seen.Nothing past = if c.last then tells c code.Nothing else waits c
+after_look c seen.Nothing past = if (c.last || past) then tells c code.Nothing else waits c
 after_look c seen.Busy past = if past then leaves c code.Busy else (c, act.Yield)
 after_look c (seen.Ended code) past = leaves c code
 

@@ -182,7 +182,7 @@ pub(crate) fn looked(call: &mut Call, seen: Seen, past: bool) -> Act
         Seen::Got => ring_gift(call),
         Seen::Took => go(call, Phase::Gives),
         Seen::Nothing => {
-            if call.last {
+            if call.last || past {
                 return tell(call, Code::Nothing);
             }
             if !call.woken && call.looks < LOOKS {

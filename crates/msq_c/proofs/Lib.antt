@@ -1,4 +1,6 @@
 pub mod Bytes
+pub mod HandleWalks
+pub mod HandleKinds
 pub mod QueueEnds
 pub mod WordEnds
 pub mod Made
@@ -10,3 +12,5 @@ pub mod AtOnce
 pub mod NewShares
 pub mod ShareEnds
 pub mod FirstSteps
+pub mod NewWordsShares
+pub mod WordsShareEnds

@@ -1,9 +1,11 @@
 -- A call as C holds it, by numbers, and what a step of it answers.
 use Rattle.std.specs.Prelude.{◌≡◌, ◌↔◌, ◌⊎◌, ℕ, ◌<◌, ◌≤◌, ◌^◌, Bool, true, false, Option, Some, None, Result, Err, IfOk, IfErr, OnOk, OnErr}
 use Rattle.history.specs.Limits.{body_bits}
+use Rattle.carriers.specs.declared.queues.Carrier.{Ghosts}
 use Rattle.carriers.specs.Knowledge.{KnownOf}
 use Rattle.calls.specs.declared.calls.Act.{Act}
 use Rattle.calls.specs.declared.calls.Act.TheVariants as acts
+use Rattle.calls.specs.declared.calls.Call.{Call}
 use Rattle.calls.specs.declared.calls.Code.{Code}
 use Rattle.calls.specs.declared.calls.Code.TheVariants as codes
 use Rattle.calls.specs.declared.calls.Phase.{Phase}
@@ -13,10 +15,12 @@ use Rattle.calls.specs.declared.calls.Task.TheVariants as tasks
 use Rattle.calls.specs.Machine.{started, given_up}
 use Rattle.shared_queue.specs.declared.at_once.Tried.{Tried}
 use Rattle.shared_queue.specs.declared.at_once.Tried.TheVariants as tries
+use Rattle.shared_queue.specs.declared.share.Share.{Share}
 use Rattle.shared_queue.specs.declared.stepped.Asked.{Asked}
 use Rattle.shared_queue.specs.Sharing.{stepped_at, share_seat}
 use Rattle.shared_queue.specs.Stepped.{capacity_of}
 use Rattle.shared_queue.specs.Steps.{Steps}
+use Rattle.shared_queue.specs.TriedCalls.{call_after, asked_at}
 use Rattle.msq_c.specs.declared.call_words.MsqAct.{MsqAct}
 use Rattle.msq_c.specs.declared.call_words.MsqCall.{MsqCall}
 use Rattle.msq_c.specs.declared.share_blocks.ShareBlock.{ShareBlock}
@@ -62,28 +66,32 @@ abbrev pub word_of : Option ℕ → ℕ
 word_of (Some value) = value
 word_of None = 0
 
--- what a new call of a task begins with: a push with the word, and others with nothing
-abbrev pub first_value : Task → ℕ → Option ℕ
-first_value tasks.Push word = Some word
-first_value _ word = None
+-- what a new call of a task begins with: a push with the value, and others with nothing
+abbrev pub first_value : {A : Type 0} → Task → A → Option A
+first_value tasks.Push value = Some value
+first_value _ value = None
 
--- a call as C holds it
-abbrev pub laid : Asked ℕ → MsqCall
-laid a = record {
-  word = word_of a.value;
-  heard = a.heard;
-  task = task_number a.call.task;
-  phase = phase_number a.call.phase;
-  then = phase_number a.call.next;
-  code = code_number a.call.code;
-  looks = a.call.looks;
-  tries = a.call.tries;
-  woken = a.call.woken;
-  last = a.call.last;
-  rings_values = a.call.rings_values;
-  rings_room = a.call.rings_room;
-  rings_all = a.call.rings_all;
+-- a call as C holds it, with this word, that heard so many rings
+abbrev pub laid_with : Call → (word heard : ℕ) → MsqCall
+laid_with c word heard = record {
+  word = word;
+  heard = heard;
+  task = task_number c.task;
+  phase = phase_number c.phase;
+  then = phase_number c.next;
+  code = code_number c.code;
+  looks = c.looks;
+  tries = c.tries;
+  woken = c.woken;
+  last = c.last;
+  rings_values = c.rings_values;
+  rings_room = c.rings_room;
+  rings_all = c.rings_all;
 }
+
+-- a call of a number
+abbrev pub laid : Asked ℕ → MsqCall
+laid a = laid_with a.call (word_of a.value) a.heard
 
 -- these are the numbers of a call with a value, which is a body, as it is taken up
 pub record Lifts (m : MsqCall) (a : Asked ℕ) : Type 0 where
@@ -152,43 +160,40 @@ pub record IsNew (number word : ℕ) (task : Task) (value : Option ℕ) : Type 0
   pub with : value ≡ first_value task word
 
 -- a new call of a task, with this value
-abbrev pub new_call : Task → Bool → Option ℕ → Asked ℕ
+abbrev pub new_call : {A : Type 0} → Task → Bool → Option A → Asked A
 new_call task tries value = record { call = started task tries; value = value; heard = 0 }
 
 -- this is kept of a call after such an act: its value, where it is told, and else the call
-abbrev pub IsKept : Act → Asked ℕ → Asked ℕ → Type 0
+abbrev pub IsKept : {A : Type 0} → Act → Asked A → Asked A → Type 0
 IsKept (acts.Tell code) a b = b.value ≡ a.value
 IsKept _ a b = b ≡ a
 
 -- the first steps of a call, which is late from the first if it never waits, came to this
-pub record FirstSteps (tries : Bool) (a : Asked ℕ) (k : KnownOf ℕ) (act : Act) (b : Asked ℕ) (k' : KnownOf ℕ) : Type 0 where
-  pub after : Asked ℕ
+pub record FirstSteps {A : Type 0} (tries : Bool) (a : Asked A) (k : KnownOf A) (act : Act) (b : Asked A) (k' : KnownOf A) : Type 0 where
+  pub after : Asked A
   pub steps : Steps tries a k act after k'
   pub kept : IsKept act after b
 
--- what is to be done after a try, and what is kept of it
-abbrev pub GoesOnAfter : Tried ℕ → Act → Asked ℕ → Type 0
-GoesOnAfter (tries.Told code value) act b = (act ≡ acts.Tell code) × (b.value ≡ value)
-GoesOnAfter (tries.Wakes bell asked) act b = (act ≡ acts.WakeOne bell) × (b ≡ asked)
-GoesOnAfter (tries.Rest asked) act b = (act ≡ acts.Yield) × (b ≡ asked)
+-- what is to be done first for a call whose try came to this
+abbrev pub act_after : Tried → Act
+act_after (tries.Told code) = acts.Tell code
+act_after (tries.Wakes bell) = acts.WakeOne bell
+act_after _ = acts.Yield
 
 -- the numbers of a call after its first steps: of one that is told they stay as they were
-abbrev pub IsLaid : Act → Asked ℕ → MsqCall → MsqCall → Type 0
-IsLaid (acts.Tell code) a m m' = m' ≡ m
-IsLaid _ a m m' = m' ≡ laid a
+abbrev pub IsLaid : Act → (call m m' : MsqCall) → Type 0
+IsLaid (acts.Tell code) call m m' = m' ≡ m
+IsLaid _ call m m' = m' ≡ call
 
 -- C got what is to be done, the word of the call that is kept, and unless it is told the call
 pub record Lays (act : Act) (kept : Asked ℕ) (word' : ℕ) (m m' : MsqCall) (told' : MsqAct) : Type 0 where
   pub told : IsTold act told'
   pub left : word' ≡ word_of kept.value
-  pub call : IsLaid act kept m m'
+  pub call : IsLaid act (laid kept) m m'
 
--- C got what a try came to
-pub record LaysTry (tried : Tried ℕ) (word' : ℕ) (m m' : MsqCall) (told' : MsqAct) : Type 0 where
-  pub act : Act
-  pub kept : Asked ℕ
-  pub goes : GoesOnAfter tried act kept
-  pub lays : Lays act kept word' m m' told'
+-- C got what a try of this task came to, with this value
+abbrev pub LaysTry : Task → Tried → Option ℕ → (word' : ℕ) (m m' : MsqCall) (told' : MsqAct) → Type 0
+LaysTry task tried value word' m m' told' = Lays (act_after tried) (asked_at (call_after task tried) value) word' m m' told'
 
 -- the first steps of this call were made, and C got what they came to
 pub record BegunFrom (tries : Bool) (a : Asked ℕ) (b b' : ShareBlock) (word' : ℕ) (m m' : MsqCall) (told' : MsqAct) : Type 0 where
@@ -232,43 +237,45 @@ pub record AnswersGiveUp (m m' : MsqCall) (out : Result (Unit {0}) Trouble) : Ty
   pub refused : IfErr out (λ refusal. (refusal ≡ BadSize) × ((a : Asked ℕ) → ¬ Lifts m a))
   pub same : OnErr out (m' ≡ m)
 
--- room for how many values the queue of a handle has
-abbrev pub capacity_at : MsqShare → ℕ
-capacity_at h = capacity_of (stepped_at (block_at h).share)
-
--- how many values there are, by a handle: no more than there is room for
-pub record AnswersLength (h h' : MsqShare) (len len' : ℕ) (out : Result (Unit {0}) Trouble) : Type 0 where
-  pub full : is_full h' ≡ is_full h
-  pub queue : stepped_at (block_at h').share ≡ stepped_at (block_at h).share
-  pub written : OnOk out (len' ≤ capacity_at h)
-  pub refused : IfErr out (λ refusal. (refusal ≡ NoHandle) × (is_full h ≡ false) × (h' ≡ h) × (len' ≡ len))
-
--- the same before it is written
-pub record HasLength (h h' : MsqShare) (out : Result ℕ Trouble) : Type 0 where
-  pub full : is_full h' ≡ is_full h
-  pub queue : stepped_at (block_at h').share ≡ stepped_at (block_at h).share
-  pub room : IfOk out (λ len. len ≤ capacity_at h)
-  pub refused : IfErr out (λ refusal. (refusal ≡ NoHandle) × (is_full h ≡ false) × (h' ≡ h))
-
 -- others are to run, and the word of a bell is told
 pub record IsWatch (m : MsqAct) : Type 0 where
   pub what : m.what ≡ 1
   pub code : m.code ≡ 0
   pub many : m.many ≡ 0
 
--- one more listens to a bell, by a handle, which keeps its seat: refused exactly where it is empty, and then nothing changed
-pub record HearsBell (h h' : MsqShare) (told told' : MsqAct) (out : Result (Unit {0}) Trouble) : Type 0 where
-  pub full : is_full h' ≡ is_full h
-  pub seat : (block_at h').share ≡ (block_at h).share
-  pub empty : (out ≡ Err NoHandle) ↔ (is_full h ≡ false)
-  pub watched : OnOk out (IsWatch told')
-  pub refused : IfErr out (λ refusal. refusal ≡ NoHandle)
-  pub same : OnErr out (told' ≡ told)
+-- what a handle tells that doesn't name its values
+module _ {H C A S : Type 0} {g : Ghosts C A S} (holds : H → Bool) (share : H → Share C A S g) where
+  -- room for how many values the queue of a handle has
+  abbrev pub capacity_at : H → ℕ
+  capacity_at h = capacity_of (stepped_at (share h))
 
--- the same for what a task waits for: refused exactly where it waits for nothing, or the handle is empty
-pub record AnswersListen (h h' : MsqShare) (task : ℕ) (told told' : MsqAct) (out : Result (Unit {0}) Trouble) : Type 0 where
-  pub full : is_full h' ≡ is_full h
-  pub seat : (block_at h').share ≡ (block_at h).share
-  pub watched : OnOk out ((task ≤ 1) × (is_full h ≡ true) × IsWatch told')
-  pub refused : IfErr out (λ refusal. ((refusal ≡ BadSize) × (2 ≤ task)) ⊎ ((refusal ≡ NoHandle) × (task ≤ 1) × (is_full h ≡ false)))
-  pub same : OnErr out (told' ≡ told)
+  -- how many values there are, by a handle: no more than there is room for
+  pub record AnswersLength (h h' : H) (len len' : ℕ) (out : Result (Unit {0}) Trouble) : Type 0 where
+    pub full : holds h' ≡ holds h
+    pub queue : stepped_at (share h') ≡ stepped_at (share h)
+    pub written : OnOk out (len' ≤ capacity_at h)
+    pub refused : IfErr out (λ refusal. (refusal ≡ NoHandle) × (holds h ≡ false) × (h' ≡ h) × (len' ≡ len))
+
+  -- the same before it is written
+  pub record HasLength (h h' : H) (out : Result ℕ Trouble) : Type 0 where
+    pub full : holds h' ≡ holds h
+    pub queue : stepped_at (share h') ≡ stepped_at (share h)
+    pub room : IfOk out (λ len. len ≤ capacity_at h)
+    pub refused : IfErr out (λ refusal. (refusal ≡ NoHandle) × (holds h ≡ false) × (h' ≡ h))
+
+  -- one more listens to a bell, by a handle, which keeps its seat: refused exactly where it is empty, and then nothing changed
+  pub record HearsBell (h h' : H) (told told' : MsqAct) (out : Result (Unit {0}) Trouble) : Type 0 where
+    pub full : holds h' ≡ holds h
+    pub seat : share h' ≡ share h
+    pub empty : (out ≡ Err NoHandle) ↔ (holds h ≡ false)
+    pub watched : OnOk out (IsWatch told')
+    pub refused : IfErr out (λ refusal. refusal ≡ NoHandle)
+    pub same : OnErr out (told' ≡ told)
+
+  -- the same for what a task waits for: refused exactly where it waits for nothing, or the handle is empty
+  pub record AnswersListen (h h' : H) (task : ℕ) (told told' : MsqAct) (out : Result (Unit {0}) Trouble) : Type 0 where
+    pub full : holds h' ≡ holds h
+    pub seat : share h' ≡ share h
+    pub watched : OnOk out ((task ≤ 1) × (holds h ≡ true) × IsWatch told')
+    pub refused : IfErr out (λ refusal. ((refusal ≡ BadSize) × (2 ≤ task)) ⊎ ((refusal ≡ NoHandle) × (task ≤ 1) × (holds h ≡ false)))
+    pub same : OnErr out (told' ≡ told)

@@ -25,3 +25,8 @@ pub mod WordRows
 pub mod Three
 pub mod One
 pub mod ShareEnds
+pub mod WordsQueues
+pub mod WordsShares
+pub mod WordsCalls
+pub mod WordsShareEnds
+pub mod NewWordsShares

@@ -1,8 +1,9 @@
 -- The handles of a new queue whose calls are stepped.
-use Rattle.std.specs.Prelude.{◌≡◌, ◌≢◌, ◌⊎◌, ℕ, ◌+◌, ◌≤◌, max, List, map, length, replicate, Result, OnOk, OnErr, IfErr}
+use Rattle.std.specs.Prelude.{◌≡◌, ◌≢◌, ◌⊎◌, ℕ, ◌+◌, ◌≤◌, max, Bool, List, map, length, replicate, Result, OnOk, OnErr, IfErr}
 use Rattle.std.specs.List.{All}
 use Rattle.history.specs.declared.refusals.Refusal.TheVariants.{Memory}
 use Rattle.carriers.specs.declared.numbered.Numbers.{Numbers}
+use Rattle.carriers.specs.declared.queues.Carrier.{Ghosts}
 use Rattle.carriers.specs.Numbers.{fifo_of}
 use Rattle.shared_queue.specs.declared.share.Share.{Share}
 use Rattle.shared_queue.specs.declared.stepped.SteppedQueue.{SteppedQueue}
@@ -34,22 +35,16 @@ pub record AsksShares (kind capacity limit calls : ℕ) : Type 0 where
   pub sized : HasNodes kind capacity calls nodes
   pub asks : Asks kind nodes limit (all_both calls)
 
--- a share of a queue of numbers of any kind
-abbrev pub ShareOf : Type 0
-ShareOf = Share (Numbers Queue) ℕ SeatOf numbers
-
--- these shares have all the seats of one new queue, in their order, each of which pushes and pops: of the kind with this number, with
--- room for so many values
-pub record AreNewShares (kind capacity limit calls : ℕ) (shares : List ShareOf) : Type 0 where
-  pub asked : AsksShares kind capacity limit calls
-  pub queue : SteppedQueue (Numbers Queue)
-  pub room : capacity_of queue ≡ capacity
-  pub new : IsNew kind asked.nodes limit (all_both calls) (fifo_of (stepped_queue queue)) (map share_seat shares)
-  pub one : All (λ s. stepped_at s ≡ queue) shares
-
--- the share of a handle, where there is one
-abbrev pub share_at : MsqShare → ShareOf
-share_at h = (block_at h).share
+-- what a new queue is, by the numbers that ask for it, and its seats
+module _ {C A S : Type 0} {g : Ghosts C A S} (New : (kind nodes limit : ℕ) (roles : List ℕ) → C → List S → Type 0) where
+  -- these shares have all the seats of one new queue, in their order, each of which pushes and pops: of the kind with this number, with
+  -- room for so many values
+  pub record AreNewOf (kind capacity limit calls : ℕ) (shares : List (Share C A S g)) : Type 0 where
+    pub asked : AsksShares kind capacity limit calls
+    pub queue : SteppedQueue C
+    pub room : capacity_of queue ≡ capacity
+    pub new : New kind asked.nodes limit (all_both calls) (stepped_queue queue) (map share_seat shares)
+    pub one : All (λ s. stepped_at s ≡ queue) shares
 
 -- why no queue is made for so many handles: these numbers ask for none, or memory was refused
 abbrev pub RefusesShares : (kind capacity limit calls : ℕ) → Trouble → Type 0
@@ -57,17 +52,38 @@ RefusesShares kind capacity limit calls BadSize = AsksShares kind capacity limit
 RefusesShares kind capacity limit calls (Refused refusal) = refusal ≡ Memory
 RefusesShares kind capacity limit calls _ = ⊥
 
--- why handles are not filled: one is full; else these numbers ask for no queue, or memory was refused
-abbrev pub RefusesFilling : (kind capacity limit : ℕ) → List MsqShare → Trouble → Type 0
-RefusesFilling kind capacity limit hs InUse = AreEmpty is_full hs → ⊥
-RefusesFilling kind capacity limit hs BadSize = AreEmpty is_full hs × (AsksShares kind capacity limit (length hs) → ⊥)
-RefusesFilling kind capacity limit hs (Refused refusal) = AreEmpty is_full hs × (refusal ≡ Memory)
-RefusesFilling kind capacity limit hs _ = ⊥
+module _ {H : Type 0} (holds : H → Bool) where
+  -- why handles are not filled: one is full; else these numbers ask for no queue, or memory was refused
+  abbrev pub RefusesFilling : (kind capacity limit : ℕ) → List H → Trouble → Type 0
+  RefusesFilling kind capacity limit hs InUse = AreEmpty holds hs → ⊥
+  RefusesFilling kind capacity limit hs BadSize = AreEmpty holds hs × (AsksShares kind capacity limit (length hs) → ⊥)
+  RefusesFilling kind capacity limit hs (Refused refusal) = AreEmpty holds hs × (refusal ≡ Memory)
+  RefusesFilling kind capacity limit hs _ = ⊥
 
--- handles, each empty before, have all the shares of a new queue; refused, they are as they were
-pub record AnswersShares (kind capacity limit : ℕ) (hs hs' : List MsqShare) (out : Result (Unit {0}) Trouble) : Type 0 where
-  pub empty : OnOk out (AreEmpty is_full hs)
-  pub full : OnOk out (AreFull is_full hs')
-  pub made : OnOk out (AreNewShares kind capacity limit (length hs) (map share_at hs'))
-  pub refused : IfErr out (RefusesFilling kind capacity limit hs)
-  pub same : OnErr out (hs' ≡ hs)
+  -- handles, each empty before, were made all those of a new queue; refused, they are as they were
+  pub record Fills (Made : (kind capacity limit calls : ℕ) → List H → Type 0) (kind capacity limit : ℕ) (hs hs' : List H) (out : Result (Unit {0}) Trouble) : Type 0 where
+    pub empty : OnOk out (AreEmpty holds hs)
+    pub full : OnOk out (AreFull holds hs')
+    pub made : OnOk out (Made kind capacity limit (length hs) hs')
+    pub refused : IfErr out (RefusesFilling kind capacity limit hs)
+    pub same : OnErr out (hs' ≡ hs)
+
+-- a share of a queue of numbers of any kind
+abbrev pub ShareOf : Type 0
+ShareOf = Share (Numbers Queue) ℕ SeatOf numbers
+
+-- a new queue of numbers of the kind with this number, and its seats
+abbrev pub IsNewNumbers : (kind nodes limit : ℕ) (roles : List ℕ) → Numbers Queue → List SeatOf → Type 0
+IsNewNumbers kind nodes limit roles q seats = IsNew kind nodes limit roles (fifo_of q) seats
+
+-- these shares have all the seats of one
+abbrev pub AreNewShares : (kind capacity limit calls : ℕ) → List ShareOf → Type 0
+AreNewShares = AreNewOf IsNewNumbers
+
+-- the share of a handle, where there is one
+abbrev pub share_at : MsqShare → ShareOf
+share_at h = (block_at h).share
+
+-- handles, each empty before, have all the shares of a new queue of numbers; refused, they are as they were
+abbrev pub AnswersShares : (kind capacity limit : ℕ) (hs hs' : List MsqShare) → Result (Unit {0}) Trouble → Type 0
+AnswersShares = Fills is_full (λ kind capacity limit calls hs. AreNewShares kind capacity limit calls (map share_at hs))

@@ -19,7 +19,7 @@ use Rattle.msq_c.specs.declared.values.MsqValue.{MsqValue}
 use Rattle.msq_c.specs.Ends.{HasAnyRoom, IsRoomless}
 use Rattle.msq_c.specs.NewShares.{share_at}
 use Rattle.msq_c.specs.Queues.{Queue, SeatOf, EndOf, known_of, permits_of, EndsWith}
-use Rattle.msq_c.specs.Rests.{AnswersEnd}
+use Rattle.msq_c.specs.Rests.{IsRest, WritesLeft, AnswersEnd}
 use Rattle.msq_c.specs.Shares.{is_full, block_at}
 use Rattle.msq_c.specs.WordEnds.{AreFull, AreEmpty}
 
@@ -77,4 +77,4 @@ RefusesClose slots slots' _ = ⊥
 
 -- what the end of a queue answers
 abbrev pub AnswersClose : (slots slots' : List MsqShare) (vs vs' : List MsqValue) (told told' : MsqRest) → Result (Unit {0}) Trouble → Type 0
-AnswersClose = AnswersEnd ClosesHandles (AreEmpty is_full) RefusesClose
+AnswersClose = AnswersEnd ClosesHandles (AreEmpty is_full) RefusesClose IsRest WritesLeft

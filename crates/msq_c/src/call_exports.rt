@@ -3,7 +3,7 @@ ghost use Rattle.std.specs.Prelude.{◌≡◌, false};
 ghost use Rattle.msq_c.specs.Codes.{Tells, done_code};
 ghost use Rattle.msq_c.specs.Calls.{AnswersBegin, AnswersStep};
 ghost use Rattle.msq_c.specs.Calls.{AnswersGiveUp, AnswersLength, AnswersListen};
-ghost use Rattle.msq_c.specs.NewShares.{AnswersShares};
+ghost use Rattle.msq_c.specs.NewShares.{AnswersShares, share_at};
 ghost use Rattle.msq_c.specs.ShareEnds.{AreOfOne, AnswersClose};
 ghost use Rattle.msq_c.specs.Shares.{is_full};
 
@@ -100,7 +100,7 @@ pub extern "C" fn msq_call_give_up(call: &mut MsqCall) -> u32
 pub extern "C" fn msq_share_len(alloc: Global, slot: &mut MsqShare, len: &mut u64) -> u32
     //= library/share_len: A length told to C is no more than the room of its queue; refused `MSQ_NO_SEAT` exactly where the
     //=   handle is empty, with no change.
-    ensures { Tells done_code result (AnswersLength slot.old slot.new len.old len.new) }
+    ensures { Tells done_code result (AnswersLength is_full share_at slot.old slot.new len.old len.new) }
 {
     match share_blocks::len(alloc, slot) {
         Ok(found) => {
@@ -124,7 +124,7 @@ pub extern "C" fn msq_share_listen(
     //=   word; refused `MSQ_BAD_SIZE` exactly at a task that waits for nothing, or `MSQ_NO_SEAT` exactly where the handle
     //=   is empty, with no change. That a listener is counted, and which word that is, no clause says.
     ensures { Tells done_code result
-        (AnswersListen slot.old slot.new task act.old act.new) }
+        (AnswersListen is_full share_at slot.old slot.new task act.old act.new) }
 {
     match task {
         0 => code(share_blocks::listen(alloc, slot, Bell::Room, act)),

@@ -1,14 +1,16 @@
 //! A call that may wait, and what is to be done for it, as C has them.
 ghost use Rattle.std.specs.Prelude.{◌≡◌, ◌≤◌, ◌^◌, ◌⊎◌, ℕ, IfSome, IfNone};
 ghost use Rattle.history.specs.Limits.{body_bits};
+ghost use Rattle.calls.specs.declared.calls.Call.{Call};
 ghost use Rattle.shared_queue.specs.declared.stepped.Asked.{Asked};
-ghost use Rattle.msq_c.specs.Calls.{task_number, phase_number, code_number, word_of, laid, Lifts, IsNew, new_call};
+ghost use Rattle.msq_c.specs.Calls.{task_number, phase_number, code_number, word_of, laid, laid_with, Lifts, IsNew, new_call};
 ghost use Rattle.calls.specs.declared.calls.Act.TheVariants.{Tell};
-ghost use Rattle.msq_c.specs.Calls.{IsTold, IsWatch};
+ghost use Rattle.msq_c.specs.Calls.{IsTold, IsWatch, act_after};
+ghost use Rattle.shared_queue.specs.TriedCalls.{call_after};
 
 use calls::{Act, Call, Code, Phase, Task, start};
 use history::Body;
-use shared_queue::{Asked, SteppedQueue};
+use shared_queue::{Asked, SteppedQueue, Tried};
 use std::ptr;
 
 /// A call between two of its steps, in the caller's memory. Nothing in it is an address: whatever stands there, a step is harmless.
@@ -30,7 +32,8 @@ pub struct MsqCall {
     pub rings_all: bool,
 }
 
-fn task_of(number: u8) -> Option<Task>
+/// The task with this number.
+pub(crate) fn task_of(number: u8) -> Option<Task>
     ensures some { IfSome result (λ task. task_number task ≡ number) }
     ensures none { IfNone result (5 ≤ number) }
 {
@@ -133,14 +136,13 @@ pub(crate) fn word_in(value: &Option<Body>) -> u64
 }
 
 impl MsqCall {
-    /// A call as C has it.
-    pub(crate) fn of(asked: &Asked<Body>) -> MsqCall
-        ensures { result ≡ laid asked.now }
+    /// A call as C has it, with this word, that heard so many rings.
+    pub(crate) fn with(call: &Call, word: u64, heard: u64) -> MsqCall
+        ensures { result ≡ laid_with call.now word heard }
     {
-        let call = &asked.call;
         MsqCall {
-            word: word_in(&asked.value),
-            heard: asked.heard,
+            word,
+            heard,
             task: number_of_task(call.task),
             phase: number_of_phase(call.phase),
             then: number_of_phase(call.next),
@@ -155,26 +157,42 @@ impl MsqCall {
         }
     }
 
-    /// The call, where these are the numbers of one.
+    /// A call of a number as C has it.
+    pub(crate) fn of(asked: &Asked<Body>) -> MsqCall
+        ensures { result ≡ laid asked.now }
+    {
+        MsqCall::with(&asked.call, word_in(&asked.value), asked.heard)
+    }
+
+    /// The call without its value, where these are the numbers of one.
+    pub(crate) fn call(&self) -> Option<Call>
+        ensures some { IfSome result (λ c. laid_with c self.now.word self.now.heard ≡ self.now) }
+        ensures none { IfNone result
+            ((c : Call) (word heard : ℕ) → ¬ (laid_with c word heard ≡ self.now)) }
+    {
+        Some(Call {
+            task: task_of(self.task)?,
+            tries: self.tries,
+            phase: phase_of(self.phase)?,
+            next: phase_of(self.then)?,
+            code: code_of(self.code)?,
+            woken: self.woken,
+            last: self.last,
+            looks: self.looks,
+            rings_values: self.rings_values,
+            rings_room: self.rings_room,
+            rings_all: self.rings_all,
+        })
+    }
+
+    /// The call, where these are the numbers of one of a number.
     pub(crate) fn lift(&self) -> Option<Asked<Body>>
         ensures some { IfSome result (Lifts self.now) }
         ensures none { IfNone result ((a : Asked ℕ) → ¬ Lifts self.now a) }
     {
         let value = Body::new(self.word)?;
         Some(Asked {
-            call: Call {
-                task: task_of(self.task)?,
-                tries: self.tries,
-                phase: phase_of(self.phase)?,
-                next: phase_of(self.then)?,
-                code: code_of(self.code)?,
-                woken: self.woken,
-                last: self.last,
-                looks: self.looks,
-                rings_values: self.rings_values,
-                rings_room: self.rings_room,
-                rings_all: self.rings_all,
-            },
+            call: self.call()?,
             value: Some(value),
             heard: self.heard,
         })
@@ -195,7 +213,7 @@ pub(crate) fn task_with(number: u8, word: u64) -> Option<(Task, Option<Body>)>
 }
 
 /// A new call of this task.
-pub(crate) fn asked_for(task: Task, tries: bool, value: Option<Body>) -> Asked<Body>
+pub(crate) fn asked_for<T>(task: Task, tries: bool, value: Option<T>) -> Asked<T>
     ensures { result ≡ new_call task tries value }
 {
     Asked {
@@ -289,4 +307,32 @@ impl MsqAct {
             Act::GoOn | Act::Yield => MsqAct::new(1, 0),
         }
     }
+}
+
+// What is to be done first for a call whose try came to this.
+fn going_on(tried: Tried) -> Act
+    ensures { result ≡ act_after tried }
+{
+    match tried {
+        Tried::Told(code) => Act::Tell(code),
+        Tried::Wakes(bell) => Act::WakeOne(bell),
+        Tried::Rest(_) | Tried::AtPlace(_) => Act::Yield,
+    }
+}
+
+/// Lays down the call of a try that goes on, with its word, and tells what is to be done first.
+#[inline(never)]
+pub(crate) fn keep<C>(
+    queue: &SteppedQueue<C>,
+    tried: Tried,
+    task: Task,
+    word: u64,
+    call: &mut MsqCall,
+    told: &mut MsqAct,
+)
+    ensures call { call.new ≡ laid_with (call_after task tried) word 0 }
+    ensures told { IsTold (act_after tried) told.new }
+{
+    *call = MsqCall::with(&tried.call(task), word, 0);
+    *told = MsqAct::of(going_on(tried), queue, 0);
 }

@@ -1,5 +1,5 @@
 //! A seat behind a pointer, as C holds it.
-ghost use Rattle.std.specs.Prelude.{◌≡◌, Bool, true, false};
+ghost use Rattle.std.specs.Prelude.{◌≡◌, Bool, true};
 ghost use Rattle.msq_c.specs.Boxed.{box_if};
 ghost use Rattle.msq_c.specs.declared.seat_blocks.SeatBlock.{SeatBlock};
 ghost use Rattle.msq_c.specs.contracts.seat_blocks.SeatBlock.{the_row};
@@ -24,34 +24,6 @@ impl Model for Handle {
     ghost also_owns = { λ h. box_if the_row h.full h.at h.value };
 }
 
-impl Handle {
-    fn sealed(parts: Parts<SeatBlock, Global>) -> Handle
-        ensures { (result.full ≡ true) × (result.value ≡ parts.value) }
-    {
-        let Parts { ptr, alloc: _ } = parts;
-        Handle { at: ptr as *mut u8 }
-    }
-
-    fn into_parts(self, alloc: Global) -> Parts<SeatBlock, Global>
-        requires { self.full ≡ true }
-        ensures { result.value ≡ self.value }
-    {
-        let Handle { at } = self;
-        Parts {
-            ptr: at as *mut SeatBlock,
-            alloc,
-        }
-    }
-
-    fn empty(_like: &Handle) -> Handle
-        ensures { result.full ≡ false }
-    {
-        Handle {
-            at: ptr::null_mut(),
-        }
-    }
-}
-
 /// What C holds of a seat: a handle, and whether it is full. All zeros are an empty one.
 #[repr(C)]
 #[derive(Drop)]
@@ -74,22 +46,29 @@ impl Slot<SeatBlock> for MsqSeat {
 
     fn empty_like(&self) -> MsqSeat {
         MsqSeat {
-            handle: Handle::empty(&self.handle),
+            handle: Handle {
+                at: ptr::null_mut(),
+            },
             full: false,
         }
     }
 
-    fn into_seat(self, alloc: Global) -> Box<SeatBlock, Global> {
+    fn into_parts(self, alloc: Global) -> Parts<SeatBlock, Global> {
         let MsqSeat { handle, full: _ } = self;
-        handle.into_parts(alloc).into_box()
+        let Handle { at } = handle;
+        Parts {
+            ptr: at as *mut SeatBlock,
+            alloc,
+        }
     }
 
-    fn of(seat: Box<SeatBlock, Global>) -> MsqSeat
-        ensures value { block_at result ≡ seat.value }
+    fn of_parts(parts: Parts<SeatBlock, Global>) -> MsqSeat
+        ensures value { block_at result ≡ parts.value }
         ensures full { is_full result ≡ true }
     {
+        let Parts { ptr, alloc: _ } = parts;
         MsqSeat {
-            handle: Handle::sealed(Parts::of(seat)),
+            handle: Handle { at: ptr as *mut u8 },
             full: true,
         }
     }

@@ -25,6 +25,7 @@ mod many_calls;
 mod many_exports;
 mod new_queues;
 mod new_shares;
+mod new_words_shares;
 mod parts;
 mod rests;
 mod ring_acts;
@@ -48,6 +49,10 @@ mod word_looks;
 mod word_queues;
 mod word_rests;
 mod words;
+mod words_call_exports;
+mod words_share_ends;
+mod words_share_handles;
+mod words_shares;
 
 use crate::bounds::{MsqLeft, MsqLen};
 use crate::handles::MsqSeat;

@@ -81,7 +81,7 @@ fn ring_role_of(number: u8) -> RingRole
 }
 
 // The roles of these numbers in a ring.
-fn ring_roles_of(alloc: Global, numbers: &[u8]) -> Result<Vec<RingRole>, Trouble>
+pub(crate) fn ring_roles_of(alloc: Global, numbers: &[u8]) -> Result<Vec<RingRole>, Trouble>
     requires { All IsRole numbers.now }
     ensures roles { IfOk result (λ roles. map ring_role_number roles.items ≡ numbers.now) }
     ensures only_memory { IfErr result IsMemory }

@@ -22,7 +22,7 @@ const BOTH: u8 = 3;
 
 // How many nodes a queue of a kind has for so many values, and calls at once: of a ring as many as there are values, 2 at least, and
 // else one more for each call, which may hold one, and one that is always in the queue.
-fn nodes_for(kind: u32, capacity: u32, calls: usize) -> Option<u32>
+pub(crate) fn nodes_for(kind: u32, capacity: u32, calls: usize) -> Option<u32>
     ensures nodes { IfSome result (HasNodes kind capacity calls) }
     ensures none { IfNone result ((kind ≢ 2) × (2 ^ 32 ≤ capacity + calls + 1)) }
 {
@@ -36,7 +36,7 @@ fn nodes_for(kind: u32, capacity: u32, calls: usize) -> Option<u32>
 }
 
 // So many roles that push and pop.
-fn all_both(alloc: Global, count: usize) -> Result<Vec<u8>, Trouble>
+pub(crate) fn all_both(alloc: Global, count: usize) -> Result<Vec<u8>, Trouble>
     ensures roles { IfOk result (λ roles. roles.items ≡ new.all_both count) }
     ensures only_memory { IfErr result IsMemory }
 {
@@ -129,7 +129,7 @@ pub(crate) fn create(
     ensures full { OnOk result (AreFull is_full slots.new) }
     ensures made { OnOk result
         (AreNewShares kind capacity limit (length slots.old) (map share_at slots.new)) }
-    ensures refused { IfErr result (RefusesFilling kind capacity limit slots.old) }
+    ensures refused { IfErr result (RefusesFilling is_full kind capacity limit slots.old) }
     ensures same { OnErr result (slots.new ≡ slots.old) }
 {
     if !all_are_empty::<ShareBlock, MsqShare>(slots) {

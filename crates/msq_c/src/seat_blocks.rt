@@ -22,7 +22,7 @@ pub type QueueSeat = EitherSeat<Seat, RingSeat>;
 /// Memory for the end of a queue: for what is left and its seats as those of its kind, and for its seats without their shares.
 #[derive(Drop)]
 pub struct EndRoom {
-    pub(crate) rest: EitherRoom<Seat, RingSeat>,
+    pub(crate) rest: EitherRoom<Vec<Taken>, Seat, Vec<Taken>, RingSeat>,
     pub(crate) seats: Vec<QueueSeat>,
 }
 

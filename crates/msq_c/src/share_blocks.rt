@@ -5,9 +5,11 @@ ghost use Rattle.shared_queue.specs.Stepped.{capacity_of};
 ghost use Rattle.msq_c.specs.Ends.{HasAnyRoom, IsRoomless};
 ghost use Rattle.msq_c.specs.ShareEnds.{queue_in};
 ghost use Rattle.msq_c.specs.Calls.{LaysTry, BegunFrom, AnswersBegin, BeginsBlock, AnswersStep, StepsBlock};
-ghost use Rattle.msq_c.specs.Calls.{HasLength, HearsBell};
+ghost use Rattle.msq_c.specs.Calls.{HasLength, HearsBell, new_call};
+ghost use Rattle.msq_c.specs.NewShares.{share_at};
+ghost use Rattle.msq_c.specs.Shares.{is_full};
 
-use crate::call_words::{MsqAct, MsqCall, asked_for, task_with, word_in};
+use crate::call_words::{MsqAct, MsqCall, asked_for, keep, task_with, word_in};
 use crate::looks::ForLength;
 use crate::seat_blocks::{APART, EndRoom, Queue, room_for_end};
 use crate::share_handles::MsqShare;
@@ -16,7 +18,7 @@ use crate::troubles::Trouble;
 use calls::{Act, Bell, Task};
 use carriers::Numbers;
 use history::Body;
-use shared_queue::{Asked, Share, Tried};
+use shared_queue::{Share, Tried};
 use std::alloc::Global;
 
 /// A seat with its share of a queue of numbers.
@@ -65,41 +67,43 @@ impl ShareBlock {
         Ok(())
     }
 
-    // Writes what a try came to.
-    fn lay(&self, tried: &Tried<Body>, word: &mut u64, call: &mut MsqCall, told: &mut MsqAct)
-        ensures { LaysTry tried.now word.new call.old call.new told.new }
+    // Writes what a try of this task came to, with this value: of one that is told a word and a code.
+    #[inline(always)]
+    fn lay(
+        &self,
+        tried: Tried,
+        task: Task,
+        value: &Option<Body>,
+        word: &mut u64,
+        call: &mut MsqCall,
+        told: &mut MsqAct,
+    )
+        ensures { LaysTry task tried value.now word.new call.old call.new told.new }
     {
+        *word = word_in(value);
         match tried {
-            Tried::Told(code, value) => {
-                *word = word_in(value);
-                told.tell(*code);
-            }
-            Tried::Wakes(bell, asked) => {
-                *word = word_in(&asked.value);
-                *call = MsqCall::of(asked);
-                *told = MsqAct::of(Act::WakeOne(*bell), self.share.queue(), 0);
-            }
-            Tried::Rest(asked) => {
-                *word = word_in(&asked.value);
-                *call = MsqCall::of(asked);
-                *told = MsqAct::of(Act::Yield, self.share.queue(), 0);
-            }
+            Tried::Told(code) => told.tell(code),
+            tried => keep(self.share.queue(), tried, task, *word, call, told),
         }
     }
 
-    // Makes the first steps of a new call, and writes what it came to.
+    // Makes the first steps of a new call, which is late from the first if it never waits, and writes what it came to.
+    #[inline(never)]
     fn first_steps(
         &mut self,
-        mut asked: Asked<Body>,
-        late: bool,
+        task: Task,
+        tries: bool,
+        value: Option<Body>,
         word: &mut u64,
         call: &mut MsqCall,
         told: &mut MsqAct,
     )
         ensures queue { stepped_at self.new.share ≡ stepped_at self.old.share }
-        ensures begun { BegunFrom late asked self.old self.new word.new call.old call.new told.new }
+        ensures begun { BegunFrom tries (new_call task tries value) self.old self.new word.new
+            call.old call.new told.new }
     {
-        let act = self.share.step(&mut asked, late);
+        let mut asked = asked_for(task, tries, value);
+        let act = self.share.step(&mut asked, tries);
         *told = MsqAct::of(act, self.share.queue(), asked.heard);
         *word = word_in(&asked.value);
         match act {
@@ -120,23 +124,22 @@ impl ShareBlock {
         ensures { BeginsBlock self.old self.new task tries word.old word.new call.old call.new
             told.old told.new result }
     {
-        let Some((task, value)) = task_with(task, *word) else {
+        let Some((task, mut value)) = task_with(task, *word) else {
             return Err(Trouble::BadSize);
         };
-        match (tries, task, value) {
-            (true, Task::Push, Some(body)) => {
-                let tried = self.share.try_push(body);
-                self.lay(&tried, word, call, told);
+        match (tries, task) {
+            (true, Task::Push) => {
+                let tried = self.share.try_push(&mut value);
+                self.lay(tried, Task::Push, &value, word, call, told);
                 Ok(())
             }
-            (true, Task::Pop, None) => {
-                let tried = self.share.try_pop();
-                self.lay(&tried, word, call, told);
+            (true, Task::Pop) => {
+                let tried = self.share.try_pop(&mut value);
+                self.lay(tried, Task::Pop, &value, word, call, told);
                 Ok(())
             }
             _ => {
-                let asked = asked_for(task, tries, value);
-                self.first_steps(asked, tries, word, call, told);
+                self.first_steps(task, tries, value, word, call, told);
                 Ok(())
             }
         }
@@ -200,7 +203,7 @@ pub(crate) fn step(
 
 /// How many values there are, by a handle.
 pub(crate) fn len(alloc: Global, slot: &mut MsqShare) -> Result<u64, Trouble>
-    ensures { HasLength slot.old slot.new result }
+    ensures { HasLength is_full share_at slot.old slot.new result }
 {
     if !slot.is_full() {
         return Err(Trouble::NoHandle);
@@ -218,7 +221,7 @@ pub(crate) fn listen(
     bell: Bell,
     told: &mut MsqAct,
 ) -> Result<(), Trouble>
-    ensures { HearsBell slot.old slot.new told.old told.new result }
+    ensures { HearsBell is_full share_at slot.old slot.new told.old told.new result }
 {
     if !slot.is_full() {
         return Err(Trouble::NoHandle);

@@ -1,5 +1,5 @@
 //! A share of a queue whose calls are stepped, behind a pointer, as C holds it.
-ghost use Rattle.std.specs.Prelude.{◌≡◌, Bool, true, false};
+ghost use Rattle.std.specs.Prelude.{◌≡◌, Bool, true};
 ghost use Rattle.msq_c.specs.Boxed.{box_if};
 ghost use Rattle.msq_c.specs.declared.share_blocks.ShareBlock.{ShareBlock};
 ghost use Rattle.msq_c.specs.contracts.share_blocks.ShareBlock.{the_row};
@@ -24,34 +24,6 @@ impl Model for ShareHandle {
     ghost also_owns = { λ h. box_if the_row h.full h.at h.value };
 }
 
-impl ShareHandle {
-    fn sealed(parts: Parts<ShareBlock, Global>) -> ShareHandle
-        ensures { (result.full ≡ true) × (result.value ≡ parts.value) }
-    {
-        let Parts { ptr, alloc: _ } = parts;
-        ShareHandle { at: ptr as *mut u8 }
-    }
-
-    fn into_parts(self, alloc: Global) -> Parts<ShareBlock, Global>
-        requires { self.full ≡ true }
-        ensures { result.value ≡ self.value }
-    {
-        let ShareHandle { at } = self;
-        Parts {
-            ptr: at as *mut ShareBlock,
-            alloc,
-        }
-    }
-
-    fn empty(_like: &ShareHandle) -> ShareHandle
-        ensures { result.full ≡ false }
-    {
-        ShareHandle {
-            at: ptr::null_mut(),
-        }
-    }
-}
-
 /// What C holds of a share: a handle, and whether it is full. All zeros are an empty one.
 #[repr(C)]
 #[derive(Drop)]
@@ -74,22 +46,29 @@ impl Slot<ShareBlock> for MsqShare {
 
     fn empty_like(&self) -> MsqShare {
         MsqShare {
-            handle: ShareHandle::empty(&self.handle),
+            handle: ShareHandle {
+                at: ptr::null_mut(),
+            },
             full: false,
         }
     }
 
-    fn into_seat(self, alloc: Global) -> Box<ShareBlock, Global> {
+    fn into_parts(self, alloc: Global) -> Parts<ShareBlock, Global> {
         let MsqShare { handle, full: _ } = self;
-        handle.into_parts(alloc).into_box()
+        let ShareHandle { at } = handle;
+        Parts {
+            ptr: at as *mut ShareBlock,
+            alloc,
+        }
     }
 
-    fn of(seat: Box<ShareBlock, Global>) -> MsqShare
-        ensures value { block_at result ≡ seat.value }
+    fn of_parts(parts: Parts<ShareBlock, Global>) -> MsqShare
+        ensures value { block_at result ≡ parts.value }
         ensures full { is_full result ≡ true }
     {
+        let Parts { ptr, alloc: _ } = parts;
         MsqShare {
-            handle: ShareHandle::sealed(Parts::of(seat)),
+            handle: ShareHandle { at: ptr as *mut u8 },
             full: true,
         }
     }

@@ -1,5 +1,5 @@
 //! A seat of a queue of one word behind a pointer, as C holds it.
-ghost use Rattle.std.specs.Prelude.{◌≡◌, Bool, true, false};
+ghost use Rattle.std.specs.Prelude.{◌≡◌, Bool, true};
 ghost use Rattle.msq_c.specs.Boxed.{box_if};
 ghost use Rattle.msq_c.specs.WordRows.{OwnOne, one_row};
 
@@ -27,34 +27,6 @@ impl Model for SingleHandle {
     ghost also_owns = { λ h. box_if one_row h.full h.at h.value };
 }
 
-impl SingleHandle {
-    fn sealed(parts: Parts<OneSeat, Global>) -> SingleHandle
-        ensures { (result.full ≡ true) × (result.value ≡ parts.value) }
-    {
-        let Parts { ptr, alloc: _ } = parts;
-        SingleHandle { at: ptr as *mut u8 }
-    }
-
-    fn into_parts(self, alloc: Global) -> Parts<OneSeat, Global>
-        requires { self.full ≡ true }
-        ensures { result.value ≡ self.value }
-    {
-        let SingleHandle { at } = self;
-        Parts {
-            ptr: at as *mut OneSeat,
-            alloc,
-        }
-    }
-
-    fn empty(_like: &SingleHandle) -> SingleHandle
-        ensures { result.full ≡ false }
-    {
-        SingleHandle {
-            at: ptr::null_mut(),
-        }
-    }
-}
-
 /// What C holds of a seat of a queue of one word: a handle, and whether it is full. All zeros are an empty one.
 #[repr(C)]
 #[derive(Drop)]
@@ -77,22 +49,29 @@ impl Slot<OneSeat> for MsqWordSeat {
 
     fn empty_like(&self) -> MsqWordSeat {
         MsqWordSeat {
-            handle: SingleHandle::empty(&self.handle),
+            handle: SingleHandle {
+                at: ptr::null_mut(),
+            },
             full: false,
         }
     }
 
-    fn into_seat(self, alloc: Global) -> Box<OneSeat, Global> {
+    fn into_parts(self, alloc: Global) -> Parts<OneSeat, Global> {
         let MsqWordSeat { handle, full: _ } = self;
-        handle.into_parts(alloc).into_box()
+        let SingleHandle { at } = handle;
+        Parts {
+            ptr: at as *mut OneSeat,
+            alloc,
+        }
     }
 
-    fn of(seat: Box<OneSeat, Global>) -> MsqWordSeat
-        ensures value { block_at result ≡ seat.value }
+    fn of_parts(parts: Parts<OneSeat, Global>) -> MsqWordSeat
+        ensures value { block_at result ≡ parts.value }
         ensures full { is_full result ≡ true }
     {
+        let Parts { ptr, alloc: _ } = parts;
         MsqWordSeat {
-            handle: SingleHandle::sealed(Parts::of(seat)),
+            handle: SingleHandle { at: ptr as *mut u8 },
             full: true,
         }
     }

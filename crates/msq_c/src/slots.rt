@@ -1,15 +1,16 @@
-//! What C holds of a seat of a queue of words, whatever its values are.
+//! What C holds of a seat or of a share, whatever its values are.
 ghost use Rattle.std.specs.Prelude.{◌≡◌, Bool, MatchBool, IfOk, IfErr, length, map, true, false};
 ghost use Rattle.msq_c.specs.Ends.{IsMemory};
 ghost use Rattle.msq_c.specs.WordEnds.{AreFull, AreEmpty, ArePut};
 
+use crate::parts::Parts;
 use crate::troubles::Trouble;
 use history::Refusal;
 use std::alloc::Global;
 use std::mem;
 
 /// What C holds of a seat: a pointer to it, where it is full, which then owns the seat's block.
-pub trait Slot<O: Drop>: Send + Drop {
+pub trait Slot<O: Drop>: Send + Drop + Sized {
     // Whether there is a seat.
     ghost holds: { Self → Bool };
 
@@ -24,15 +25,31 @@ pub trait Slot<O: Drop>: Send + Drop {
     fn empty_like(&self) -> Self
         ensures { holds result ≡ false };
 
-    /// The seat of a full handle.
-    fn into_seat(self, alloc: Global) -> Box<O, Global>
+    /// What a full handle owns, with its allocator.
+    fn into_parts(self, alloc: Global) -> Parts<O, Global>
         requires { holds self ≡ true }
         ensures { result.value ≡ own self };
 
-    /// A full handle of this seat.
-    fn of(seat: Box<O, Global>) -> Self
-        ensures value { own result ≡ seat.value }
+    /// A full handle, which owns what these parts owned.
+    fn of_parts(parts: Parts<O, Global>) -> Self
+        ensures value { own result ≡ parts.value }
         ensures full { holds result ≡ true };
+
+    /// The seat of a full handle.
+    final fn into_seat(self, alloc: Global) -> Box<O, Global>
+        requires { holds self ≡ true }
+        ensures { result.value ≡ own self }
+    {
+        self.into_parts(alloc).into_box()
+    }
+
+    /// A full handle of this seat.
+    final fn of(seat: Box<O, Global>) -> Self
+        ensures value { own result ≡ seat.value }
+        ensures full { holds result ≡ true }
+    {
+        Self::of_parts(Parts::of(seat))
+    }
 }
 
 /// The seat of a full handle, which is left empty.

@@ -1,5 +1,5 @@
 //! A seat of a queue of three words behind a pointer, as C holds it.
-ghost use Rattle.std.specs.Prelude.{◌≡◌, Bool, true, false};
+ghost use Rattle.std.specs.Prelude.{◌≡◌, Bool, true};
 ghost use Rattle.msq_c.specs.Boxed.{box_if};
 ghost use Rattle.msq_c.specs.WordRows.{OwnThree, three_row};
 
@@ -28,34 +28,6 @@ impl Model for WordHandle {
     ghost also_owns = { λ h. box_if three_row h.full h.at h.value };
 }
 
-impl WordHandle {
-    fn sealed(parts: Parts<ThreeSeat, Global>) -> WordHandle
-        ensures { (result.full ≡ true) × (result.value ≡ parts.value) }
-    {
-        let Parts { ptr, alloc: _ } = parts;
-        WordHandle { at: ptr as *mut u8 }
-    }
-
-    fn into_parts(self, alloc: Global) -> Parts<ThreeSeat, Global>
-        requires { self.full ≡ true }
-        ensures { result.value ≡ self.value }
-    {
-        let WordHandle { at } = self;
-        Parts {
-            ptr: at as *mut ThreeSeat,
-            alloc,
-        }
-    }
-
-    fn empty(_like: &WordHandle) -> WordHandle
-        ensures { result.full ≡ false }
-    {
-        WordHandle {
-            at: ptr::null_mut(),
-        }
-    }
-}
-
 /// What C holds of a seat of a queue of three words: a handle, and whether it is full. All zeros are an empty one.
 #[repr(C)]
 #[derive(Drop)]
@@ -78,22 +50,29 @@ impl Slot<ThreeSeat> for MsqWordsSeat {
 
     fn empty_like(&self) -> MsqWordsSeat {
         MsqWordsSeat {
-            handle: WordHandle::empty(&self.handle),
+            handle: WordHandle {
+                at: ptr::null_mut(),
+            },
             full: false,
         }
     }
 
-    fn into_seat(self, alloc: Global) -> Box<ThreeSeat, Global> {
+    fn into_parts(self, alloc: Global) -> Parts<ThreeSeat, Global> {
         let MsqWordsSeat { handle, full: _ } = self;
-        handle.into_parts(alloc).into_box()
+        let WordHandle { at } = handle;
+        Parts {
+            ptr: at as *mut ThreeSeat,
+            alloc,
+        }
     }
 
-    fn of(seat: Box<ThreeSeat, Global>) -> MsqWordsSeat
-        ensures value { block_at result ≡ seat.value }
+    fn of_parts(parts: Parts<ThreeSeat, Global>) -> MsqWordsSeat
+        ensures value { block_at result ≡ parts.value }
         ensures full { is_full result ≡ true }
     {
+        let Parts { ptr, alloc: _ } = parts;
         MsqWordsSeat {
-            handle: WordHandle::sealed(Parts::of(seat)),
+            handle: WordHandle { at: ptr as *mut u8 },
             full: true,
         }
     }

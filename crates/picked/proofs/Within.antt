@@ -3,9 +3,7 @@ use Rattle.std.proofs.Common.{◌≡◌, List, [], ◌∷◌, map, ◌∙◌, ap
 use Rattle.std.specs.List.{All}
 use mathlib.Core.List.{map-map}
 use Rattle.std.proofs.lemmas.List.Elements.{All-cons, All-nil, All-head, All-tail, All-map}
-use Rattle.history.specs.Ends.{Closes}
-use Rattle.history.specs.Seats.{Known, Permit}
-use Rattle.history.specs.declared.rests.Rest.{Rest}
+use Rattle.history.specs.Seats.{Permit}
 
 -- what holds of a queue holds of it as one of its kind or split
 pub as_same : {Q : Type 0} {q p : Q} → q ≡ p → (P : Q → Type 0) → P q → P p
@@ -22,15 +20,16 @@ each_made wrap ss e P all = subst (All P) (sym e) (All-map P wrap ss all)
 
 -- the end of a queue that is one of its kind, and of whose seats these are within
 module _ {Q S X : Type 0} (wrap : S → X) {q p : Q} (is : q ≡ p) {xs : List X} (ss : List S) (e : xs ≡ map wrap ss) where
-  known_within : (known : X → Known) → map known xs ≡ map (λ s. known (wrap s)) ss
+  known_within : {K : Type 0} (known : X → K) → map known xs ≡ map (λ s. known (wrap s)) ss
   known_within known = ap (map known) e ∙ map-map known wrap ss
 
   pub seats_within : (P : Q → X → Type 0) → All (P q) xs → All (λ s. P p (wrap s)) ss
   seats_within P all = unmapped (P p) wrap ss (subst (All (P p)) e (subst (λ (x : Q). All (P x) xs) is all))
 
-  pub asked_within : (asks : Q → List Known → Type 0) (known : X → Known) → asks q (map known xs) → asks p (map (λ s. known (wrap s)) ss)
+  pub asked_within : {K : Type 0} (asks : Q → List K → Type 0) (known : X → K) → asks q (map known xs) → asks p (map (λ s. known (wrap s)) ss)
   asked_within asks known asked = subst (asks p) (known_within known) (subst (λ (x : Q). asks x (map known xs)) is asked)
 
-  pub closes_within : (permits : Q → List Permit) (known : X → Known) (rest : Rest) → Closes (permits p) (map (λ s. known (wrap s)) ss) rest → Closes (permits q) (map known xs) rest
-  closes_within permits known rest c = subst (λ (x : Q). Closes (permits x) (map known xs) rest) (sym is)
-      (subst (λ (ks : List Known). Closes (permits p) ks rest) (sym (known_within known)) c)
+  pub closes_within : {K : Type 0} (permits : Q → List Permit) (known : X → K) (closes : List Permit → List K → Type 0)
+      → closes (permits p) (map (λ s. known (wrap s)) ss) → closes (permits q) (map known xs)
+  closes_within {K = K} permits known closes c = subst (λ (x : Q). closes (permits x) (map known xs)) (sym is)
+      (subst (λ (ks : List K). closes (permits p) ks) (sym (known_within known)) c)

@@ -3,7 +3,7 @@ use Rattle.std.specs.Prelude.{ℕ, List}
 use Rattle.std.proofs.Props.{props}
 use Rattle.history.specs.declared.refusals.Refusal.{Refusal}
 use Rattle.history.specs.declared.refusals.Refusal.TheVariants.{Closed}
-use Rattle.history.specs.Seats.{Permit, Known, IsSound}
+use Rattle.history.specs.Seats.{Permit}
 use Rattle.picked.specs.declared.either.EitherQueue.{EitherQueue}
 use Rattle.picked.specs.declared.either.EitherQueue.TheVariants as queue
 use Rattle.picked.specs.declared.either.EitherSeat.{EitherSeat}
@@ -41,7 +41,7 @@ either_permits first second (queue.First a) = first a
 either_permits first second (queue.Second b) = second b
 
 -- what a seat knows
-abbrev pub either_known : {S T : Type 0} → (S → Known) → (T → Known) → EitherSeat S T → Known
+abbrev pub either_known : {S T K : Type 0} → (S → K) → (T → K) → EitherSeat S T → K
 either_known first second (seat.First s) = first s
 either_known first second (seat.Second t) = second t
 
@@ -60,13 +60,13 @@ module _ {A B S T : Type 0} where
   EitherCause first second q before after turns refusal = ⊥
 
   -- what a seat knows is sound
-  pub either_sound : (first : A → S → Type 0) (second : B → T → Type 0) (permits : A → List Permit) (others : B → List Permit) (known : S → Known) (knows : T → Known)
+  pub either_sound : {K : Type 0} (IsSound : List Permit → K → Type 0) (first : A → S → Type 0) (second : B → T → Type 0) (permits : A → List Permit) (others : B → List Permit) (known : S → K) (knows : T → K)
       → ((a : A) (s : S) → first a s → IsSound (permits a) (known s)) → ((b : B) (t : T) → second b t → IsSound (others b) (knows t))
       → (q : EitherQueue A B) (x : EitherSeat S T) → IsEitherSeat first second q x → IsSound (either_permits permits others q) (either_known known knows x)
-  either_sound first second permits others known knows one two (queue.First a) (seat.First s) h = one a s h
-  either_sound first second permits others known knows one two (queue.Second b) (seat.Second t) h = two b t h
-  either_sound first second permits others known knows one two (queue.First a) (seat.Second t) h = absurd h
-  either_sound first second permits others known knows one two (queue.Second b) (seat.First s) h = absurd h
+  either_sound IsSound first second permits others known knows one two (queue.First a) (seat.First s) h = one a s h
+  either_sound IsSound first second permits others known knows one two (queue.Second b) (seat.Second t) h = two b t h
+  either_sound IsSound first second permits others known knows one two (queue.First a) (seat.Second t) h = absurd h
+  either_sound IsSound first second permits others known knows one two (queue.Second b) (seat.First s) h = absurd h
 
   -- what causes a shut to be refused Closed is cause for a push to be refused so
   pub either_alike : (push : A → S → S → ℕ → Refusal → Type 0) (pushes : B → T → T → ℕ → Refusal → Type 0) (shut : A → S → S → ℕ → Refusal → Type 0) (shuts : B → T → T → ℕ → Refusal → Type 0)

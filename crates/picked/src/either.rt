@@ -1,4 +1,5 @@
 //! Each call is that of the queue within.
+use crate::forwards::of_either;
 use history::{Body, Fifo, Refusal, Taken};
 
 /// A queue of one of two kinds. Threads share it by reference, each with a seat of its own.
@@ -24,20 +25,10 @@ pub enum EitherSeat<S: Drop, T: Drop> {
     Second(T),
 }
 
-// A call of the queue within by the seat within, both of which are of one kind.
-macro_rules! of_either {
-    ($whole:ident, $seat:ident, $queue:ident => $call:expr) => {
-        match ($whole, $seat) {
-            (EitherQueue::First($queue), EitherSeat::First($seat)) => $call,
-            (EitherQueue::Second($queue), EitherSeat::Second($seat)) => $call,
-            _ => unreachable!(),
-        }
-    };
-}
-
 //= library/either: A queue of one of two kinds, both of which meet `Fifo`, meets it too; what causes a refusal is what causes it
 //=   in the queue within.
 impl<A: Fifo + Drop, B: Fifo + Drop> Fifo for EitherQueue<A, B> {
+    ghost use Rattle.history.specs.Seats.{IsSound};
     ghost use Rattle.picked.specs.Either.{IsEitherSeat, either_permits, either_known, EitherCause, either_sound, either_alike, either_prop};
 
     type Seat = EitherSeat<A::Seat, B::Seat>;
@@ -54,7 +45,7 @@ impl<A: Fifo + Drop, B: Fifo + Drop> Fifo for EitherQueue<A, B> {
 
     ghost shut_cause = { EitherCause A.shut_cause B.shut_cause };
 
-    ghost sound = { either_sound A.is_seat B.is_seat A.permits B.permits A.known B.known A.sound B.sound };
+    ghost sound = { either_sound IsSound A.is_seat B.is_seat A.permits B.permits A.known B.known A.sound B.sound };
 
     ghost closed_alike = { either_alike A.push_cause B.push_cause A.shut_cause B.shut_cause A.closed_alike B.closed_alike };
 

@@ -11,11 +11,11 @@ use std::alloc::Global;
 
 /// Memory for the end of a queue of one of two kinds: for the values left, and for its seats as those of its kind.
 #[derive(Drop)]
-pub enum EitherRoom<S: Drop, T: Drop> {
+pub enum EitherRoom<V: Drop, S: Drop, W: Drop, T: Drop> {
     /// For one of the first kind.
-    First(Vec<Taken>, Vec<S>),
+    First(V, Vec<S>),
     /// For one of the second.
-    Second(Vec<Taken>, Vec<T>),
+    Second(W, Vec<T>),
 }
 
 /// What the end of a queue of one of two kinds gives beside the rest: what that of the queue within does.
@@ -27,42 +27,51 @@ pub enum EitherEnd<C: Drop, D: Drop> {
     Second(D),
 }
 
-// Seats as those of a queue of the first kind.
-fn in_first<S: Drop, T: Drop>(
-    alloc: Global,
-    seats: Vec<S>,
-) -> Result<Vec<EitherSeat<S, T>>, Refusal>
-    ensures seats { IfOk result (λ r. r.items ≡ map as_first seats.items) }
-    ensures only_memory { IfErr result (λ refusal. refusal ≡ Refusal.Memory) }
-{
-    let Ok(mut list) = Vec::with_capacity(alloc, seats.len()) else {
-        return Err(Refusal::Memory);
-    };
-    for seat in seats {
-        list.push_reserved(EitherSeat::First(seat));
+impl<S: Drop, T: Drop> EitherSeat<S, T> {
+    /// The seats of a queue of the first kind as those of one of two kinds, in their order.
+    ///
+    /// Refused by `Memory` alone; the seats are then given up. Takes memory for the list, and doesn't wait.
+    ///
+    /// ```rust
+    /// let (queue, seats) = AnyValues::<Job>::new(alloc, Kind::NonBlocking, 1024, &roles)?;
+    /// let seats = EitherSeat::all_first(alloc, seats)?;
+    /// let queue: EitherQueue<AnyValues<Job>, RingValues<Job>> = EitherQueue::First(queue);
+    /// ```
+    pub fn all_first(alloc: Global, seats: Vec<S>) -> Result<Vec<EitherSeat<S, T>>, Refusal>
+        //= library/either_made (seats, only_memory): A queue and its seats become one of two kinds and its seats, in
+        //=   their order, each of which is the queue's. Or Memory.
+        ensures seats { IfOk result (λ r. r.items ≡ map as_first seats.items) }
+        ensures only_memory { IfErr result (λ refusal. refusal ≡ Refusal.Memory) }
+    {
+        let Ok(mut list) = Vec::with_capacity(alloc, seats.len()) else {
+            return Err(Refusal::Memory);
+        };
+        for seat in seats {
+            list.push_reserved(EitherSeat::First(seat));
+        }
+        Ok(list)
     }
-    Ok(list)
-}
 
-// The same of the second.
-fn in_second<S: Drop, T: Drop>(
-    alloc: Global,
-    seats: Vec<T>,
-) -> Result<Vec<EitherSeat<S, T>>, Refusal>
-    ensures seats { IfOk result (λ r. r.items ≡ map as_second seats.items) }
-    ensures only_memory { IfErr result (λ refusal. refusal ≡ Refusal.Memory) }
-{
-    let Ok(mut list) = Vec::with_capacity(alloc, seats.len()) else {
-        return Err(Refusal::Memory);
-    };
-    for seat in seats {
-        list.push_reserved(EitherSeat::Second(seat));
+    /// The seats of a queue of the second kind as those of one of two kinds, in their order.
+    ///
+    /// Refused by `Memory` alone; the seats are then given up. Takes memory for the list, and doesn't wait.
+    pub fn all_second(alloc: Global, seats: Vec<T>) -> Result<Vec<EitherSeat<S, T>>, Refusal>
+        //= library/either_made (seats, only_memory)
+        ensures seats { IfOk result (λ r. r.items ≡ map as_second seats.items) }
+        ensures only_memory { IfErr result (λ refusal. refusal ≡ Refusal.Memory) }
+    {
+        let Ok(mut list) = Vec::with_capacity(alloc, seats.len()) else {
+            return Err(Refusal::Memory);
+        };
+        for seat in seats {
+            list.push_reserved(EitherSeat::Second(seat));
+        }
+        Ok(list)
     }
-    Ok(list)
 }
 
 // The seat within one of the first kind.
-fn first_in<S: Drop, T: Drop>(seat: EitherSeat<S, T>) -> S
+pub(crate) fn first_in<S: Drop, T: Drop>(seat: EitherSeat<S, T>) -> S
     requires { IsFirst seat }
     ensures { seat ≡ as_first result }
 {
@@ -73,7 +82,7 @@ fn first_in<S: Drop, T: Drop>(seat: EitherSeat<S, T>) -> S
 }
 
 // The seat within one of the second.
-fn second_in<S: Drop, T: Drop>(seat: EitherSeat<S, T>) -> T
+pub(crate) fn second_in<S: Drop, T: Drop>(seat: EitherSeat<S, T>) -> T
     requires { IsSecond seat }
     ensures { seat ≡ as_second result }
 {
@@ -84,7 +93,7 @@ fn second_in<S: Drop, T: Drop>(seat: EitherSeat<S, T>) -> T
 }
 
 // What `take` makes of each seat, put into a list with room for them.
-fn taken_out<X: Drop, S: Drop, F: Fn(X) -> S + Drop>(
+pub(crate) fn taken_out<X: Drop, S: Drop, F: Fn(X) -> S + Drop>(
     seats: Vec<X>,
     mut room: Vec<S>,
     take: F,
@@ -98,6 +107,17 @@ fn taken_out<X: Drop, S: Drop, F: Fn(X) -> S + Drop>(
         room.push_reserved(take(seat));
     }
     room
+}
+
+// Room for so many seats.
+pub(crate) fn seats_room<S: Drop>(alloc: Global, count: usize) -> Result<Vec<S>, Refusal>
+    ensures room { IfOk result (λ r. (r.items ≡ []) × (count ≤ vec_capacity r)) }
+    ensures only_memory { IfErr result (λ refusal. refusal ≡ Refusal.Memory) }
+{
+    match Vec::with_capacity(alloc, count) {
+        Ok(room) => Ok(room),
+        Err(_) => Err(Refusal::Memory),
+    }
 }
 
 impl<A: Fifo + Drop, B: Fifo + Drop> EitherQueue<A, B> {
@@ -115,14 +135,13 @@ impl<A: Fifo + Drop, B: Fifo + Drop> EitherQueue<A, B> {
         seats: Vec<A::Seat>,
     ) -> Result<(EitherQueue<A, B>, Vec<EitherSeat<A::Seat, B::Seat>>), Refusal>
         requires { All (A.is_seat queue) seats.items }
-        //= library/either_made (queue, seats, each, only_memory): A queue and its seats become one of two kinds and its seats, in
-        //=   their order, each of which is the queue's. Or Memory.
+        //= library/either_made (queue, seats, each, only_memory)
         ensures queue { IfOk result (λ r. r.0 ≡ first_of queue) }
         ensures seats { IfOk result (λ r. r.1.items ≡ map as_first seats.items) }
         ensures each { IfOk result (λ r. All (IsEitherSeat A.is_seat B.is_seat r.0) r.1.items) }
         ensures only_memory { IfErr result (λ refusal. refusal ≡ Refusal.Memory) }
     {
-        let list = in_first(alloc, seats)?;
+        let list = EitherSeat::all_first(alloc, seats)?;
         Ok((EitherQueue::First(queue), list))
     }
 
@@ -146,7 +165,7 @@ impl<A: Fifo + Drop, B: Fifo + Drop> EitherQueue<A, B> {
         ensures each { IfOk result (λ r. All (IsEitherSeat A.is_seat B.is_seat r.0) r.1.items) }
         ensures only_memory { IfErr result (λ refusal. refusal ≡ Refusal.Memory) }
     {
-        let list = in_second(alloc, seats)?;
+        let list = EitherSeat::all_second(alloc, seats)?;
         Ok((EitherQueue::Second(queue), list))
     }
 }
@@ -155,7 +174,11 @@ impl<A: Close + Drop, B: Close + Drop> EitherQueue<A, B> {
     /// Memory with which the queue is ended by so many seats.
     ///
     /// Refused by `Memory` alone. Takes memory for the values left and the seats, and doesn't wait.
-    pub fn room(&self, alloc: Global, seats: usize) -> Result<EitherRoom<A::Seat, B::Seat>, Refusal>
+    pub fn room(
+        &self,
+        alloc: Global,
+        seats: usize,
+    ) -> Result<EitherRoom<Vec<Taken>, A::Seat, Vec<Taken>, B::Seat>, Refusal>
         //= library/either_end (room, only_memory): A queue of one of two kinds, both of which meet `Close`, is ended
         //=   as the queue within: which room is enough, with room for the seats, which seats are, what is left, and
         //=   which end shows it, are as of that queue. Or Memory.
@@ -165,17 +188,11 @@ impl<A: Close + Drop, B: Close + Drop> EitherQueue<A, B> {
         match self {
             EitherQueue::First(queue) => {
                 let values = queue.room(alloc)?;
-                match Vec::with_capacity(alloc, seats) {
-                    Ok(room) => Ok(EitherRoom::First(values, room)),
-                    Err(_) => Err(Refusal::Memory),
-                }
+                Ok(EitherRoom::First(values, seats_room(alloc, seats)?))
             }
             EitherQueue::Second(queue) => {
                 let values = queue.room(alloc)?;
-                match Vec::with_capacity(alloc, seats) {
-                    Ok(room) => Ok(EitherRoom::Second(values, room)),
-                    Err(_) => Err(Refusal::Memory),
-                }
+                Ok(EitherRoom::Second(values, seats_room(alloc, seats)?))
             }
         }
     }
@@ -192,7 +209,7 @@ impl<A: Close + Drop, B: Close + Drop> EitherQueue<A, B> {
     /// ```
     pub fn close_with(
         self,
-        room: EitherRoom<A::Seat, B::Seat>,
+        room: EitherRoom<Vec<Taken>, A::Seat, Vec<Taken>, B::Seat>,
         seats: Vec<EitherSeat<A::Seat, B::Seat>>,
     ) -> (Rest, EitherEnd<A::End, B::End>)
         requires room { HasEitherRoom A.has_room B.has_room self (length seats.items) room }

@@ -40,6 +40,18 @@ macro_rules! new_of_split {
     };
 }
 
+// A call of the queue within one of two kinds by the seat within, both of which are of one kind.
+macro_rules! of_either {
+    ($whole:ident, $seat:ident, $queue:ident => $call:expr) => {
+        match ($whole, $seat) {
+            (EitherQueue::First($queue), EitherSeat::First($seat)) => $call,
+            (EitherQueue::Second($queue), EitherSeat::Second($seat)) => $call,
+            _ => unreachable!(),
+        }
+    };
+}
+
 pub(crate) use new_of_split;
+pub(crate) use of_either;
 pub(crate) use of_kind;
 pub(crate) use of_split;

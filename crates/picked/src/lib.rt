@@ -4,6 +4,7 @@
 mod any;
 mod either;
 mod either_seats;
+mod either_values;
 mod forwards;
 mod kind_values;
 mod picked;

@@ -1,5 +1,5 @@
 -- A history that is one of a queue was one at each number.
-use Rattle.std.proofs.Common.{◌≡◌, inl, inr, ◌∙◌, append_assoc, ℕ, ◌≤◌, ◌<◌, Bool, true, false, cond, nat_le, Option, None, Some, IsSome, IfSome, All, List, [], ◌∷◌, ◌++◌, map, refl, sym, ap, subst, arith}
+use Rattle.std.proofs.Common.{◌≡◌, inl, inr, ◌∙◌, append_assoc, ℕ, ◌≤◌, ◌<◌, Bool, true, false, cond, nat_le, Option, None, Some, IsSome, IfSome, List, [], ◌∷◌, ◌++◌, map, refl, sym, ap, subst, arith}
 use Rattle.std.specs.List.{AllByRecursion, filter}
 use Rattle.std.specs.List.Sorted.{IsPermutation}
 use Rattle.std.specs.Prelude.{IsNone}
@@ -212,7 +212,7 @@ module _ (time : ℕ) where
 
   -- ---- at a number behind all others
 
-  same_cut : (o : Stamped) → IsBy time o → IsFaultless o → cut time o ≡ o
+  pub same_cut : (o : Stamped) → IsBy time o → IsFaultless o → cut time o ≡ o
   same_cut o by f = go o.last refl o.reply refl
     where
       go : (last : Option ℕ) → o.last ≡ last → (reply : Option Reply) → o.reply ≡ reply → cut time o ≡ o
@@ -225,7 +225,7 @@ module _ (time : ℕ) where
           ∙ ap (λ r. (let p : Stamped = record o { reply = r } in p)) (sym d)
       go None e (Some reply) d = absurd (f (inl (inr (subst IsNone (sym e) refl, subst IsSome (sym d) refl))))
 
-  all_begun : (os : List Stamped) → AllByRecursion (IsBy time) os → AllByRecursion IsFaultless os → begun time os ≡ os
+  pub all_begun : (os : List Stamped) → AllByRecursion (IsBy time) os → AllByRecursion IsFaultless os → begun time os ≡ os
   all_begun [] by f = refl
   all_begun (o ∷ os) by f = go (is_begun o) (le-leb o.first time by.0.first) (all_begun os by.1 f.1)
     where
@@ -233,16 +233,10 @@ module _ (time : ℕ) where
       go true e more = ap (λ p. p ∷ begun time os) (same_cut o by.0 f.0) ∙ ap (λ l. o ∷ l) more
       go false e more = absurd cc
 
-  all_in_part : (ms : List Marked) → AllByRecursion (λ m. m.is_in ≡ true) ms → part_of ms ≡ all_of ms
+  pub all_in_part : (ms : List Marked) → AllByRecursion (λ m. m.is_in ≡ true) ms → part_of ms ≡ all_of ms
   all_in_part [] h = refl
   all_in_part (m ∷ ms) h = go m.is_in h.0 (all_in_part ms h.1)
     where
       go : (b : Bool) → b ≡ true → part_of ms ≡ all_of ms → all_of (cond b (m ∷ filter (λ m. m.is_in) ms) (filter (λ m. m.is_in) ms)) ≡ m.operation ∷ all_of ms
       go true e more = ap (λ l. m.operation ∷ l) more
       go false e more = absurd cc
-
-  -- a part with all calls is the history
-  pub whole_is : (ops : List Stamped) (ms : List Marked) → All IsFaultless ops → All (IsBy time) ops → All (λ m. m.is_in ≡ true) ms → all_of ms ≡ begun time ops
-      → part_of ms ≡ ops
-  whole_is ops ms f by ins e =
-      all_in_part ms (recursion_from_All (λ m. m.is_in ≡ true) ms ins) ∙ e ∙ all_begun ops (recursion_from_All (IsBy time) ops by) (recursion_from_All IsFaultless ops f)

@@ -18,3 +18,4 @@ pub mod Risen
 pub mod Indices
 pub mod Pointing
 pub mod Putting
+pub mod Whole

@@ -4,6 +4,7 @@ use Rattle.history.specs.declared.operations.Stamped.{Stamped}
 use Rattle.history.specs.declared.operations.Verdict.TheVariants.{Yes}
 use Rattle.history.specs.History.{verdict}
 use Rattle.waiting_orders.specs.Reached.{TakesRoom}
+use Rattle.waiting_orders.specs.Waiting.{IsOfQueue}
 use Rattle.placing.specs.declared.answers.Unknown.{Unknown}
 use Rattle.placing.specs.declared.answers.Unknown.TheVariants.{Room, Unplaced}
 use Rattle.placing.specs.declared.answers.Placed.{Placed}
@@ -20,11 +21,11 @@ IsAnswer ops (History new) = IsSpread ops new.items × (verdict new.items ≡ Ye
 IsAnswer ops (Impossible reason) = IsReason ops reason
 IsAnswer ops (Open cause) = All IsFaultless ops
 
--- Why neither was found, by a search whose states may take so many bytes: those that are reached take as many or more, or it
--- found an order by which a history of at most 2147483648 operations isn't one of a queue.
+-- Why neither was found, by a search whose states may take so many bytes: those that are reached take as many or more, or the
+-- history is one of a queue, but by the order that was found one of at most 2147483648 operations isn't.
 abbrev pub IsCause : List Stamped → (room : ℕ) → Unknown → Type 0
 IsCause ops room Room = TakesRoom ops room
-IsCause ops room Unplaced = (order : List ℕ) × (length ops ≤ 2147483648 → IsOrder ops order → ⊥)
+IsCause ops room Unplaced = IsOfQueue ops × (order : List ℕ) × (length ops ≤ 2147483648 → IsOrder ops order → ⊥)
 
 -- where an answer is open, it has its cause
 abbrev pub HasCause : List Stamped → (room : ℕ) → Placed → Type 0

@@ -39,6 +39,11 @@ pub record AddsCall (time place : ℕ) (is_in : Bool) (o : Stamped) (old new : L
   pub late : time < o.first → new ≡ old
   pub early : o.first ≤ time → new ≡ old ++ marked time place is_in o ∷ []
 
+-- a place is put in behind others, unless it is this one
+pub record AddsOther (place one : ℕ) (old new : List ℕ) : Type 0 where
+  pub same : one ≡ place → new ≡ old
+  pub other : (one ≡ place → ⊥) → new ≡ old ++ one ∷ []
+
 -- a call that may have had its effect, and isn't told what it took, may be left out of a part: a push of a value of which no pop of
 -- the part was told
 abbrev pub MayGoUnknown : (part : List Stamped) → (actor : ℕ) → Op → Type 0

@@ -227,6 +227,15 @@ pub record IsToldOther (time : ℕ) (o : Stamped) : Type 0 where
   pub told : ended_by time o.last ≡ true
   pub other : (kind : Kind) → pushes_in kind o ≡ false
 
+-- an operation ended, and is no push that may have had its effect
+pub record IsEndedOther (o : Stamped) : Type 0 where
+  pub ended : IsSome o.last
+  pub other : (kind : Kind) → pushes_in kind o ≡ false
+
+-- an operation that ended is a push that may have had its effect
+abbrev pub IsPushIfEnded : Stamped → Type 0
+IsPushIfEnded o = IsSome o.last → (kind : Kind) × (pushes_in kind o ≡ true)
+
 -- a call is an operation at its place, as it was at a number
 pub record IsCutOf (ops : List Stamped) (time : ℕ) (call : Marked) : Type 0 where
   pub operation : Stamped

@@ -1,8 +1,7 @@
 //! The calls that began by a number, and which of them are none of a queue.
 ghost use Rattle.std.specs.Prelude.{◌≡◌, true, All, IfOk, OnOk};
-ghost use Rattle.placing.specs.Faults.{IsFaultless};
 ghost use Rattle.placing.specs.Parts as parts;
-ghost use Rattle.placing.specs.Parts.{all_of, begun, part_of, AddsCall, IsBy, MayBeOut, MayGo, MayGoUnknown};
+ghost use Rattle.placing.specs.Parts.{all_of, begun, part_of, AddsCall, MayBeOut, MayGo, MayGoUnknown};
 ghost use Rattle.placing.specs.Reasons.{IsCutOf, IsNamed, IsOneOf};
 
 use crate::counts::{pushes_of, takes_of};
@@ -83,35 +82,6 @@ pub(crate) fn inner(alloc: Global, calls: &[Marked]) -> Result<Vec<Stamped>, All
         }
     }
     Ok(part)
-}
-
-// Whether all calls are in the part.
-fn all_in(calls: &[Marked]) -> bool
-    ensures { result ≡ true → All (λ call. call.is_in ≡ true) calls.now }
-{
-    calls.iter().all(|call| call.is_in)
-}
-
-// Whether all operations of a history began by a number, and ended by it if they ended.
-fn all_by(history: &[Stamped], until: u64) -> bool
-    ensures { result ≡ true → All (IsBy until) history.now }
-{
-    history.iter().all(|operation| is_by(operation, until))
-}
-
-fn is_by(operation: &Stamped, until: u64) -> bool
-    ensures { result ≡ true → IsBy until operation.now }
-{
-    operation.first <= until && (operation.last.is_none() || ended_by(until, operation.last))
-}
-
-/// Whether the part is the history: all of it began and ended by a number, and nothing is left out.
-pub(crate) fn is_whole(history: &[Stamped], until: u64, calls: &[Marked]) -> bool
-    requires faultless { All IsFaultless history.now }
-    requires all { all_of calls.now ≡ begun until history.now }
-    ensures { result ≡ true → part_of calls.now ≡ history.now }
-{
-    all_by(history, until) && all_in(calls)
 }
 
 /// Whether each call that isn't in a part may be left out of it.

@@ -49,8 +49,8 @@ pub fn place(alloc: Global, history: &[Stamped], room: u64) -> Result<Placed, Re
     //=   an operation that is wrong by itself. Or Memory.
     ensures answer { IfOk result (IsAnswer history.now) }
     //= judge/open: Open is told as `Room` only where states of the search, each reached from the start and listed once,
-    //=   take as many bytes as the room or more (`TakesRoom`); or as `Unplaced`, with an order by which a history of at
-    //=   most 2,147,483,648 operations isn't one of a queue.
+    //=   take as many bytes as the room or more (`TakesRoom`); or as `Unplaced` of a history that is one of a queue, for
+    //=   want of points alone: by the order that was found a history of at most 2,147,483,648 operations isn't one.
     ensures cause { IfOk result (HasCause history.now room) }
     ensures only_memory { IfErr result (λ refusal. refusal ≡ Refusal.Memory) }
 {
@@ -83,9 +83,10 @@ fn sought(alloc: Global, history: &[Stamped], room: u64) -> Result<Placed, Refus
     }
 }
 
-// The history with points by an order, where it is one.
+// The history with points by an order, where it is one, of a history that is one of a queue.
 fn by_order(alloc: Global, history: &[Stamped], order: &[usize]) -> Result<Placed, Refusal>
-    requires { All IsFaultless history.now }
+    requires all { All IsFaultless history.now }
+    requires is_of_queue { IsOfQueue history.now }
     ensures answer { IfOk result (IsAnswer history.now) }
     ensures cause { (room : ℕ) → IfOk result (HasCause history.now room) }
     ensures only_memory { IfErr result (λ refusal. refusal ≡ Refusal.Memory) }
@@ -96,8 +97,7 @@ fn by_order(alloc: Global, history: &[Stamped], order: &[usize]) -> Result<Place
     }
 }
 
-// The reason of a search that ended with nothing left to try. Of a history of pushes alone, which never comes here, an order
-// is tried.
+// The reason of a search that ended with nothing left to try.
 fn at_end(alloc: Global, history: &[Stamped], room: u64) -> Result<Placed, Refusal>
     requires all { All IsFaultless history.now }
     requires none { ¬ IsOfQueue history.now }
@@ -106,8 +106,7 @@ fn at_end(alloc: Global, history: &[Stamped], room: u64) -> Result<Placed, Refus
     ensures only_memory { IfErr result (λ refusal. refusal ≡ Refusal.Memory) }
 {
     match stuck(alloc, history, room) {
-        Ok(Some(reason)) => Ok(Placed::Impossible(reason)),
-        Ok(None) => by_order(alloc, history, &[]),
+        Ok(reason) => Ok(Placed::Impossible(reason)),
         Err(_) => Err(Refusal::Memory),
     }
 }

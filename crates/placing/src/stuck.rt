@@ -1,13 +1,13 @@
 //! The operation at which a history turns out to be none of a queue, and the others that it can't be placed beside.
-ghost use Rattle.std.specs.Prelude.{◌≡◌, true, All, IfOk, IfSome, IsSome};
+ghost use Rattle.std.specs.Prelude.{◌≡◌, ◌<◌, true, false, All, IfOk, OnOk, IfSome, IsSome, IsSomeAnd, length, slice_get};
 ghost use Rattle.waiting_orders.specs.Waiting.{IsOfQueue};
 ghost use Rattle.placing.specs.Faults.{IsFaultless};
-ghost use Rattle.placing.specs.Parts.{all_of, begun, part_of};
-ghost use Rattle.placing.specs.Reasons.{HasAt, IsCutOf, IsPlace, IsToldOther, IsStuck, IsReason};
+ghost use Rattle.placing.specs.Parts.{all_of, begun, part_of, AddsOther};
+ghost use Rattle.placing.specs.Reasons.{HasAt, IsCutOf, IsEndedOther, IsPlace, IsPushIfEnded, IsToldOther, IsStuck, IsReason};
 
 use crate::answers::Reason;
 use crate::kinds::place_of;
-use crate::marks::{Marked, all_may_be_out, all_named, inner, is_whole, marks_of};
+use crate::marks::{Marked, all_may_be_out, all_named, inner, marks_of};
 use crate::operations::{at, ended_by, pushed};
 use crate::parts::{Groups, Part};
 use history::Stamped;
@@ -21,15 +21,11 @@ const SHARE: u64 = 64;
 const NOTHING: Groups = Groups { first: 0, size: 0 };
 
 /// Why a history isn't one of a queue of which a search has shown that: the first number by which it is none, the last operation to
-/// end by then that is no push, and of the others as few as are none with it. None of a history of pushes alone.
-pub(crate) fn stuck(
-    alloc: Global,
-    history: &[Stamped],
-    room: u64,
-) -> Result<Option<Reason>, AllocError>
+/// end by then that is no push, and of the others as few as are none with it.
+pub(crate) fn stuck(alloc: Global, history: &[Stamped], room: u64) -> Result<Reason, AllocError>
     requires all { All IsFaultless history.now }
     requires none { ¬ IsOfQueue history.now }
-    ensures { IfOk result (λ reason. IfSome reason (IsReason history.now)) }
+    ensures { IfOk result (IsReason history.now) }
 {
     let until = first_end(alloc, history, room / SHARE)?;
     let Some(index) = last_other(history, until) else {
@@ -44,30 +40,57 @@ pub(crate) fn stuck(
     let part = left.as_slice();
     if is_none(alloc, part, room)? {
         if let Some(reason) = told(alloc, history, until, place_of(index), calls, part)? {
-            return Ok(Some(reason));
+            return Ok(reason);
         }
     }
     whole(alloc, history)
 }
 
 // The reason with all operations, where none of fewer was shown.
-fn whole(alloc: Global, history: &[Stamped]) -> Result<Option<Reason>, AllocError>
+fn whole(alloc: Global, history: &[Stamped]) -> Result<Reason, AllocError>
     requires all { All IsFaultless history.now }
     requires none { ¬ IsOfQueue history.now }
-    ensures { IfOk result (λ reason. IfSome reason (IsReason history.now)) }
+    ensures { IfOk result (IsReason history.now) }
 {
-    let Some(index) = last_other(history, u64::MAX) else {
-        return Ok(None);
-    };
-    let whole = Part::begun(alloc, history, u64::MAX)?;
-    let marks = marks_of(alloc, history, u64::MAX, &whole)?;
-    let calls = marks.as_slice();
-    let left = inner(alloc, calls)?;
-    let part = left.as_slice();
-    if is_whole(history, u64::MAX, calls) {
-        return told(alloc, history, u64::MAX, place_of(index), calls, part);
+    let at = first_other(history);
+    let place = at as u64 + 1;
+    let mut others = Vec::new(alloc);
+    for index in 0..history.len() {
+        put_other(&mut others, index as u64 + 1, place)?;
     }
-    Ok(None)
+    Ok(Reason::Stuck { place, others })
+}
+
+// Puts in a place, if it isn't the one that is named by itself.
+fn put_other(others: &mut Vec<u64>, one: u64, place: u64) -> Result<(), AllocError>
+    ensures { OnOk result (AddsOther place one others.old.items others.new.items) }
+{
+    if one != place {
+        others.push(one)?;
+    }
+    Ok(())
+}
+
+// The first operation that ended and is no push which may have had its effect: a history without one is one of a queue.
+fn first_other(history: &[Stamped]) -> usize
+    requires all { All IsFaultless history.now }
+    requires none { ¬ IsOfQueue history.now }
+    ensures below { result < length history.now }
+    ensures other { IsSomeAnd (slice_get history.now result) IsEndedOther }
+{
+    for (index, operation) in history.iter().enumerate() {
+        if is_ended_other(operation) {
+            return index;
+        }
+    }
+    unreachable!()
+}
+
+fn is_ended_other(operation: &Stamped) -> bool
+    ensures yes { result ≡ true → IsEndedOther operation.now }
+    ensures no { result ≡ false → IsPushIfEnded operation.now }
+{
+    operation.last.is_some() && pushed(operation).is_none()
 }
 
 // The reason, where the calls in a part are none of a queue, if the others may be left out of it.

@@ -11,14 +11,14 @@ use Rattle.ring_queue.specs.declared.seats.Seat.{Seat}
 use Rattle.ring_queue.specs.Plans.{Layout, IsTable, words_of}
 use Rattle.ring_queue.specs.Knowledge.{SeatView, seated, knows}
 use Rattle.ring_queue.specs.Beside.{Beside, EffectBy, HoldsAs, HoldsBy, IsReadyBy, Moves, Stays, TellsBeside, TellsQuiet, placed_of}
-use Rattle.ring_queue.specs.Placed.{free, TellsSaid, TellsShut}
+use Rattle.ring_queue.specs.Placed.{free, pairs_of, TellsSaid, TellsShut}
 use Rattle.ring_queue.specs.Steps.{Rests, PlaceFilled, ShutMade}
 use Rattle.ring_queue.specs.PlacedSeats.{HasStored}
 use Rattle.ring_queue.specs.Seats.{view, Sits}
 use Rattle.ring_queue.proofs.Calls.{Does}
 use Rattle.ring_queue.proofs.Lifts.{allows_beside}
 use Rattle.ring_queue.proofs.Runs.{Made}
-use Rattle.ring_queue.proofs.Placing.{IsEven}
+use Rattle.ring_queue.proofs.Placing.{IsOwn}
 use Rattle.ring_queue.proofs.PlacedAllows.{allows_quiet, allows_shut}
 use Rattle.ring_queue.proofs.PlacedKinds.{quiet_of}
 use Rattle.ring_queue.proofs.PlacedAsks.{in_placed, asks_filled}
@@ -90,15 +90,15 @@ module _ {T : Type 0} (z about : Layout) (t : TableId) (s : Seat T) (F : Layout 
       )
 
   -- what a line asks that adds nothing, of a seat in no call
-  pub asks : (i : ℕ) (f : ℕ → ℕ) → Sits z t s → i < words_of z → IsEven i → Does z i (view s) f [] (F z) → ((n : ℕ) (v' : SeatView) → F z (view s) n v' → Made z i n (f n) (view s) v') → Rests (view s).stage
+  pub asks : (i : ℕ) (f : ℕ → ℕ) → Sits z t s → i < words_of z → IsOwn (pairs_of z) i → Does z i (view s) f [] (F z) → ((n : ℕ) (v' : SeatView) → F z (view s) n v' → Made z i n (f n) (view s) v') → Rests (view s).stage
       → (s.token.table_id ≡ t) × (i < t.words) × Allows {S = Option T} (HoldsBy about) t.slots s.token.id s.token.me i f (λ n m. TellsQuiet about.carries about (F about) s.token.me n m)
-  asks i f sits within even line ran rested = go z.placed refl
+  asks i f sits within own line ran rested = go z.placed refl
     where
       go : (b : Bool) → z.placed ≡ b
           → (s.token.table_id ≡ t) × (i < t.words) × Allows {S = Option T} (HoldsBy about) t.slots s.token.id s.token.me i f (λ n m. TellsQuiet about.carries about (F about) s.token.me n m)
       go false e = asks_plain i f e sits within line ran
-      go true e = let p = s.token.me.0.placing in in_placed z about t s laid e (λ y n m. TellsQuiet y.carries y (F y) s.token.me n m) i f sits within (λ w k o. TellsSaid (F z) [] free (w, []) k o)
-          (allows_quiet z s.token.id (view s) p.deeds p.hand p.others i f (F z) line even ran rested)
+      go true e = let p = s.token.me.0.placing in in_placed z about t s laid e (λ y n m. TellsQuiet y.carries y (F y) s.token.me n m) i f sits (omega (arith, within)) (λ w k o. TellsSaid (F z) [] free (w, []) k o)
+          (allows_quiet z s.token.id (view s) p.deeds p.hand p.others i f (F z) line own ran rested)
           (λ n m told back. quiet_of z (F z) [] free s.token.me n m e (laid.planned.apart e) told back)
 
   -- the same of a line that may shut the queue
@@ -117,7 +117,7 @@ module _ {T : Type 0} (z about : Layout) (t : TableId) (s : Seat T) (F : Layout 
                 let q = whole.2 state h count mine small in
                 (q.0, q.1, q.2, q.3, (q.4.0, q.4.1, stays_shut about.carries (view s).number s.token.me (q.0, carried_after s.token.me.1 q.1) q.4.2, q.4.3)),
           )
-      go true e = let p = s.token.me.0.placing in in_placed z about t s laid e (λ y n m. TellsQuiet y.carries y (F y) s.token.me n m) 0 f sits within (λ w k o. TellsShut z (w, []) k o)
+      go true e = let p = s.token.me.0.placing in in_placed z about t s laid e (λ y n m. TellsQuiet y.carries y (F y) s.token.me n m) 0 f sits (omega (arith, within)) (λ w k o. TellsShut z (w, []) k o)
           (allows_shut z s.token.id (view s) p.deeds p.hand p.others f
           (subst (λ (g : SeatView → ℕ → SeatView → Type 0). Does z 0 (view s) f (Shut (view s).number ∷ []) g) is line)
           (subst (λ (g : SeatView → ℕ → SeatView → Type 0). (n : ℕ) (v' : SeatView) → g (view s) n v' → Made z 0 n (f n) (view s) v') is ran) rested)
@@ -126,13 +126,13 @@ module _ {T : Type 0} (z about : Layout) (t : TableId) (s : Seat T) (F : Layout 
           (λ shut. quiet_of z (ShutMade z) [] free s.token.me n m e (laid.planned.apart e) (told.1 shut) back)
           (λ opened. quiet_of z (ShutMade z) (closed (knows (placed_of s.token.me.0).plain).number ∷ []) free s.token.me n m e (laid.planned.apart e) (told.0 (omega (arith, opened))) back)))
 
--- C4, whether values are words in their places or not
-pub asks_fill : {T : Type 0} (z about : Layout) (t : TableId) (s : Seat T) (laid : IsTable z about t) (i word : ℕ) → Sits z t s → i < words_of z → IsEven i → Does z i (view s) (λ _. word) [] (PlaceFilled z i word)
-    → ((n : ℕ) (v' : SeatView) → PlaceFilled z i word (view s) n v' → Made z i n word (view s) v') → (z.placed ≡ true → HasStored s)
+-- C4, whether values lie in their places or not
+pub asks_fill : {T : Type 0} (z about : Layout) (t : TableId) (s : Seat T) (laid : IsTable z about t) (i word : ℕ) → Sits z t s → i < words_of z → IsOwn (pairs_of z) i → Does z i (view s) (λ _. word) [] (PlaceFilled z i word)
+    → ((n : ℕ) (v' : SeatView) → PlaceFilled z i word (view s) n v' → Made z i n word (view s) v') → (z.placed ≡ true → HasStored z.width s)
     → (s.token.table_id ≡ t) × (i < t.words) × Allows {S = Option T} (HoldsBy about) t.slots s.token.id s.token.me i (λ _. word) (λ n m. TellsQuiet about.carries about (PlaceFilled about i word) s.token.me n m)
-asks_fill {T} z about t s laid i word sits within even line ran has = go z.placed refl
+asks_fill {T} z about t s laid i word sits within own line ran has = go z.placed refl
   where
     go : (b : Bool) → z.placed ≡ b
         → (s.token.table_id ≡ t) × (i < t.words) × Allows {S = Option T} (HoldsBy about) t.slots s.token.id s.token.me i (λ _. word) (λ n m. TellsQuiet about.carries about (PlaceFilled about i word) s.token.me n m)
     go false e = asks_plain z about t s (λ y. PlaceFilled y i word) laid i (λ _. word) e sits within line ran
-    go true e = asks_filled z about t s laid e i word sits within even line ran (has e)
+    go true e = asks_filled z about t s laid e i word sits within own line ran (has e)

@@ -23,11 +23,12 @@ use Rattle.ring_queue.specs.Moments.{head_in, tail_in}
 use Rattle.ring_queue.specs.Remains.{values_from, HasWords, was_shut_in}
 use Rattle.ring_queue.specs.Ends.{ClosesValues, EachBegins}
 use Rattle.ring_queue.specs.Ends.{ClosesWords, EachSaid}
-use Rattle.ring_queue.specs.Placed.{queue_words, beside_from, HoldsPlaced}
+use Rattle.ring_queue.specs.Placed.{queue_words, pairs_of, beside_from, HasParts, HoldsPlaced}
 use Rattle.ring_queue.specs.PlacedSeats.{IsWordSeat}
 use Rattle.ring_queue.specs.Beside.{HoldsAs, placed_of, placed_state}
-use Rattle.ring_queue.proofs.Placing.{even_head, queue_words-get, queue_words-length}
-use Rattle.ring_queue.proofs.PlacedEnds.{placed_end, closes_placed}
+use Rattle.ring_queue.proofs.Placing.{own_tail, own_head, queue_words-get}
+use Rattle.ring_queue.proofs.PlacedEnds.{PlacedEnd, placed_end, closes_placed}
+use Rattle.ring_queue.proofs.Keeps.{some_slot}
 use Rattle.ring_queue.proofs.Alls.{are_all}
 use Rattle.ring_queue.proofs.RingEnds.{closes_all, has_words, head_is_low, few_left}
 use Rattle.ring_queue.proofs.Tokens.{carries_none, placed_none, ends_alone}
@@ -87,33 +88,55 @@ module _ {T : Type 0} (q : RingQueue T) (seats : List (Seat T)) (ready : All (Is
         closes = λ rest left taken whole shut. closes_values q seats words inside w end rested every rest begin left taken whole shut;
       })
 
--- a ring whose values are words in their places
+-- a ring whose values lie in their places
 module _ {T : Type 0} (q : RingQueue T) (seats : List (Seat T)) (ready : All (IsWordSeat q) seats) (all : length seats ≡ length (permits_in q)) (placed : q.plan.placed ≡ true) where
   -- its table has no slots
   pub no_word_slots : q.table.shared.table_id.slots ≡ 0
   no_word_slots = q.laid.slots ∙ ap (λ (b : Bool). if b then q.plan.slots else 0) (q.laid.planned.apart placed)
 
-  -- and is closed by all its seats
-  pub words_closed : (slots id : ℕ) (w : Beside T) (words : List ℕ) (inside : List (Option T)) → slots ≡ q.plan.slots → w.plain ≡ gathered (map view seats)
-      → ((ds : List (Deed ℕ)) → AllBegin w.placing.others ds → EachSaid seats ds)
-      → Final {S = Option T} (Seen (HoldsBy q.table.shared.key) id w) words inside
-      → IsClosed slots words (λ rest. (values : List ℕ) → values ≡ beside_from slots words (head_in words) (tail_in words - head_in words) → ClosesWords q seats rest values)
-  words_closed slots id w words inside same is begin f =
+  -- what is left at its end
+  placed_here : (id : ℕ) (w : Beside T) (words : List ℕ) (inside : List (Option T)) → w.plain ≡ gathered (map view seats)
+      → Final {S = Option T} (Seen (HoldsBy q.table.shared.key) id w) words inside → PlacedEnd q.plan seats words (placed_of w)
+  placed_here id w words inside is f =
       let z = q.plan in
       let holds : HoldsPlaced z (placed_state f.0) = subst (λ (b : Bool). HoldsAs b z f.0) placed (subst (λ (y : Layout). HoldsBy y f.0) q.laid.key f.1.0) in
-      let end = placed_end z seats id (placed_of w) words [] is (placed_state f.0, (holds, at_map placed_of f.0.views id w f.1.1), f.2, refl, λ k y e. absurd (some-ne-none (some y) (sym e))) in
+      placed_end z seats id (placed_of w) words [] is (placed_state f.0, (holds, at_map placed_of f.0.views id w f.1.1), f.2, refl, λ k y e. absurd (some-ne-none (some y) (sym e)))
+
+  -- and is closed by all its seats
+  pub words_closed : (slots id : ℕ) (w : Beside T) (words : List ℕ) (inside : List (Option T)) → slots ≡ q.plan.slots → w.plain ≡ gathered (map view seats)
+      → ((ds : List (Deed (List ℕ))) → AllBegin w.placing.others ds → EachSaid seats ds)
+      → Final {S = Option T} (Seen (HoldsBy q.table.shared.key) id w) words inside
+      → IsClosed slots words (λ rest. (width : ℕ) (values : List ℕ) → width ≡ q.plan.width → values ≡ beside_from slots width words (head_in words) (tail_in words - head_in words) → ClosesWords q seats rest values)
+  words_closed slots id w words inside same is begin f =
+      let z = q.plan in
+      let end = placed_here id w words inside is f in
       let rested : All (λ s. Rests (view s).stage) seats = λ k d lt. (ready k d lt).ready.rests in
       let every = are_all z q.table.shared.table_id seats (λ k d lt. (ready k d lt).ready.sits) end.ends.apart all in
-      let few = has_words z (queue_words words) seats end.ends rested every in
-      let long = queue_words-length words in
-      let wide = few.wide in
-      let low = head_is_low z (queue_words words) seats end.ends rested every in
-      let room = few_left z (queue_words words) seats end.ends rested every in
-      let head = queue_words-get words 16 even_head in
-      let tail : tail_in (queue_words words) ≡ tail_in words = ap (λ n. n % 2 ^ 62) (queue_words-get words 0 tt) in
-      subst (λ (m : ℕ). IsClosed m words (λ rest. (values : List ℕ) → values ≡ beside_from m words (head_in words) (tail_in words - head_in words) → ClosesWords q seats rest values)) (sym same) (record {
-        there = record { some = few.some; wide = omega (arith, wide, long) };
+      let few = has_words z (queue_words (pairs_of z) words) seats end.ends rested every in
+      let long = end.long in
+      let low = head_is_low z (queue_words (pairs_of z) words) seats end.ends rested every in
+      let room = few_left z (queue_words (pairs_of z) words) seats end.ends rested every in
+      let head = queue_words-get (pairs_of z) words 16 (own_head z) in
+      let tail : tail_in (queue_words (pairs_of z) words) ≡ tail_in words = ap (λ n. n % 2 ^ 62) (queue_words-get (pairs_of z) words 0 (own_tail z)) in
+      subst (λ (m : ℕ). IsClosed m words (λ rest. (width : ℕ) (values : List ℕ) → width ≡ q.plan.width → values ≡ beside_from m width words (head_in words) (tail_in words - head_in words) → ClosesWords q seats rest values)) (sym same) (record {
+        there = record { some = few.some; wide = omega (arith, long) };
         low = omega (arith, low, head);
         few = omega (arith, room, head, tail);
-        closes = λ rest left taken whole shut values read. closes_placed q seats words (placed_of w) end rested every rest values begin left taken whole shut read;
+        closes = λ rest left taken whole shut width values wide read. closes_placed q seats words (placed_of w) end rested every rest values begin (omega (arith, room, head, tail)) left taken whole shut
+            (read ∙ ap (λ (k : ℕ). beside_from z.slots k words (head_in words) (tail_in words - head_in words)) wide);
+      })
+
+  -- the words of values lie within its table
+  pub words_parted : (slots width id : ℕ) (w : Beside T) (words : List ℕ) (inside : List (Option T)) → slots ≡ q.plan.slots → width ≡ q.plan.width → w.plain ≡ gathered (map view seats)
+      → Final {S = Option T} (Seen (HoldsBy q.table.shared.key) id w) words inside → HasParts slots width words
+  words_parted slots width id w words inside same wide is f =
+      let z = q.plan in
+      let end = placed_here id w words inside is f in
+      let planned = end.ends.ring.planned in
+      let P : ℕ × ℕ → Type 0 = λ y. HasParts y.0 y.1 words in
+      subst P (λ i. (sym same i, sym wide i)) (record {
+        some = some_slot z (queue_words (pairs_of z) words) end.ends.all end.ends.ring;
+        small = planned.small;
+        thin = planned.thin;
+        wide = end.long;
       })

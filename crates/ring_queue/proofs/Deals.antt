@@ -177,17 +177,18 @@ one_more {T} z t xs n s len all new k y got = ⊎_elim (λ (h : slice_get xs k �
     (got_snoc xs s y k got)
 
 -- what is built of a plan is a ring of its sizes
-pub made : {T : Type 0} (carries placed : Bool) (most limit slots : ℕ) (roles copied : List Role) (q : RingQueue T) (seats : List (Seat T)) → copied ≡ roles → HasSlots carries most roles slots
-    → q.plan ≡ record { slots = slots; most = most; limit = limit; roles = copied; carries = carries; placed = placed } → length seats ≡ length copied
-    → AreFresh record { slots = slots; most = most; limit = limit; roles = copied; carries = carries; placed = placed } q.table.shared.table_id
-    seats → IsMadeOf carries placed most limit roles q seats
-made carries placed most limit slots roles copied q seats same has is count dealt_all =
+pub made : {T : Type 0} (carries placed : Bool) (width most limit slots : ℕ) (roles copied : List Role) (q : RingQueue T) (seats : List (Seat T)) → copied ≡ roles → HasSlots carries most roles slots
+    → q.plan ≡ record { slots = slots; most = most; limit = limit; roles = copied; carries = carries; placed = placed; width = width } → length seats ≡ length copied
+    → AreFresh record { slots = slots; most = most; limit = limit; roles = copied; carries = carries; placed = placed; width = width } q.table.shared.table_id
+    seats → IsMadeOf carries placed width most limit roles q seats
+made carries placed width most limit slots roles copied q seats same has is count dealt_all =
     record {
       full_at = ap (λ (z : Layout). z.most) is;
       goes_to = ap (λ (z : Layout). z.limit) is;
       deals = ap (λ (z : Layout). z.roles) is ∙ same;
       values = ap (λ (z : Layout). z.carries) is;
       words = ap (λ (z : Layout). z.placed) is;
+      width = ap (λ (z : Layout). z.width) is;
       slots = subst (HasSlots carries most roles) (sym (ap (λ (z : Layout). z.slots) is)) has;
       count = count ∙ ap length same;
       each = subst (λ (z : Layout). AreFresh z q.table.shared.table_id seats) (sym is) dealt_all;
@@ -195,7 +196,7 @@ made carries placed most limit slots roles copied q seats same has is count deal
 
 -- one whose values aren't words in their places
 pub made_for : {T : Type 0} (carries : Bool) (most limit : ℕ) (roles : List Role) (q : RingQueue T) (seats : List (Seat T))
-    → IsMadeOf carries false most limit roles q seats → IsMadeFor carries most limit roles q seats
+    → IsMadeOf carries false 0 most limit roles q seats → IsMadeFor carries most limit roles q seats
 made_for carries most limit roles q seats m = record {
   full_at = m.full_at;
   goes_to = m.goes_to;

@@ -23,9 +23,9 @@ knows_none {T} b z w none_seen none_done none_out none_said = go b
       where
         said : (c : Bool) → SaidBy c (knows w.plain).seen w
         said true = record {
-          matches = (let P : List Entry × List (Deed ℕ) → Type 0 = λ y. Matches y.0 y.1 in subst P (λ i. (sym none_seen i, sym none_said i)) tt);
+          matches = (let P : List Entry × List (Deed (List ℕ)) → Type 0 = λ y. Matches y.0 y.1 in subst P (λ i. (sym none_seen i, sym none_said i)) tt);
           values = [];
           shut = false;
-          runs = subst (λ (ds : List (Deed ℕ)). Runs [] false ds [] false) (sym none_said) (refl, refl);
+          runs = subst (λ (ds : List (Deed (List ℕ))). Runs [] false ds [] false) (sym none_said) (refl, refl);
         }
         said false = tt

@@ -47,6 +47,6 @@ module _ {T : Type 0} (most limit : ℕ) (roles : List Role) (q : RingQueue T) (
         each = λ k c e. new_at k c (slice_get seats k) refl (sym (slice_get-map known_of seats k) ∙ e);
       }
 
--- each seat of a new ring whose values are words in their places may begin a call
-pub made_words : {T : Type 0} (most limit : ℕ) (roles : List Role) (q : RingQueue T) (seats : List (Seat T)) → IsMadeOf false true most limit roles q seats → All (IsWordSeat q) seats
-made_words most limit roles q seats m = all_places (IsWordSeat q) seats (λ k s e. record { ready = (m.each k s e).ready; placed = m.words })
+-- each seat of a new ring whose values lie in their places may begin a call
+pub made_words : {T : Type 0} (width most limit : ℕ) (roles : List Role) (q : RingQueue T) (seats : List (Seat T)) → IsMadeOf false true width most limit roles q seats → All (IsWordSeat q) seats
+made_words width most limit roles q seats m = all_places (IsWordSeat q) seats (λ k s e. record { ready = (m.each k s e).ready; placed = m.words })

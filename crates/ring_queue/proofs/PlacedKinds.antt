@@ -1,4 +1,4 @@
--- The rule of a table by its kind: what is so of a table of numbers or of slots, and of one whose values are words in their places, is
+-- The rule of a table by its kind: what is so of a table of numbers or of slots, and of one whose values lie in their places, is
 -- so of any; and what the rule of the latter allows, said of a table's own state.
 use Rattle.std.proofs.Common.{◌≡◌, ℕ, Bool, true, false, List, [], ◌∷◌, ◌++◌, set, get_or, Option, sym, refl, ap, ◌∙◌, subst, append-nil, append_assoc}
 use Rattle.std.proofs.Math.Logic.{∥∥₁_map}
@@ -88,7 +88,7 @@ module _ {T : Type 0} (z : Layout) where
       )
 
   -- what such a step tells that adds no deed, or some
-  pub quiet_of : (fact : SeatView → ℕ → SeatView → Type 0) (ds : List (Deed ℕ)) (h : Hand) (me : Me (Option T) (Beside T)) (n : ℕ) (o : Me (Option T) (Beside T)) → z.placed ≡ true → z.carries ≡ false
+  pub quiet_of : (fact : SeatView → ℕ → SeatView → Type 0) (ds : List (Deed (List ℕ))) (h : Hand) (me : Me (Option T) (Beside T)) (n : ℕ) (o : Me (Option T) (Beside T)) → z.placed ≡ true → z.carries ≡ false
       → TellsSaid fact ds h (placed_of me.0, []) n (placed_of o.0, []) → o ≡ (back_to me.0 (placed_of o.0), me.1) → TellsQuiet z.carries z fact me n o
   quiet_of fact ds h me n o placed none_carried told same =
       let says = told.2.1 in
@@ -129,8 +129,8 @@ module _ {T : Type 0} (z : Layout) where
           → ∥ SaidBy z.placed (knows w.plain).seen w ∥₁
       said w seen deeds known = subst (λ (b : Bool). ∥ SaidBy b (knows w.plain).seen w ∥₁) (sym placed)
           (∥∥₁_map known (λ (k : KnowsSaid (knows o.0.plain).seen (placed_of o.0)). let r : KnowsSaid (knows w.plain).seen (placed_of w) = record {
-            matches = (let P : List Entry × List (Deed ℕ) → Type 0 = λ y. Matches y.0 y.1 in subst P (λ i. (sym seen i, sym deeds i)) k.matches);
+            matches = (let P : List Entry × List (Deed (List ℕ)) → Type 0 = λ y. Matches y.0 y.1 in subst P (λ i. (sym seen i, sym deeds i)) k.matches);
             values = k.values;
             shut = k.shut;
-            runs = subst (λ (ds : List (Deed ℕ)). Runs [] false ds k.values k.shut) (sym deeds) k.runs;
+            runs = subst (λ (ds : List (Deed (List ℕ))). Runs [] false ds k.values k.shut) (sym deeds) k.runs;
           } in r))

@@ -1,4 +1,4 @@
--- Each entry of the history of numbers is a deed of that of values that are words in their places.
+-- Each entry of the history of numbers is a deed of that of values whose words lie in their places.
 use Rattle.std.proofs.Common.{◌≡◌, ℕ, Bool, true, false, List, [], ◌∷◌, ◌++◌, map, sym, refl, ap, subst}
 use Rattle.std.proofs.lemmas.List.{map-append}
 use mathlib.Core.Bool.{true≢false}
@@ -46,32 +46,32 @@ front_is [] true n t e = absurd (no_value (ap is_value e))
 front_is [] false n t e = absurd (no_value (ap is_value e))
 front_is (v ∷ vs) s n t e = (vs, (let d : v ≡ t = ap (value_or v) e in ap (λ (y : Taken). y ∷ vs) d))
 
-runs_push : (q : List (Item ℕ)) (s : Bool) (ds : List (Deed ℕ)) (r : List (Item ℕ)) (n x : ℕ) → Runs q s ds r false → Runs q s (ds ++ pushed n x ∷ []) (r ++ item n x ∷ []) false
+runs_push : (q : List (Item (List ℕ))) (s : Bool) (ds : List (Deed (List ℕ))) (r : List (Item (List ℕ))) (n : ℕ) (x : List ℕ) → Runs q s ds r false → Runs q s (ds ++ pushed n x ∷ []) (r ++ item n x ∷ []) false
 runs_push q s [] r n x h = (h.1, (ap (λ y. y ++ item n x ∷ []) h.0, h.1))
 runs_push q s (pushed m y ∷ ds) r n x h = (h.0, runs_push (q ++ item m y ∷ []) s ds r n x h.1)
 runs_push q s (popped m t ∷ ds) r n x h = (h.0, h.1, runs_push h.0 s ds r n x h.2)
 runs_push q s (closed m ∷ ds) r n x h = (h.0, runs_push q true ds r n x h.1)
 
-runs_pop : (q : List (Item ℕ)) (s : Bool) (ds : List (Deed ℕ)) (r : List (Item ℕ)) (s' : Bool) (n : ℕ) (t : Item ℕ) → Runs q s ds (t ∷ r) s' → Runs q s (ds ++ popped n t ∷ []) r s'
+runs_pop : (q : List (Item (List ℕ))) (s : Bool) (ds : List (Deed (List ℕ))) (r : List (Item (List ℕ))) (s' : Bool) (n : ℕ) (t : Item (List ℕ)) → Runs q s ds (t ∷ r) s' → Runs q s (ds ++ popped n t ∷ []) r s'
 runs_pop q s [] r s' n t h = (r, h.0, (refl, h.1))
 runs_pop q s (pushed m y ∷ ds) r s' n t h = (h.0, runs_pop (q ++ item m y ∷ []) s ds r s' n t h.1)
 runs_pop q s (popped m u ∷ ds) r s' n t h = (h.0, h.1, runs_pop h.0 s ds r s' n t h.2)
 runs_pop q s (closed m ∷ ds) r s' n t h = (h.0, runs_pop q true ds r s' n t h.1)
 
-runs_shut : (q : List (Item ℕ)) (s : Bool) (ds : List (Deed ℕ)) (r : List (Item ℕ)) (n : ℕ) → Runs q s ds r false → Runs q s (ds ++ closed n ∷ []) r true
+runs_shut : (q : List (Item (List ℕ))) (s : Bool) (ds : List (Deed (List ℕ))) (r : List (Item (List ℕ))) (n : ℕ) → Runs q s ds r false → Runs q s (ds ++ closed n ∷ []) r true
 runs_shut q s [] r n h = (h.1, (h.0, refl))
 runs_shut q s (pushed m y ∷ ds) r n h = (h.0, runs_shut (q ++ item m y ∷ []) s ds r n h.1)
 runs_shut q s (popped m u ∷ ds) r n h = (h.0, h.1, runs_shut h.0 s ds r n h.2)
 runs_shut q s (closed m ∷ ds) r n h = (h.0, runs_shut q true ds r n h.1)
 
-matches_on : (es fs : List Entry) (ds gs : List (Deed ℕ)) → Matches es ds → Matches fs gs → Matches (es ++ fs) (ds ++ gs)
+matches_on : (es fs : List Entry) (ds gs : List (Deed (List ℕ))) → Matches es ds → Matches fs gs → Matches (es ++ fs) (ds ++ gs)
 matches_on [] fs [] gs h k = k
 matches_on (Push n b ∷ es) fs (pushed m x ∷ ds) gs h k = (h.0, matches_on es fs ds gs h.1 k)
 matches_on (Pop n t ∷ es) fs (popped m u ∷ ds) gs h k = (h.0, h.1, matches_on es fs ds gs h.2 k)
 matches_on (Shut n ∷ es) fs (closed m ∷ ds) gs h k = (h.0, matches_on es fs ds gs h.1 k)
 matches_on es fs ds gs h k = absurd h
 
-split_front : (q : List (Item ℕ)) (t : Taken) (rest : List Taken) → map number_of q ≡ t ∷ rest → (l : Item ℕ) × (q' : List (Item ℕ)) × (q ≡ l ∷ q') × (number_of l ≡ t)
+split_front : (q : List (Item (List ℕ))) (t : Taken) (rest : List Taken) → map number_of q ≡ t ∷ rest → (l : Item (List ℕ)) × (q' : List (Item (List ℕ))) × (q ≡ l ∷ q') × (number_of l ≡ t)
 split_front [] t rest e = absurd (no_value (ap is_some_list e))
   where
     is_some_list : List Taken → Bool
@@ -85,7 +85,7 @@ split_front (l ∷ q') t rest e = (l, q', refl, ap (first_or (number_of l)) e)
 
 module _ (history : List Entry) (me : ℕ) (g : Said history) where
   -- a push of a value, whose number is 0
-  pub said_push : (x : ℕ) → IsQueueRun (history ++ Push me 0 ∷ [])
+  pub said_push : (x : List ℕ) → IsQueueRun (history ++ Push me 0 ∷ [])
       → (g' : Said (history ++ Push me 0 ∷ [])) × (g'.deeds ≡ g.deeds ++ pushed me x ∷ []) × (g'.items ≡ g.items ++ item me x ∷ [])
   said_push x run =
       let vs = map number_of g.items in
@@ -107,7 +107,7 @@ module _ (history : List Entry) (me : ℕ) (g : Said history) where
       )
 
   -- a pop of the value in front
-  pub said_pop : (t : Taken) → IsQueueRun (history ++ Pop me t ∷ []) → (front : Item ℕ) × (rest : List (Item ℕ)) × (g.items ≡ front ∷ rest) × (number_of front ≡ t)
+  pub said_pop : (t : Taken) → IsQueueRun (history ++ Pop me t ∷ []) → (front : Item (List ℕ)) × (rest : List (Item (List ℕ))) × (g.items ≡ front ∷ rest) × (number_of front ≡ t)
       × ((g' : Said (history ++ Pop me t ∷ [])) × (g'.deeds ≡ g.deeds ++ popped me front ∷ []) × (g'.items ≡ rest))
   said_pop t run =
       let vs = map number_of g.items in
@@ -116,8 +116,8 @@ module _ (history : List Entry) (me : ℕ) (g : Said history) where
       let it = split_front g.items t front.0 front.1 in
       let l = it.0 in
       let P : Taken → Type 0 = λ u. (g' : Said (history ++ Pop me u ∷ [])) × (g'.deeds ≡ g.deeds ++ popped me l ∷ []) × (g'.items ≡ it.1) in
-      let leads = subst (λ (y : List (Item ℕ)). Leads history g.shut (map number_of y)) it.2 g.leads in
-      let runs = subst (λ (y : List (Item ℕ)). Runs [] false g.deeds y g.shut) it.2 g.runs in (
+      let leads = subst (λ (y : List (Item (List ℕ))). Leads history g.shut (map number_of y)) it.2 g.leads in
+      let runs = subst (λ (y : List (Item (List ℕ))). Runs [] false g.deeds y g.shut) it.2 g.runs in (
         l,
         it.1,
         it.2,

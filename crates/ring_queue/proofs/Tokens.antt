@@ -16,7 +16,7 @@ use Rattle.node_arena.proofs.Lifts.{none_hand, take_full}
 use Rattle.ring_queue.specs.declared.roles.Role.{Role}
 use Rattle.ring_queue.specs.declared.queue.RingQueue.{RingQueue}
 use Rattle.ring_queue.specs.declared.seats.Seat.{Seat}
-use Rattle.ring_queue.specs.Plans.{Layout, IsPlanned, IsTable, words_of, slots_of, permits_of}
+use Rattle.ring_queue.specs.Plans.{Layout, IsPlanned, IsTable, words_of, further_for, further_of, slots_of, permits_of}
 use Rattle.ring_queue.specs.Knowledge.{SeatView, View, keeper, gathered, seated, paired, spent, new_seat, knows, known_by, both_of, first_of, second_of, dealt_left, dealt_right}
 use Rattle.ring_queue.specs.Rule.{Holds}
 use Rattle.ring_queue.specs.Steps.{Rests}
@@ -36,6 +36,7 @@ use Rattle.ring_queue.proofs.KnownValues.{knows_none}
 use Rattle.ring_queue.proofs.Lifts.{lift_splits, lift_joins, lift_enters, lift_final, lift_meets}
 use Rattle.ring_queue.proofs.Placing.{Keeping}
 use Rattle.ring_queue.proofs.PlacedViews.{rests_no_place, placed_splits, placed_joins, placed_enters, placed_meets}
+use Rattle.ring_queue.proofs.Placing.{own_tail}
 use Rattle.ring_queue.proofs.PlacedKinds.{by_kind, plain_rule, in_places_splits, in_places_joins, in_places_enters, in_places, meets_of}
 
 keeper_not_seated : (m n : ℕ) (v : SeatView) → keeper m n ≡ seated v → ⊥
@@ -95,7 +96,7 @@ deals_at {T} z about id n me same is = by_kind about (λ H. Splits {S = Option T
       record {
         rest = ds;
         begins = refl;
-        matches = λ v e. subst (λ (y : View). Matches {T = ℕ} (knows y).seen []) (ap dealt_right (sym is) ∙ e) tt;
+        matches = λ v e. subst (λ (y : View). Matches {T = List ℕ} (knows y).seen []) (ap dealt_right (sym is) ∙ e) tt;
         pair = λ v u e y. absurd (new_alone z.slots n v u (ap dealt_right (sym is) ∙ e));
         others = tt;
       },
@@ -274,7 +275,7 @@ grown_as {T} Grows has j one him was tok now is left put e grown =
 pub enters : (T : Type 0) (key : Layout) (slots : ℕ) → Enters {S = Option T} (HoldsBy key) slots 0 (λ n w. OpensBeside (w, []))
 enters T key slots = by_kind key (λ H. Enters {S = Option T} H slots 0 (λ n w. OpensBeside (w, [])))
     (λ _. opens (HoldsFor key.carries key) (lift_enters {T = T} key.carries key slots 0 (omega arith) (λ es. enters_with key es 0 0)))
-    (λ _. opens (HoldsAs true key) (in_places_enters key slots 0 (placed_enters key 0 tt (λ es. enters_with key es 0 0))))
+    (λ _. opens (HoldsAs true key) (in_places_enters key slots 0 (placed_enters key 0 (own_tail key) (λ es. enters_with key es 0 0))))
   where
     opens : (H : State (Option T) (Beside T) → Type 0) → Enters {S = Option T} H slots 0 (λ n w. w.plain ≡ gathered []) → Enters {S = Option T} H slots 0 (λ n w. OpensBeside (w, []))
     opens H come s h count small = let q = come s h count small in (q.0, q.1, ap (λ u. (u, [])) q.2)
@@ -336,7 +337,7 @@ took_in {T} t k k' seats s g has same is =
           let P : Seat T → Type 0 = λ x. IsPrefix (deeds_of x) ds in
           All-append P seats (s ∷ []) (g.others ds both.1) (All-cons P s [] (both.0.0, sym both.0.1) (All-nil P));
       said = λ ds all.
-          let both : AllBegin (said_by s ∷ k.me.0.placing.others) ds = subst (λ (o : List (List (Deed ℕ))). AllBegin o ds) (ap (λ y. y.0.placing.others) is) all in
+          let both : AllBegin (said_by s ∷ k.me.0.placing.others) ds = subst (λ (o : List (List (Deed (List ℕ)))). AllBegin o ds) (ap (λ y. y.0.placing.others) is) all in
           let P : Seat T → Type 0 = λ x. IsPrefix (said_by x) ds in
           All-append P seats (s ∷ []) (g.said ds both.1) (All-cons P s [] (both.0.0, sym both.0.1) (All-nil P));
     }
@@ -353,7 +354,7 @@ have_tokens q seats ready = λ k d lt. let h = ready k d lt in record { table = 
 pub bring_tokens : {T : Type 0} (q : RingQueue T) (seats : List (Seat T)) → All (IsRingSeat q) seats → All HasNoSlot seats → All (HasToken q.table.shared.table_id) seats
 bring_tokens q seats ready apart = λ k d lt. let h = ready k d lt in record { table = h.sits.table; seat = h.sits.seat; none_out = apart k d lt; rests = h.rests }
 
--- so does each of a ring whose values are words in their places
+-- so does each of a ring whose values lie in their places
 pub word_tokens : {T : Type 0} (q : RingQueue T) (seats : List (Seat T)) → All (IsWordSeat q) seats → All (HasToken q.table.shared.table_id) seats
 word_tokens q seats ready = λ k d lt.
     let h = ready k d lt in
@@ -372,8 +373,9 @@ pub ends_alone : {T : Type 0} (z key : Layout) (t : TableId) (seats : List (Seat
     → Final {S = Option T} (Seen (HoldsBy key) id w) words slots → Ends z seats words
 ends_alone z key t seats id w words slots laid numbers unplaced count is f =
     let none_of : slots_of z ≡ 0 = ap (λ (b : Bool). if b then z.slots else 0) numbers in
+    let none_more : further_of z ≡ 0 = ap (λ (k : ℕ). further_for k z.slots) (laid.planned.elsewhere unplaced) in
     let all = laid.words in
-    subst (Ends z seats) (take_full (words_of z) words (omega (arith, count, all, none_of))) (ends z key seats id w words slots laid.key unplaced is f)
+    subst (Ends z seats) (take_full (words_of z) words (omega (arith, count, all, none_of, none_more))) (ends z key seats id w words slots laid.key unplaced is f)
 
 -- a ring with a seat that is one of a ring that carries no values carries none
 pub carries_none : {T : Type 0} (q : RingQueue T) (seats : List (Seat T)) → All (IsNumberSeat q) seats → 1 ≤ length seats → q.plan.carries ≡ false

@@ -18,7 +18,7 @@ use Rattle.ring_queue.specs.Paths.{Try}
 use Rattle.ring_queue.specs.Placed.{Placing, no_placing, placed_view, PlacedView, KnowsSaid, HoldsPlaced, free, put_down}
 
 -- what a seat knows of its queue, a beginning of the history of values, the slot that is out with it, what seats that it took in
--- had seen of that history, its tries at slots, and what it knows of values that are words in their places
+-- had seen of that history, its tries at slots, and what it knows of values that lie in their places
 pub record Beside (T : Type 0) : Type 0 where
   pub plain : View
   pub deeds : List (Deed T)
@@ -40,11 +40,11 @@ module _ {T : Type 0} where
   abbrev pub plain_state : ℕ → State (Option T) (Beside T) → State ℕ View
   plain_state m s = record { words = take m s.words; homes = []; views = map plain_of s.views }
 
-  -- what is known of the queue and of values that are words in their places
+  -- what is known of the queue and of values that lie in their places
   abbrev pub placed_of : Beside T → PlacedView
   placed_of w = placed_view w.plain w.placing
 
-  -- the state of a table whose values are words in their places
+  -- the state of a table whose values lie in their places
   abbrev pub placed_state : State (Option T) (Beside T) → State ℕ PlacedView
   placed_state s = record { words = s.words; homes = []; views = map placed_of s.views }
 
@@ -121,7 +121,7 @@ pub record HoldsFor {T : Type 0} (carries : Bool) (z : Layout) (s : State (Optio
   pub base : Holds z (plain_state (words_of z) s)
   pub values : CarriedBy carries z base.ring.history s
 
--- what a seat knows of values that are words in their places is so, where they are
+-- what a seat knows of values that lie in their places is so, where they are
 abbrev pub SaidBy : {T : Type 0} → Bool → (seen : List Entry) → Beside T → Type 0
 SaidBy true seen w = KnowsSaid seen (placed_of w)
 SaidBy false seen w = Unit {0}
@@ -185,9 +185,9 @@ module _ {T : Type 0} where
   EffectBy true n es me me' = Effect n es me.0 me.1 me'.0 me'.1
   EffectBy false n es me me' = (me'.1 ≡ me.1) × (me'.0.hand ≡ me.0.hand) × (me'.0.deeds ≡ me.0.deeds)
 
-  -- what is seen of values that are words in their places goes on
+  -- what is seen of values that lie in their places goes on
   abbrev pub GrowsSaid : Beside T → Beside T → Type 0
-  GrowsSaid w w' = (between : List (Deed ℕ)) × (w'.placing.deeds ≡ w.placing.deeds ++ between)
+  GrowsSaid w w' = (between : List (Deed (List ℕ))) × (w'.placing.deeds ≡ w.placing.deeds ++ between)
 
   -- a step added nothing, or all of these, to the seat's own entries, and moved the slots that belong to what it added
   abbrev pub Moves : Bool → (all : List Entry) → Me (Option T) (Beside T) → Me (Option T) (Beside T) → Type 0
@@ -224,7 +224,7 @@ module _ {T : Type 0} where
   abbrev pub TellsQuiet : Bool → Layout → (SeatView → ℕ → SeatView → Type 0) → Me (Option T) (Beside T) → ℕ → Me (Option T) (Beside T) → Type 0
   TellsQuiet carries z fact me n me' = (me'.0.plain ≡ seated (knows me'.0.plain)) × fact (knows me.0.plain) n (knows me'.0.plain) × Stays me me' × ∥ KnowsNow carries z me'.0 ∥₁
 
-  -- where values are words in their places, what is seen of them goes on from what each seat that was taken in had seen
+  -- where values lie in their places, what is seen of them goes on from what each seat that was taken in had seen
   abbrev pub GrowsPlaced : Bool → Beside T → Beside T → Type 0
   GrowsPlaced true w w' = AllBegin (w.placing.deeds ∷ w.placing.others) w'.placing.deeds
   GrowsPlaced false w w' = Unit {0}
@@ -251,7 +251,7 @@ module _ {T : Type 0} where
   abbrev pub HasNone : Me (Option T) (Beside T) → Type 0
   HasNone me = (length me.1 ≡ 0) × (slots_in me.0.hand ≡ 0)
 
--- the rule of a table, by whether its values are words in their places
+-- the rule of a table, by whether its values lie in their places
 abbrev pub HoldsAs : {T : Type 0} → (placed : Bool) → Layout → State (Option T) (Beside T) → Type 0
 HoldsAs true z s = HoldsPlaced z (placed_state s)
 HoldsAs false z s = HoldsFor z.carries z s

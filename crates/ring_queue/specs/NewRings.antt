@@ -15,9 +15,9 @@ use Rattle.ring_queue.specs.PlacedSeats.{said_by}
 use Rattle.ring_queue.specs.Seats.{IsAtRest, IsReady, HasNoSlot, deeds_of, view}
 use Rattle.ring_queue.specs.Queues.{IsNumberSeat}
 
--- the words at the start, with so many flags behind those of the queue
-pub record AreFirst (slots flags : ℕ) (words : List ℕ) : Type 0 where
-  pub wide : length words ≡ 32 + 2 * slots + flags
+-- the words at the start, with so many behind those of the queue, for further words of values and for flags
+pub record AreFirst (slots behind : ℕ) (words : List ℕ) : Type 0 where
+  pub wide : length words ≡ 32 + 2 * slots + behind
   pub tail : slice_index_or words 0 0 ≡ slots
   pub head : slice_index_or words 16 0 ≡ slots
   pub blank : (i : ℕ) → i < slots → slice_index_or words (slot_word i) 0 ≡ 0
@@ -97,13 +97,14 @@ pub record IsMadeFor {T : Type 0} (carries : Bool) (most limit : ℕ) (roles : L
   pub count : length seats ≡ length roles
   pub each : AreDealt q.plan q.table.shared.table_id seats
 
--- a new ring of these sizes, of any kind, with a new seat for each role, numbered from 1
-pub record IsMadeOf {T : Type 0} (carries placed : Bool) (most limit : ℕ) (roles : List Role) (q : RingQueue T) (seats : List (Seat T)) : Type 0 where
+-- a new ring of these sizes, of any kind, whose values are of so many words where they lie in their places, with a new seat for each role, numbered from 1
+pub record IsMadeOf {T : Type 0} (carries placed : Bool) (parts most limit : ℕ) (roles : List Role) (q : RingQueue T) (seats : List (Seat T)) : Type 0 where
   pub full_at : q.plan.most ≡ most
   pub goes_to : q.plan.limit ≡ limit
   pub deals : q.plan.roles ≡ roles
   pub values : q.plan.carries ≡ carries
   pub words : q.plan.placed ≡ placed
+  pub width : q.plan.width ≡ parts
   pub slots : HasSlots carries most roles q.plan.slots
   pub count : length seats ≡ length roles
   pub each : AreFresh q.plan q.table.shared.table_id seats

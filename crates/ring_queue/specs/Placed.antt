@@ -1,7 +1,7 @@
--- Values that are words in their places: where these lie, what a seat knows of them beside its queue's numbers, and the rule of a
--- table that has them: that of the numbers, and that beside the word of each place which nobody has still to fill lies the value that
--- was pushed there.
-use Rattle.std.specs.Prelude.{◌≡◌, ◌≢◌, ℕ, zero, suc, ◌+◌, ◌-◌, ◌%◌, ◌^◌, ◌<◌, ◌≤◌, Bool, false, List, [], ◌∷◌, ◌++◌, map, Option, Some, slice_get, slice_index_or}
+-- Values whose words lie in their places: where these lie, what a seat knows of them beside its queue's numbers, and the rule of a
+-- table that has them: that of the numbers, and that in each place which nobody has still to fill lie the words of the value that was
+-- pushed there.
+use Rattle.std.specs.Prelude.{◌≡◌, ◌≢◌, ℕ, zero, suc, ◌+◌, ◌-◌, ◌*◌, ◌%◌, ◌^◌, ◌<◌, ◌≤◌, Bool, false, List, [], ◌∷◌, ◌++◌, length, map, Option, Some, slice_get, slice_index_or}
 use mathlib.Core.Option.{some}
 use lib.ListN.{get_elem?}
 use Rattle.atomic_table.specs.Table.{State, Me}
@@ -11,46 +11,51 @@ use Rattle.history.specs.Entries.{Leads}
 use Rattle.node_arena.specs.Deeds.{Item, item, Deed, pushed, popped, closed, Runs, Matches}
 use Rattle.node_arena.specs.Beside.{AllBegin}
 use Rattle.ring_queue.specs.Words.{slot_word}
-use Rattle.ring_queue.specs.Plans.{Layout}
+use Rattle.ring_queue.specs.Plans.{Layout, words_of, further_for, further_of}
 use Rattle.ring_queue.specs.Knowledge.{SeatView, View, seated, paired, knows, knows_second}
 use Rattle.ring_queue.specs.Rule.{HasClaimed, Holds, first_view}
 use Rattle.ring_queue.specs.Moments.{head_in}
 use Rattle.ring_queue.specs.Meets.{Met}
 use Rattle.ring_queue.specs.Rows.{taken_in}
-use Rattle.ring_queue.specs.Remains.{word_of}
 use Rattle.ring_queue.specs.Steps.{PlacesClaimed, FrontsTaken, ShutMade}
 
--- where the value of a slot lies: beside the slot's word
-abbrev pub value_word : (slot : ℕ) → ℕ
-value_word slot = suc (slot_word slot)
+-- where a word of the value of a slot lies: the first beside the slot's word, the further ones in a pair of words for each slot, behind
+-- all slots
+abbrev pub value_word : (slots slot part : ℕ) → ℕ
+value_word slots slot zero = suc (slot_word slot)
+value_word slots slot (suc j) = 32 + 2 * slots + 2 * slot + j
 
--- the words of the queue alone, which all lie at even indices; those beside them are left out, as 0
-abbrev pub queue_words : List ℕ → List ℕ
-queue_words [] = []
-queue_words (w ∷ []) = w ∷ []
-queue_words (w ∷ x ∷ ws) = w ∷ 0 ∷ queue_words ws
+-- the words of the queue alone, which are the first of so many pairs; those beside them are left out, as 0
+abbrev pub queue_words : (pairs : ℕ) → List ℕ → List ℕ
+queue_words zero ws = []
+queue_words (suc n) [] = []
+queue_words (suc n) (w ∷ []) = w ∷ []
+queue_words (suc n) (w ∷ x ∷ ws) = w ∷ 0 ∷ queue_words n ws
 
--- the value that a seat has at hand: none; that of the place that it claimed, which it will store there, or has stored; or what it
--- loaded at its head's place, whose word it had found
+-- how many pairs these are
+abbrev pub pairs_of : Layout → ℕ
+pairs_of z = 16 + z.slots
+
+-- the value that a seat has at hand: none; that of the place that it claimed, whose first words, so many, it has stored there; or the
+-- words that it has loaded, the first of what lies at its head's place, whose word it had found
 pub data Hand : Type 0 where
   free : Hand
-  to_store : ℕ → Hand
-  stored : ℕ → Hand
-  loaded : ℕ → Hand
+  storing : (value : List ℕ) → (done : ℕ) → Hand
+  loading : List ℕ → Hand
 
 -- what a seat knows of its queue, a beginning of the history of values, the value that it has at hand, and what seats that it took
 -- in had seen of that history
 pub record PlacedView : Type 0 where
   pub plain : View
-  pub deeds : List (Deed ℕ)
+  pub deeds : List (Deed (List ℕ))
   pub hand : Hand
-  pub others : List (List (Deed ℕ))
+  pub others : List (List (Deed (List ℕ)))
 
 -- the same without what is known of the queue
 pub record Placing : Type 0 where
-  pub deeds : List (Deed ℕ)
+  pub deeds : List (Deed (List ℕ))
   pub hand : Hand
-  pub others : List (List (Deed ℕ))
+  pub others : List (List (Deed (List ℕ)))
 
 -- what is known of the queue, with what is known of values
 abbrev pub placed_view : View → Placing → PlacedView
@@ -69,25 +74,41 @@ abbrev pub queue_view : PlacedView → View
 queue_view w = w.plain
 
 -- the state of the queue alone
-abbrev pub queue_state : State ℕ PlacedView → State ℕ View
-queue_state s = record { words = queue_words s.words; homes = []; views = map queue_view s.views }
+abbrev pub queue_state : Layout → State ℕ PlacedView → State ℕ View
+queue_state z s = record { words = queue_words (pairs_of z) s.words; homes = []; views = map queue_view s.views }
 
--- the value beside the word of a place
-abbrev pub value_at : Layout → (words : List ℕ) → (place : ℕ) → ℕ
-value_at z words place = slice_index_or words (value_word (place % z.slots)) 0
+-- a word of the value of a place
+abbrev pub part_at : Layout → (words : List ℕ) → (place part : ℕ) → ℕ
+part_at z words place j = slice_index_or words (value_word z.slots (place % z.slots) j) 0
 
--- the values of so many places from one on, each of the seat that the place's word names
-abbrev pub items_from : Layout → (words : List ℕ) → (place count : ℕ) → List (Item ℕ)
-items_from z words place zero = []
-items_from z words place (suc k) = item (taken_in (word_of z.slots words place)).from (value_at z words place) ∷ items_from z words (place + 1) k
+-- so many of the first words of a value lie in its place
+abbrev pub HasPut : Layout → (words : List ℕ) → (place : ℕ) → (value : List ℕ) → (done : ℕ) → Type 0
+HasPut z words place value done = (j : ℕ) → j < done → part_at z words place j ≡ slice_index_or value j 0
 
--- the values alone of so many places from one on
-abbrev pub beside_from : (slots : ℕ) → (words : List ℕ) → (place count : ℕ) → List ℕ
-beside_from slots words place zero = []
-beside_from slots words place (suc k) = slice_index_or words (value_word (place % slots)) 0 ∷ beside_from slots words (place + 1) k
+-- so many words of the value of a place, from one on
+abbrev pub parts_from : (slots : ℕ) → (words : List ℕ) → (place part count : ℕ) → List ℕ
+parts_from slots words place j zero = []
+parts_from slots words place j (suc k) = slice_index_or words (value_word slots (place % slots) j) 0 ∷ parts_from slots words place (j + 1) k
+
+-- the words of the values of so many places from one on, each of so many words
+abbrev pub beside_from : (slots width : ℕ) → (words : List ℕ) → (place count : ℕ) → List ℕ
+beside_from slots width words place zero = []
+beside_from slots width words place (suc k) = parts_from slots words place 0 width ++ beside_from slots width words (place + 1) k
+
+-- the words of a table with so many slots, one at least, whose values are of so many words
+pub record HasParts (slots width : ℕ) (words : List ℕ) : Type 0 where
+  pub some : 1 ≤ slots
+  pub small : slots ≤ 2 ^ 49
+  pub thin : width ≤ 3
+  pub wide : 32 + 2 * slots + further_for width slots ≤ length words
+
+-- the words of values, one value after another
+abbrev pub parts_of : List (Item (List ℕ)) → List ℕ
+parts_of [] = []
+parts_of (x ∷ xs) = x.value ++ parts_of xs
 
 -- a value in the queue, as the queue of numbers has it: each number is 0
-abbrev pub number_of : Item ℕ → Taken
+abbrev pub number_of : Item (List ℕ) → Taken
 number_of x = record { from = x.from; body = 0 }
 
 -- no seat has a place to fill
@@ -95,20 +116,21 @@ abbrev pub IsUnclaimed : List PlacedView → (place : ℕ) → Type 0
 IsUnclaimed views place = (j : ℕ) (w : PlacedView) (v : SeatView) (x : Option Taken) → get_elem? views j ≡ some w → w.plain ≡ seated v → HasClaimed v.stage place x → ⊥
 
 -- each place that a seat has still to fill is that of this value, which it pushed
-abbrev pub Owes : (head : ℕ) → (items : List (Item ℕ)) → SeatView → (value : ℕ) → Type 0
+abbrev pub Owes : (head : ℕ) → (items : List (Item (List ℕ))) → SeatView → (value : List ℕ) → Type 0
 Owes head items v n = (p : ℕ) (x : Option Taken) → HasClaimed v.stage p x → (head ≤ p) × (slice_get items (p - head) ≡ Some (item v.number n))
 
 -- what a seat has at hand is as the queue has it
-abbrev pub Handles : Layout → (words : List ℕ) → (items : List (Item ℕ)) → SeatView → Hand → Type 0
+abbrev pub Handles : Layout → (words : List ℕ) → (items : List (Item (List ℕ))) → SeatView → Hand → Type 0
 Handles z words items v free = Unit {0}
-Handles z words items v (to_store n) = Owes (head_in words) items v n
-Handles z words items v (stored n) = Owes (head_in words) items v n × ((p : ℕ) (x : Option Taken) → HasClaimed v.stage p x → value_at z words p ≡ n)
-Handles z words items v (loaded n) = v.head ≡ head_in words → (x : Item ℕ) × (slice_get items 0 ≡ Some x) × (n ≡ x.value)
+Handles z words items v (storing value done) = (done ≤ z.width) × Owes (head_in words) items v value
+    × ((p : ℕ) (x : Option Taken) → HasClaimed v.stage p x → HasPut z words p value done)
+Handles z words items v (loading read) = v.head ≡ head_in words
+    → (x : Item (List ℕ)) × (slice_get items 0 ≡ Some x) × ((j : ℕ) → j < length read → slice_index_or read j 0 ≡ slice_index_or x.value j 0)
 
 -- what is known of the values: a beginning of their history, as long as what the seat has seen, or as two seats that are one
 -- have both seen
-pub record BeginsPlaced (deeds : List (Deed ℕ)) (w : PlacedView) : Type 0 where
-  pub rest : List (Deed ℕ)
+pub record BeginsPlaced (deeds : List (Deed (List ℕ))) (w : PlacedView) : Type 0 where
+  pub rest : List (Deed (List ℕ))
   pub begins : deeds ≡ w.deeds ++ rest
   pub matches : (v : SeatView) → w.plain ≡ seated v → Matches v.seen w.deeds
   pub pair : (v u : SeatView) → w.plain ≡ paired v u → v.seen ≡ u.seen → Matches v.seen w.deeds
@@ -116,23 +138,26 @@ pub record BeginsPlaced (deeds : List (Deed ℕ)) (w : PlacedView) : Type 0 wher
 
 -- a history of values that goes with one of numbers, and the values that it leaves in the queue
 pub record Said (history : List Entry) : Type 0 where
-  pub deeds : List (Deed ℕ)
-  pub items : List (Item ℕ)
+  pub deeds : List (Deed (List ℕ))
+  pub items : List (Item (List ℕ))
   pub shut : Bool
   pub leads : Leads history shut (map number_of items)
   pub runs : Runs [] false deeds items shut
   pub matches : Matches history deeds
 
--- values ride on a history of numbers, each in its place: it lies there, or the seat that claimed the place has it at hand
+-- values ride on a history of numbers, each in its place: it lies there, or the seat that claimed the place has it at hand; each is of
+-- as many words as the plan says
 pub record Placed (z : Layout) (history : List Entry) (words : List ℕ) (views : List PlacedView) : Type 0 where
   pub said : Said history
-  pub lies : (i : ℕ) (x : Item ℕ) → slice_get said.items i ≡ Some x → IsUnclaimed views (head_in words + i) → value_at z words (head_in words + i) ≡ x.value
+  pub widths : (i : ℕ) (x : Item (List ℕ)) → slice_get said.items i ≡ Some x → length x.value ≡ z.width
+  pub lies : (i : ℕ) (x : Item (List ℕ)) → slice_get said.items i ≡ Some x → IsUnclaimed views (head_in words + i) → HasPut z words (head_in words + i) x.value z.width
   pub hands : (j : ℕ) (w : PlacedView) (v : SeatView) → get_elem? views j ≡ some w → w.plain ≡ seated v → Handles z words said.items v w.hand
   pub known : (j : ℕ) (w : PlacedView) → get_elem? views j ≡ some w → BeginsPlaced said.deeds w
+  pub long : words_of z + further_of z ≤ length words
 
--- the rule of a table whose values are words in their places
+-- the rule of a table whose values lie in their places
 pub record HoldsPlaced (z : Layout) (s : State ℕ PlacedView) : Type 0 where
-  pub base : Holds z (queue_state s)
+  pub base : Holds z (queue_state z s)
   pub values : Placed z base.ring.history s.words s.views
 
 -- a view that goes on with another value at hand
@@ -143,39 +168,44 @@ with_value w h = record { plain = w.plain; deeds = w.deeds; hand = h; others = w
 -- some values
 pub record KnowsSaid (seen : List Entry) (w : PlacedView) : Type 0 where
   pub matches : Matches seen w.deeds
-  pub values : List (Item ℕ)
+  pub values : List (Item (List ℕ))
   pub shut : Bool
   pub runs : Runs [] false w.deeds values shut
 
 -- what a seat has seen of the values goes on and ends with these deeds, and this is at hand then
-abbrev pub Says : (ds : List (Deed ℕ)) → Hand → (w w' : PlacedView) → Type 0
-Says ds h w w' = (w'.hand ≡ h) × ((between : List (Deed ℕ)) × (w'.deeds ≡ (w.deeds ++ between) ++ ds))
+abbrev pub Says : (ds : List (Deed (List ℕ))) → Hand → (w w' : PlacedView) → Type 0
+Says ds h w w' = (w'.hand ≡ h) × ((between : List (Deed (List ℕ))) × (w'.deeds ≡ (w.deeds ++ between) ++ ds))
 
 -- what a line tells: what it tells of the numbers, which deeds it added, and that what the seat then knows of the values is so
-abbrev pub TellsSaid : (SeatView → ℕ → SeatView → Type 0) → (ds : List (Deed ℕ)) → Hand → Me ℕ PlacedView → ℕ → Me ℕ PlacedView → Type 0
+abbrev pub TellsSaid : (SeatView → ℕ → SeatView → Type 0) → (ds : List (Deed (List ℕ))) → Hand → Me ℕ PlacedView → ℕ → Me ℕ PlacedView → Type 0
 TellsSaid fact ds h me n me' = (me'.0.plain ≡ seated (knows me'.0.plain)) × fact (knows me.0.plain) n (knows me'.0.plain) × Says ds h me.0 me'.0
     × ∥ KnowsSaid (knows me'.0.plain).seen me'.0 ∥₁
 
--- what the store of a value tells: it is stored
-abbrev pub TellsStored : (value : ℕ) → (me me' : Me ℕ PlacedView) → Type 0
-TellsStored n me me' = me' ≡ (with_value me.0 (stored n), [])
+-- what the store of a word of a value tells: it is stored
+abbrev pub TellsStored : (value : List ℕ) → (done : ℕ) → (me me' : Me ℕ PlacedView) → Type 0
+TellsStored value done me me' = me' ≡ (with_value me.0 (storing value (done + 1)), [])
 
--- what the load of a value tells: it is at hand
-abbrev pub TellsLoaded : Me ℕ PlacedView → ℕ → Me ℕ PlacedView → Type 0
-TellsLoaded me n me' = me' ≡ (with_value me.0 (loaded n), [])
+-- what the load of a word tells: it is at hand, with those that were loaded before
+abbrev pub TellsLoaded : (read : List ℕ) → Me ℕ PlacedView → ℕ → Me ℕ PlacedView → Type 0
+TellsLoaded read me n me' = me' ≡ (with_value me.0 (loading (read ++ n ∷ [])), [])
+
+-- what was loaded is at hand, where it is a word or more
+abbrev pub HasRead : Hand → (read : List ℕ) → Type 0
+HasRead h [] = Unit {0}
+HasRead h (w ∷ ws) = h ≡ loading (w ∷ ws)
 
 -- what a claim for a value tells: its push took effect, and it is to be stored; or nothing was added
-abbrev pub TellsClaimed : Layout → (value : ℕ) → Me ℕ PlacedView → ℕ → Me ℕ PlacedView → Type 0
-TellsClaimed z n me k me' = (k ≡ (knows me.0.plain).tail → TellsSaid (PlacesClaimed z (0 ∷ [])) (pushed (knows me.0.plain).number n ∷ []) (to_store n) me k me')
+abbrev pub TellsClaimed : Layout → (value : List ℕ) → Me ℕ PlacedView → ℕ → Me ℕ PlacedView → Type 0
+TellsClaimed z n me k me' = (k ≡ (knows me.0.plain).tail → TellsSaid (PlacesClaimed z (0 ∷ [])) (pushed (knows me.0.plain).number n ∷ []) (storing n 0) me k me')
     × (k ≢ (knows me.0.plain).tail → TellsSaid (PlacesClaimed z (0 ∷ [])) [] free me k me')
 
 -- a pop of the value that was loaded took effect: it stood in front, and the word that was found says who pushed it
-abbrev pub TellsPopped : Layout → (word value : ℕ) → Me ℕ PlacedView → ℕ → Me ℕ PlacedView → Type 0
-TellsPopped z word n me k me' = (front : Item ℕ) × (number_of front ≡ taken_in word) × (n ≡ front.value)
+abbrev pub TellsPopped : Layout → (word : ℕ) → (value : List ℕ) → Me ℕ PlacedView → ℕ → Me ℕ PlacedView → Type 0
+TellsPopped z word n me k me' = (front : Item (List ℕ)) × (number_of front ≡ taken_in word) × (n ≡ front.value)
     × TellsSaid (FrontsTaken z (word ∷ [])) (popped (knows me.0.plain).number front ∷ []) free me k me'
 
 -- what an exchange of Head tells: the pop took effect, or nothing was added
-abbrev pub TellsTaken : Layout → (word value : ℕ) → Me ℕ PlacedView → ℕ → Me ℕ PlacedView → Type 0
+abbrev pub TellsTaken : Layout → (word : ℕ) → (value : List ℕ) → Me ℕ PlacedView → ℕ → Me ℕ PlacedView → Type 0
 TellsTaken z word n me k me' = (k ≡ (knows me.0.plain).head → TellsPopped z word n me k me')
     × (k ≢ (knows me.0.plain).head → TellsSaid (FrontsTaken z (word ∷ [])) [] free me k me')
 

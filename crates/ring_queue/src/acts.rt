@@ -62,7 +62,7 @@ impl<T> RingQueue<T> {
         requires claimed { (x : Option TheTaken) × (xs : List (Option TheTaken))
             × ((view seat.old).stage ≡ claimed place (x ∷ xs)) × (payload ≡ words.payload x) }
         requires small { payload < 2 ^ 63 }
-        requires stored { self.now.plan.placed ≡ true → HasStored seat.old }
+        requires stored { self.now.plan.placed ≡ true → HasStored self.now.plan.width seat.old }
         ensures seat { Sits self.now.plan self.now.table.shared.table_id seat.new }
         ensures slots { KeepsSlots seat.old seat.new }
         ensures name { KeepsName seat.old seat.new }

@@ -2,7 +2,7 @@
 ghost use Rattle.std.specs.Prelude.{◌≡◌, ◌<◌, [], true, length, map, IfOk, IfErr};
 ghost use Rattle.std.specs.List.{All};
 ghost use Rattle.history.specs.Ends.{Closes};
-ghost use Rattle.ring_queue.specs.Ends.{HasToken, HasGathered, HasRoomFor, ClosesValues, ClosesWords};
+ghost use Rattle.ring_queue.specs.Ends.{HasToken, HasGathered, HasRoomFor, HasWordRoom, ClosesValues, ClosesWords};
 ghost use Rattle.ring_queue.specs.PlacedSeats.{IsWordSeat};
 ghost use Rattle.ring_queue.specs.Queues.{IsNumberSeat, IsRingSeat, permits_in};
 ghost use Rattle.ring_queue.specs.Seats.{HasNoSlot, known_of};
@@ -127,28 +127,28 @@ impl<T> RingQueue<T> {
         (rest, slots)
     }
 
-    /// Memory for the numbers and for the values left in a ring whose values are words in their places.
+    /// Memory for the numbers and for the words of the values left in a ring whose values lie in their places.
     ///
     /// Refused by `Memory` alone. Takes that memory, and doesn't wait.
     pub fn word_rooms(&self, alloc: Global) -> Result<(Vec<Taken>, Vec<u64>), Refusal>
-        //= ring/word_rooms (numbers, values, only_memory): Room for the rest of a ring whose values are words in their places is
-        //=   room for a number and a value of each slot. Or Memory.
+        //= ring/word_rooms (numbers, values, only_memory): Room for the rest of a ring whose values lie in their places is room
+        //=   for a number and the words of a value of each slot. Or Memory.
         ensures numbers { IfOk result (λ r. HasRoomFor self.now r.0) }
-        ensures values { IfOk result (λ r. HasRoomFor self.now r.1) }
+        ensures values { IfOk result (λ r. HasWordRoom self.now r.1) }
         ensures only_memory { IfErr result (λ refusal. refusal ≡ Refusal.Memory) }
     {
         let slots = self.sizes().slots as usize;
         let Ok(numbers) = Vec::with_capacity(alloc, slots) else {
             return Err(Refusal::Memory);
         };
-        let Ok(values) = Vec::with_capacity(alloc, slots) else {
+        let Ok(values) = Vec::with_capacity(alloc, slots * self.sizes().width) else {
             return Err(Refusal::Memory);
         };
         Ok((numbers, values))
     }
 
-    /// Ends a ring whose values are words in their places with all its seats, each in no call: what `close_with` tells of the
-    /// numbers, each 0, and the values left, in order.
+    /// Ends a ring whose values lie in their places with all its seats, each in no call: what `close_with` tells of the numbers,
+    /// each 0, and the words of the values left, in order, one value after another.
     ///
     /// Takes no memory and doesn't wait.
     pub fn close_words(
@@ -158,13 +158,13 @@ impl<T> RingQueue<T> {
         seats: Vec<Seat<T>>,
     ) -> (Rest, Vec<u64>)
         requires numbers { HasRoomFor self numbers }
-        requires values { HasRoomFor self values }
+        requires values { HasWordRoom self values }
         requires seats { All (IsWordSeat self) seats.items }
         requires placed { self.plan.placed ≡ true }
         requires all { length seats.items ≡ length (permits_in self) }
-        //= ring/words_left: The values left in a closed ring whose values are words in their places are those to which their history
-        //=   leads, in order, each of the seat that pushed it. That history begins with what each seat had seen of it, and goes
-        //=   one by one with that of the numbers. What is said of any closed queue is so of the numbers.
+        //= ring/words_left: The values left in a closed ring whose values lie in their places are those to which their history
+        //=   leads, in order, each of the seat that pushed it and whole, no more than slots. That history begins with what each seat
+        //=   had seen of it, and goes one by one with that of the numbers. What is said of any closed queue is so of the numbers.
         ensures { ClosesWords self seats.items result.0 result.1.items }
     {
         let RingQueue { table, plan } = self;
@@ -172,7 +172,7 @@ impl<T> RingQueue<T> {
         let mut token = shared.load_new_seat::<Open>(0).1;
         gather(&table, &mut token, seats);
         let closed = table.close_with(token);
-        let values = words_left(&closed, plan.slots, values);
+        let values = words_left(&closed, plan.slots, plan.width, values);
         let rest = rest_of(&closed, plan.slots, numbers);
         closed.free();
         (rest, values)

@@ -25,7 +25,7 @@ mod views;
 mod words;
 
 pub use batches::MOST_AT_ONCE;
-pub use new_rings::MOST_SEATS;
+pub use new_rings::{MOST_SEATS, MOST_WORDS};
 pub use queue::RingQueue;
 pub use roles::Role;
 pub use seats::Seat;

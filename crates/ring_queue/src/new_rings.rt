@@ -2,7 +2,7 @@
 ghost use Rattle.std.specs.Prelude.{◌≡◌, ◌<◌, ◌≤◌, ◌^◌, true, false, length, map, IfOk, IfErr};
 ghost use Rattle.std.specs.List.{All};
 ghost use Rattle.history.specs.Openings.{AreNew};
-ghost use Rattle.ring_queue.specs.Plans.{IsPlanned, permits_by, slots_of};
+ghost use Rattle.ring_queue.specs.Plans.{IsPlanned, permits_by, further_of, slots_of};
 ghost use Rattle.ring_queue.specs.Seats.{known_of};
 ghost use Rattle.ring_queue.specs.PlacedSeats.{IsWordSeat};
 ghost use Rattle.ring_queue.specs.Queues.{IsNumberSeat, permits_in};
@@ -21,13 +21,16 @@ use std::alloc::{AllocError, Global};
 /// The greatest number of seats, 2^15 - 1.
 pub const MOST_SEATS: usize = (1 << 15) - 1;
 
-// The words at the start: the places of the first lap count as taken, and so many flags are down.
-fn words_at_start(alloc: Global, slots: u64, flags: u64) -> Result<Vec<u64>, AllocError>
+/// The greatest number of words of a value that lies in its place, 3.
+pub const MOST_WORDS: usize = 3;
+
+// The words at the start: the places of the first lap count as taken, and so many words behind are 0.
+fn words_at_start(alloc: Global, slots: u64, behind: u64) -> Result<Vec<u64>, AllocError>
     requires slots { slots ≤ 2 ^ 49 }
-    requires flags { flags ≤ 2 ^ 49 }
-    ensures { IfOk result (λ words. AreFirst slots flags words.items) }
+    requires behind { behind ≤ 2 ^ 51 }
+    ensures { IfOk result (λ words. AreFirst slots behind words.items) }
 {
-    let mut words = vec![in alloc; 0u64; 32 + 2 * slots as usize + flags as usize]?;
+    let mut words = vec![in alloc; 0u64; 32 + 2 * slots as usize + behind as usize]?;
     words[TAIL] = slots;
     words[HEAD] = slots;
     Ok(words)
@@ -56,15 +59,23 @@ fn slot_count(plan: &Plan) -> u64
     if plan.carries { plan.slots } else { 0 }
 }
 
+// How many further words the table of a plan has for values.
+fn further_count(plan: &Plan) -> u64
+    requires { plan.now.slots ≤ 2 ^ 49 }
+    ensures { result ≡ further_of plan.now }
+{
+    if plan.width < 2 { 0 } else { 2 * plan.slots }
+}
+
 fn built<T>(alloc: Global, plan: Plan) -> Result<(RingQueue<T>, Vec<Seat<T>>), AllocError>
     requires planned { IsPlanned plan }
-    requires small { plan.slots ≤ 2 ^ 49 }
     ensures plan { IfOk result (λ r. r.0.plan ≡ plan) }
     ensures count { IfOk result (λ r. length r.1.items ≡ length plan.roles) }
     ensures seats { IfOk result (λ r. AreFresh plan r.0.table.shared.table_id r.1.items) }
 {
     let flags = slot_count(&plan);
-    let words = words_at_start(alloc, plan.slots, flags)?;
+    let behind = further_count(&plan) + flags;
+    let words = words_at_start(alloc, plan.slots, behind)?;
     let room = Vec::with_capacity(alloc, plan.roles.len())?;
     let (table, mut keeper) = Table::vacant(alloc, words.as_slice(), flags as usize, &plan)?;
     let seats = deal_all(&table, &mut keeper, &plan, room);
@@ -85,7 +96,7 @@ fn room_for(most: u32, roles: &[Role], carries: bool) -> u64
     }
 }
 
-// A ring of these sizes, which carries values or has words in its places, or neither, and its seats.
+// A ring of these sizes, which carries values or has their words in its places, so many, or neither, and its seats.
 fn made<T>(
     alloc: Global,
     most: u32,
@@ -93,10 +104,14 @@ fn made<T>(
     roles: &[Role],
     carries: bool,
     placed: bool,
+    width: usize,
 ) -> Result<(RingQueue<T>, Vec<Seat<T>>), Refusal>
     requires apart { placed ≡ true → carries ≡ false }
+    requires thin { width ≤ 3 }
+    requires in_places { placed ≡ true → 1 ≤ width }
+    requires elsewhere { placed ≡ false → width ≡ 0 }
     ensures ok { IfOk result
-        (λ r. IsMadeOf carries placed most limit roles.now r.0 r.1.items) }
+        (λ r. IsMadeOf carries placed width most limit roles.now r.0 r.1.items) }
     ensures refused { IfErr result (RingRefused carries most limit roles.now) }
 {
     if most == 0 || roles.is_empty() || roles.len() > MOST_SEATS {
@@ -116,6 +131,7 @@ fn made<T>(
         roles,
         carries,
         placed,
+        width,
     };
     let Ok(made) = built(alloc, plan) else {
         return Err(Refusal::Memory);
@@ -144,7 +160,7 @@ impl RingQueue {
         ensures unused { IfOk result (λ r. AreNew (permits_in r.0) (map known_of r.1.items)) }
         ensures refused { IfErr result (RingRefused false most limit roles.now) }
     {
-        made(alloc, most, limit, roles, false, false)
+        made(alloc, most, limit, roles, false, false, 0)
     }
 }
 
@@ -165,25 +181,29 @@ impl<T> RingQueue<T> {
             (λ r. IsMadeFor true most limit roles.now r.0 r.1.items) }
         ensures refused { IfErr result (RingRefused true most limit roles.now) }
     {
-        made(alloc, most, limit, roles, true, false)
+        made(alloc, most, limit, roles, true, false, 0)
     }
 
-    /// A ring whose values are words in their places, of the sizes of `new`.
+    /// A ring whose values lie in their places, each of `width` words, 1 to `MOST_WORDS`, of the sizes of `new`.
     ///
-    /// Refusals: those of `new`. Takes memory for two words a slot, the seats and their roles, and doesn't wait.
+    /// Refusals: those of `new`. Takes memory for two words a slot, four where values are of more than one, the seats and their
+    /// roles, and doesn't wait.
     pub fn with_words(
         alloc: Global,
+        width: usize,
         most: u32,
         limit: u64,
         roles: &[Role],
     ) -> Result<(RingQueue<T>, Vec<Seat<T>>), Refusal>
-        //= ring/words (ok, seats, refused): A new ring whose values are words in their places is as a new ring of numbers, with
-        //=   each value beside the word of its place.
+        requires some { 1 ≤ width }
+        requires few { width ≤ 3 }
+        //= ring/words (ok, seats, refused): A new ring whose values lie in their places is as a new ring of numbers, with each
+        //=   value in its place, one to three words as asked for.
         ensures ok { IfOk result
-            (λ r. IsMadeOf false true most limit roles.now r.0 r.1.items) }
+            (λ r. IsMadeOf false true width most limit roles.now r.0 r.1.items) }
         ensures seats { IfOk result (λ r. All (IsWordSeat r.0) r.1.items) }
         ensures refused { IfErr result (RingRefused false most limit roles.now) }
     {
-        made(alloc, most, limit, roles, false, true)
+        made(alloc, most, limit, roles, false, true, width)
     }
 }

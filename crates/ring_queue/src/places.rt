@@ -1,6 +1,7 @@
 //! Where the words of a ring lie in its table, and the slot and the parity of a place.
-ghost use Rattle.std.specs.Prelude.{◌≡◌, ◌%◌, ◌<◌};
+ghost use Rattle.std.specs.Prelude.{◌≡◌, ◌%◌, ◌^◌, ◌<◌, ◌≤◌};
 ghost use Rattle.ring_queue.specs.Words.{parity};
+ghost use Rattle.ring_queue.specs.Placed.{value_word};
 
 use crate::plans::Plan;
 use crate::queue::RingQueue;
@@ -16,6 +17,23 @@ pub(crate) const SLOTS: usize = 32;
 
 /// The bit of Tail that says that the queue is shut.
 pub(crate) const SHUT: u64 = 1 << 62;
+
+/// Where a word of the value of a slot lies in a ring of so many slots: the first beside the slot's word, the further ones in a
+/// pair of words for each slot, behind all slots.
+#[inline(always)]
+pub(crate) fn part_word(slots: u64, slot: usize, part: usize) -> usize
+    requires small { slots ≤ 2 ^ 49 }
+    requires slot { slot < slots }
+    requires part { part < 3 }
+    ensures { result ≡ value_word slots slot part }
+{
+    let first = SLOTS + 2 * slot + 1;
+    if part == 0 {
+        first
+    } else {
+        first + 2 * slots as usize + part - 2
+    }
+}
 
 impl<T> RingQueue<T> {
     /// What it was made for.

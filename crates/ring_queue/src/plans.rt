@@ -3,7 +3,7 @@ use crate::roles::Role;
 use std::marker::Model;
 
 /// How many slots a ring has, how many values it has room for, up to which place it goes, the role of each seat, whether it
-/// carries values, and whether each of its values is a word in its place.
+/// carries values, and whether the words of each value lie in its place, and of how many it is then, else 0.
 #[derive(Drop)]
 pub struct Plan {
     pub(crate) slots: u64,
@@ -12,6 +12,7 @@ pub struct Plan {
     pub(crate) roles: Vec<Role>,
     pub(crate) carries: bool,
     pub(crate) placed: bool,
+    pub(crate) width: usize,
 }
 
 impl Model for Plan {
@@ -19,5 +20,5 @@ impl Model for Plan {
 
     ghost Value = { Layout };
 
-    ghost view = { λ p. record { slots = p.slots; most = p.most; limit = p.limit; roles = p.roles.items; carries = p.carries; placed = p.placed } };
+    ghost view = { λ p. record { slots = p.slots; most = p.most; limit = p.limit; roles = p.roles.items; carries = p.carries; placed = p.placed; width = p.width } };
 }

@@ -1,14 +1,14 @@
 //! What is left in a ring, by the words of its closed table.
-ghost use Rattle.std.specs.Prelude.{◌≡◌, ℕ, ◌+◌, ◌-◌, ◌*◌, ◌%◌, ◌^◌, ◌<◌, ◌≤◌, [], length, true, false};
-ghost use Rattle.std.specs.Prelude.{slice_index_or, vec_capacity};
+ghost use Rattle.std.specs.Prelude.{◌≡◌, ℕ, ◌+◌, ◌-◌, ◌*◌, ◌%◌, ◌^◌, ◌<◌, ◌≤◌, ◌++◌, [], length, true, false};
+ghost use Rattle.std.specs.Prelude.{slice_index_or, vec_capacity, vec_len};
 ghost use Rattle.std.specs.Slots.{slots_items, slots_filled, slots_len, IsFull};
 ghost use Rattle.history.specs.Rests.{left_of, taken_of, whole_of, was_shut_of};
 ghost use Rattle.ring_queue.specs.Remains.{values_from, HasWords, was_shut_in};
 ghost use Rattle.ring_queue.specs.Moments.{head_in, tail_in};
-ghost use Rattle.ring_queue.specs.Placed.{beside_from};
+ghost use Rattle.ring_queue.specs.Placed.{parts_from, beside_from, HasParts};
 
 use crate::acts::taken_of;
-use crate::places::{HEAD, SHUT, SLOTS, TAIL};
+use crate::places::{HEAD, SHUT, SLOTS, TAIL, part_word};
 use atomic_table::Closed;
 use history::{Rest, Taken};
 use std::alloc::Global;
@@ -68,41 +68,71 @@ pub(crate) fn rest_of<T>(closed: &ClosedTable<T>, slots: u64, room: Vec<Taken>) 
     Rest::of(values, head - slots, true, tail >= SHUT)
 }
 
-// The values beside the words of places from one on, up to Tail, put into an empty list that has room for them.
-fn beside_left<T>(
+// The words of the value of a place, put behind others into a list that has room for them.
+fn value_left<T>(
     closed: &ClosedTable<T>,
     slots: u64,
+    width: usize,
+    place: u64,
+    mut values: Vec<u64>,
+) -> Vec<u64>
+    requires full { IsFull closed.now.words }
+    requires words { HasParts slots width (slots_items closed.now.words) }
+    requires room { vec_len values + width ≤ vec_capacity values }
+    ensures items { result.items ≡ values.items
+        ++ parts_from slots (slots_items closed.now.words) place 0 width }
+    ensures count { vec_len result ≡ vec_len values + width }
+    ensures room { vec_capacity values ≤ vec_capacity result }
+{
+    let slot = (place % slots) as usize;
+    for part in 0..width {
+        let word = word_at(closed, part_word(slots, slot, part));
+        values.push(word).unwrap();
+    }
+    values
+}
+
+// The words of the values of places from one on, up to Tail, put into an empty list that has room for them.
+fn parts_left<T>(
+    closed: &ClosedTable<T>,
+    slots: u64,
+    width: usize,
     head: u64,
     tail: u64,
     mut values: Vec<u64>,
 ) -> Vec<u64>
     requires full { IsFull closed.now.words }
-    requires words { HasWords slots (slots_items closed.now.words) }
-    requires room { tail - head ≤ vec_capacity values }
+    requires words { HasParts slots width (slots_items closed.now.words) }
+    requires room { (tail - head) * width ≤ vec_capacity values }
     requires empty { values.items ≡ [] }
-    ensures { result.items ≡ beside_from slots (slots_items closed.now.words) head (tail - head) }
+    ensures { result.items ≡ beside_from slots width (slots_items closed.now.words) head (tail - head) }
 {
     for place in head..tail {
-        let value = word_at(closed, SLOTS + 2 * (place % slots) as usize + 1);
-        values.push(value).unwrap();
+        values = value_left(closed, slots, width, place, values);
     }
     values
 }
 
-/// The values left in a ring of so many slots whose values are words in their places, put into an empty list that has room for them.
-pub(crate) fn words_left<T>(closed: &ClosedTable<T>, slots: u64, room: Vec<u64>) -> Vec<u64>
+/// The words of the values left in a ring of so many slots whose values lie in their places, one value after another, put into an
+/// empty list that has room for them.
+pub(crate) fn words_left<T>(
+    closed: &ClosedTable<T>,
+    slots: u64,
+    width: usize,
+    room: Vec<u64>,
+) -> Vec<u64>
     requires full { IsFull closed.now.words }
-    requires words { HasWords slots (slots_items closed.now.words) }
-    requires room { tail_in (slots_items closed.now.words) - head_in (slots_items closed.now.words)
-        ≤ vec_capacity room }
+    requires words { HasParts slots width (slots_items closed.now.words) }
+    requires room { (tail_in (slots_items closed.now.words) - head_in (slots_items closed.now.words))
+        * width ≤ vec_capacity room }
     requires empty { room.items ≡ [] }
-    ensures { result.items ≡ beside_from slots (slots_items closed.now.words)
+    ensures { result.items ≡ beside_from slots width (slots_items closed.now.words)
         (head_in (slots_items closed.now.words))
         (tail_in (slots_items closed.now.words) - head_in (slots_items closed.now.words)) }
 {
     let tail = word_at(closed, TAIL);
     let head = word_at(closed, HEAD);
-    beside_left(closed, slots, head, tail % SHUT, room)
+    parts_left(closed, slots, width, head, tail % SHUT, room)
 }
 
 /// What lay in each slot, in order, put into an empty list that has room for it.

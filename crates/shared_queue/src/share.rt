@@ -1,5 +1,5 @@
 //! A seat with its share of a queue whose calls are stepped.
-ghost use Rattle.std.specs.Prelude.{◌≡◌, Some, None};
+ghost use Rattle.std.specs.Prelude.{◌≡◌};
 ghost use Rattle.shared_queue.specs.Seats.{IsBoth};
 ghost use Rattle.shared_queue.specs.Stepped.{stepped_queue};
 
@@ -81,7 +81,7 @@ impl<T: Drop, C: Carrier<Item = T> + Drop> Share<C> {
     ghost use Rattle.calls.specs.declared.calls.Task.TheVariants.{Push, Pop};
     ghost use Rattle.shared_queue.specs.Sharing.{stepped_at, share_seat};
     ghost use Rattle.shared_queue.specs.Steps.{Steps};
-    ghost use Rattle.shared_queue.specs.TriedCalls.{tries_to, ComesTo};
+    ghost use Rattle.shared_queue.specs.TriedCalls.{ComesTo};
 
     /// Steps a call until there is something to do before its next step. `past` is whether its time is.
     pub fn step(&mut self, asked: &mut Asked<T>, past: bool) -> Act
@@ -105,45 +105,46 @@ impl<T: Drop, C: Carrier<Item = T> + Drop> Share<C> {
         Act::Yield
     }
 
-    /// Pushes a value, as a call that never waits does: in one piece, and no call is kept but where it has to tell all of a word
-    /// that is worn out, or to give back the place that it took. Takes no memory and doesn't wait.
+    /// Pushes the value that is given, as a call that never waits does: in one piece. A value that is pushed is taken from where it
+    /// lies, and else it stays there. No call is kept; `Tried::call` makes the one that goes on. Takes no memory and doesn't wait.
     ///
     /// ```rust
-    /// match share.try_push(text) {
-    ///     Tried::Told(Code::Done, _) => {}
-    ///     Tried::Told(_, value) => text = value,
-    ///     Tried::Wakes(bell, _) => wake_one(share.queue().rings(bell)),
-    ///     Tried::Rest(mut asked) => finish(&mut share, &mut asked),
+    /// match share.try_push(&mut text) {
+    ///     Tried::Told(code) => told(code),
+    ///     Tried::Wakes(bell) => wake_one(share.queue().rings(bell)),
+    ///     rest => finish(&mut share, rest.call(Task::Push), &mut text),
     /// }
     /// ```
-    pub fn try_push(&mut self, value: T) -> Tried<T>
+    pub fn try_push(&mut self, value: &mut Option<T>) -> Tried
         //= calls/share_tries (queue, number, comes): A call in one piece came to what accesses of the machine's call lead to,
-        //=   one after another: its answer; one to wake, behind which it is done; or a point from where it is stepped on.
+        //=   one after another, with its value where it was given: its answer; one to wake, behind which it is done; or a
+        //=   point from where it is stepped on.
         ensures queue { stepped_at self.new ≡ stepped_at self.old }
         ensures number { (C.known (share_seat self.new)).number
             ≡ (C.known (share_seat self.old)).number }
-        ensures comes { ComesTo (tries_to Push (Some value)) (C.known (share_seat self.old)) result
+        ensures comes { ComesTo Push value.old (C.known (share_seat self.old)) result value.new
             (C.known (share_seat self.new)) }
     {
         self.queue.try_push(&mut self.seat, value)
     }
 
-    /// Pops a value, as a call that never waits does: in one piece, and no call is kept but where it has to tell all of a word
-    /// that is worn out. Takes no memory and doesn't wait.
+    /// Pops a value, as a call that never waits does: in one piece. What is popped lies where it was asked for, and else what lay
+    /// there stays. No call is kept; `Tried::call` makes the one that goes on. Takes no memory and doesn't wait.
     ///
     /// ```rust
-    /// if let Tried::Told(Code::Done, value) = share.try_pop() {
-    ///     text = value;
+    /// let mut text = None;
+    /// if let Tried::Told(Code::Done) = share.try_pop(&mut text) {
+    ///     return text;
     /// }
     /// ```
-    pub fn try_pop(&mut self) -> Tried<T>
+    pub fn try_pop(&mut self, value: &mut Option<T>) -> Tried
         //= calls/share_tries (queue, number, comes)
         ensures queue { stepped_at self.new ≡ stepped_at self.old }
         ensures number { (C.known (share_seat self.new)).number
             ≡ (C.known (share_seat self.old)).number }
-        ensures comes { ComesTo (tries_to Pop None) (C.known (share_seat self.old)) result
+        ensures comes { ComesTo Pop value.old (C.known (share_seat self.old)) result value.new
             (C.known (share_seat self.new)) }
     {
-        self.queue.try_pop(&mut self.seat)
+        self.queue.try_pop(&mut self.seat, value)
     }
 }

@@ -151,15 +151,15 @@ sizes_both [] vs = omega arith
 sizes_both (u ∷ us) vs = let e = sizes_both us vs in omega (arith, e)
 
 module _ (P : Spot → Type 0) where
-  joined : (us vs : List Spot) → AllByRecursion P us → AllByRecursion P vs → AllByRecursion P (us ++ vs)
+  pub joined : (us vs : List Spot) → AllByRecursion P us → AllByRecursion P vs → AllByRecursion P (us ++ vs)
   joined [] vs a b = b
   joined (u ∷ us) vs a b = (a.0, joined us vs a.1 b)
 
-  front : (us vs : List Spot) → AllByRecursion P (us ++ vs) → AllByRecursion P us
+  pub front : (us vs : List Spot) → AllByRecursion P (us ++ vs) → AllByRecursion P us
   front [] vs h = tt
   front (u ∷ us) vs h = (h.0, front us vs h.1)
 
-  behind : (us vs : List Spot) → AllByRecursion P (us ++ vs) → AllByRecursion P vs
+  pub behind : (us vs : List Spot) → AllByRecursion P (us ++ vs) → AllByRecursion P vs
   behind [] vs h = h
   behind (u ∷ us) vs h = behind us vs h.1
 

@@ -60,7 +60,7 @@ all_wait (p ∷ ps) (v ∷ vs) h = (h.0.waits, all_wait ps vs h.1)
 where_waits : (P : Stamped → Type 0) (p : Stamped) → waits p ≡ true → Where (not (waits p)) (P p)
 where_waits P p e = subst (λ b. Where (not b) (P p)) (sym e) tt
 
-pending_is : (o : Stamped) → IsCall o → o.reply ≡ None → IsPending o
+pub pending_is : (o : Stamped) → IsCall o → o.reply ≡ None → IsPending o
 pending_is o c e = go o.last refl (subst (λ r. IsSome o.last → IsSome r) e c.ended.0)
   where
     go : (last : Option ℕ) → o.last ≡ last → (IsSome last → IsSome {T = Reply} None) → IsPending o

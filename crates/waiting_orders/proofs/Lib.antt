@@ -25,3 +25,11 @@ pub mod GoingAlone
 pub mod EndsFirst
 pub mod FirstOfAValue
 pub mod Needed
+mod Inserting
+mod Replies
+mod Ordering
+mod Walking
+pub mod EndingWalks
+mod Passing
+pub mod GoingOn
+pub mod Coming

@@ -154,7 +154,7 @@ flipped b [] h = tt
 flipped b (x ∷ xs) h = (ap not h.0, flipped b xs h.1)
 
 -- places that are kept by a test of the operations there
-picked_filter : (ops : List Stamped) (limit : Option ℕ) (places : List ℕ) → picked ops (filter (began_by ops limit) places) ≡ filter (λ p. is_open_at p.first limit) (picked ops places)
+pub picked_filter : (ops : List Stamped) (limit : Option ℕ) (places : List ℕ) → picked ops (filter (began_by ops limit) places) ≡ filter (λ p. is_open_at p.first limit) (picked ops places)
 picked_filter ops limit [] = refl
 picked_filter ops limit (place ∷ places) = go (slice_get ops place) refl (picked_filter ops limit places)
   where
@@ -184,7 +184,7 @@ each_may_go ops limit (place ∷ places) h = go (slice_get ops place) refl h (λ
     go (Some p) e h more = both_true _ _ (ap (goes limit) e ∙ h.0) (more h.1)
 
 -- all places spelled out are of all that is left
-all_spelled : (ops : List Stamped) (left : Left) → picked ops (spelled (length ops) left) ≡ left_of ops left
+pub all_spelled : (ops : List Stamped) (left : Left) → picked ops (spelled (length ops) left) ≡ left_of ops left
 all_spelled ops left = go (nat_le left.from (length ops)) refl
   where
     go : (b : Bool) → nat_le left.from (length ops) ≡ b → picked ops (spelled (length ops) left) ≡ left_of ops left
@@ -209,7 +209,7 @@ all_spelled ops left = go (nat_le left.from (length ops)) refl
         ap (λ l. picked ops (left.kept ++ l)) (gathered_none (λ place. place ∷ []) left.from (length ops) (omega (arith, l)))
         ∙ ap (picked ops) (append-nil left.kept) ∙ sym (append-nil (picked ops left.kept)) ∙ ap (λ l. picked ops left.kept ++ l) (sym (drop_all left.from ops (omega (arith, l))))
 
-nothing_left : (ops : List Stamped) → left_of ops (record { kept = []; from = length ops }) ≡ []
+pub nothing_left : (ops : List Stamped) → left_of ops (record { kept = []; from = length ops }) ≡ []
 nothing_left ops = drop_all (length ops) ops (omega arith)
 
 pub untold_unended : (xs : List Stamped) → AllByRecursion IsCall xs → AllByRecursion IsUntold xs → AllByRecursion (λ o. o.last ≡ None) xs

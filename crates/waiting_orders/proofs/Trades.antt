@@ -35,7 +35,7 @@ ends_never (Some a) None e = tt
 ends_never None (Some b) e = absurd cc
 ends_never (Some a) (Some b) e = absurd cc
 
-unended_untold : (o : Stamped) → IsCall o → o.last ≡ None → o.reply ≡ None
+pub unended_untold : (o : Stamped) → IsCall o → o.last ≡ None → o.reply ≡ None
 unended_untold o c e = go o.reply refl
   where
     go : (reply : Option Reply) → o.reply ≡ reply → reply ≡ None

@@ -6,3 +6,4 @@ pub mod Alone
 pub mod Reached
 pub mod Search
 pub mod Pending
+pub mod Orders

@@ -2,8 +2,11 @@
 use Rattle.std.specs.Prelude.{◌≡◌, ◌<◌, ◌≤◌, ◌+◌, ℕ, ◌⊎◌, List, [], ◌∷◌, ◌++◌}
 use Rattle.std.specs.List.{AllByRecursion}
 use Rattle.waiting_orders.specs.declared.boards.Board.{Board}
+use Rattle.waiting_orders.specs.declared.searching.Found.{Found}
+use Rattle.waiting_orders.specs.declared.searching.Found.TheVariants.{Order, Nothing, Room}
 use Rattle.waiting_orders.specs.declared.searching.Search.{Search}
-use Rattle.waiting_orders.specs.Nodes.{Spot, IsIn, views, Searched}
+use Rattle.waiting_orders.specs.Nodes.{Spot, AreCalls, IsIn, start, state_of, views, Searched}
+use Rattle.waiting_orders.specs.Orders.{Walks, AllCome}
 use Rattle.waiting_orders.specs.Reached.{AreApart, AreTooMany, IsReached, size, sizes}
 
 -- the start is among the states, and each that doesn't wait for a try was tried
@@ -51,3 +54,17 @@ pub record IsFull (room : ℕ) (done ahead : List Spot) (bytes : ℕ) (new : Lis
   pub put : WerePut room done ahead bytes before after now
   pub unknown : IsIn last (done ++ after) → ⊥
   pub full : room ≤ now + size last
+
+-- an order was found, and something is so
+abbrev pub WhereOrder : Found → Type 0 → Type 0
+WhereOrder (Order order) P = P
+WhereOrder Nothing P = Unit {0}
+WhereOrder Room P = Unit {0}
+
+-- a walk leads from the start to an end
+abbrev pub ComesToEnd : Board → Type 0
+ComesToEnd board = AreCalls board → (n : ℕ) × Walks n (state_of board start)
+
+-- to each state that waits for a try a walk leads from the start
+abbrev pub IsComing : Board → Search → Type 0
+IsComing board search = AllCome board (views search.ahead.keys)

@@ -1,10 +1,11 @@
 //! Laws of a search for orders, each the contract of a function that does nothing.
-ghost use Rattle.std.specs.Prelude.{◌≡◌, ◌≤◌, ℕ, suc, true, List};
+ghost use Rattle.std.specs.Prelude.{◌≡◌, ◌≤◌, ℕ, suc, true, List, All};
 ghost use Rattle.std.specs.List.{AllByRecursion};
 ghost use Rattle.history.specs.declared.operations.Stamped.{Stamped};
 ghost use Rattle.history.specs.declared.operations.Taken.{Taken};
 ghost use Rattle.waiting_orders.specs.Reached.{TakesRoom};
-ghost use Rattle.waiting_orders.specs.Waiting.{waits, IsOfQueue, State, IsStart, CanEnd, Same, AreClosed, GoesFirst};
+ghost use Rattle.waiting_orders.specs.Waiting.{waits, IsCall, IsOfQueue, State, IsStart, CanEnd, Same, AreClosed, GoesFirst};
+ghost use Rattle.waiting_orders.specs.Orders.{Walks};
 ghost use Rattle.waiting_orders.specs.Alike.{HasSoonerPush, HasSoonerPop, GoesAlone};
 ghost use Rattle.waiting_orders.specs.Pending.{Pops, CouldGo, IsFirstToEnd, EndsLazily, IsToldInstead, StepOfOther, told_count, push_count};
 
@@ -15,6 +16,16 @@ pub fn an_order_can_be_walked()
     //=   its value is taken, until none is left that was told a reply.
     ensures { (ops : List Stamped) (start : State) → IsStart ops start → IsOfQueue ops
         → (n : ℕ) × CanEnd n start }
+{}
+
+/// Where the operations of a recorded history can be placed to the end, pushes where their values are taken, it is one of a
+/// queue.
+pub fn a_walk_to_an_end_is_an_order()
+    //= judge/order: A recorded history of calls whose operations can be placed one after another, each push where its value
+    //=   is taken, until none is left that was told a reply, is one of a queue, also where operations that were refused
+    //=   for something else than a shut are placed at no number of their own.
+    ensures { (ops : List Stamped) (start : State) → IsStart ops start → All IsCall ops
+        → (n : ℕ) → Walks n start → IsOfQueue ops }
 {}
 
 /// What has the same operations left, a queue that is shut alike, and no later number, can be placed to the end too.

@@ -310,11 +310,7 @@ fn least_last(operations: &[Stamped]) -> Option<u64>
 pub(crate) fn copied(alloc: Global, places: &[usize]) -> Result<Vec<usize>, AllocError>
     ensures { IfOk result (λ copied. copied.items ≡ places.now) }
 {
-    let mut copied = Vec::new(alloc);
-    for place in places {
-        copied.push(*place)?;
-    }
-    Ok(copied)
+    places.to_vec(alloc)
 }
 
 // Some places without the one that stands there.

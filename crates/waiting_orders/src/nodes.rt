@@ -7,7 +7,9 @@ ghost use Rattle.std.proofs.Common.{rules};
 ghost use Rattle.waiting_orders.specs.Lines as lines;
 ghost use Rattle.waiting_orders.specs.Nodes as next;
 ghost use Rattle.waiting_orders.specs.Nodes.{view, views};
+ghost use Rattle.waiting_orders.specs.Orders.{AreBehind};
 ghost use Rattle.waiting_orders.specs.Reached.{Leads, size};
+ghost use Rattle.waiting_orders.specs.Waiting.{IsCall, IsUntold};
 
 use crate::boards::Board;
 use crate::lines::Rest;
@@ -89,11 +91,14 @@ impl Node {
     }
 
     /// Whether nothing that ended is left, but for pushes.
-    #[tactic(auto, using(crate::proofs::Stepping::ends_true))]
+    #[tactic(auto, using(crate::proofs::Coming::untold_where, crate::proofs::Stepping::ends_true))]
     pub(crate) fn is_end(&self, others: &[Stamped]) -> bool
         requires { lines.IsRising others.now }
-        ensures { AllByRecursion (λ o. o.last ≡ None)
+        ensures ended { AllByRecursion (λ o. o.last ≡ None)
             (lines.left_of others.now (view self.now).others) → result ≡ true }
+        ensures untold { result ≡ true
+            → AllByRecursion IsCall (lines.left_of others.now (view self.now).others)
+            → AllByRecursion IsUntold (lines.left_of others.now (view self.now).others) }
     {
         self.others.limit(others).is_none()
     }
@@ -115,6 +120,7 @@ impl Node {
         ensures all { IfOk result (λ new. next.HasSteps board.now (view self.now) (views new.items)) }
         ensures each { IfOk result (λ new. AllByRecursion (Leads board.now.others.operations.items
             board.now.pushes.operations.items (view self.now)) (views new.items)) }
+        ensures behind { IfOk result (λ new. AreBehind board.now (view self.now) (views new.items)) }
     {
         let new = self.steps_over(alloc, &board.others.operations, &board.pushes.operations)?;
         Ok(new)

@@ -1,10 +1,12 @@
 //! The search: states are tried, the last ones made first, until an end is found, none is left, or they take too much.
-ghost use Rattle.std.specs.Prelude.{◌≡◌, ◌≤◌, ◌+◌, ◌++◌, ◌∷◌, [], true, false, None, Some, length, IfOk, OnOk};
+ghost use Rattle.std.specs.Prelude.{◌≡◌, ◌≤◌, ◌+◌, ◌++◌, ◌∷◌, [], true, false, None, Some, length, IfOk, IfSome, OnOk, All};
 ghost use Rattle.waiting_orders.specs.declared.searching.Found.TheVariants.{Nothing, Room};
-ghost use Rattle.waiting_orders.specs.Waiting.{IsOfQueue};
+ghost use Rattle.waiting_orders.specs.Waiting.{IsCall, IsOfQueue};
 ghost use Rattle.waiting_orders.specs.Nodes.{view, views, start, turned, AreRising, IsIn, Searched};
+ghost use Rattle.waiting_orders.specs.Orders.{AllCome};
 ghost use Rattle.waiting_orders.specs.Reached.{TakesRoom, size};
-ghost use Rattle.waiting_orders.specs.Search.{IsSearched, IsCounted, IsCountedSearch, IsPut, IsFull, WerePut, HasNoRoom};
+ghost use Rattle.waiting_orders.specs.Search.{IsSearched, IsComing, ComesToEnd, WhereOrder};
+ghost use Rattle.waiting_orders.specs.Search.{IsCounted, IsCountedSearch, IsPut, IsFull, WerePut, HasNoRoom};
 
 use crate::boards::Board;
 use crate::nodes::Node;
@@ -38,10 +40,14 @@ struct Search {
 /// states that take fewer bytes than `room`.
 ///
 /// The call takes memory and time for each state. It doesn't wait.
-#[tactic(auto, using(crate::proofs::Counting::counted_ahead, crate::proofs::Trying::seen_ahead))]
+#[tactic(auto, using(crate::proofs::Coming::comes_ahead, crate::proofs::Counting::counted_ahead, crate::proofs::Trying::seen_ahead))]
 pub fn searched(alloc: Global, history: &[Stamped], room: u64) -> Result<Found, AllocError>
     //= judge/nothing: Where a search has no state left to try, the recorded history is not one of a queue.
     ensures none { IfOk result (λ found. found ≡ Nothing → ¬ IsOfQueue history.now) }
+    //= judge/found: Where a search finds an order, the recorded history is one of a queue, if its operations are calls:
+    //=   each ended exactly where it was told a reply, and not before it began.
+    ensures order { IfOk result (λ found. WhereOrder found
+        (All IsCall history.now → IsOfQueue history.now)) }
     //= judge/room: A search ends for want of room only where states that are reached from the start, each listed once,
     //=   take as many bytes as the room or more, of which a state takes 160, and 8 for each operation that it keeps. A step
     //=   leaves out one operation that is no waiting push, and with it a push that is taken or those that a shut leaves
@@ -91,10 +97,14 @@ impl Search {
         requires rising { AreRising board.now }
         requires counted { IsCounted board.now (views self.old.done.keys)
             (views self.old.ahead.keys ++ view node ∷ []) self.old.bytes }
+        requires coming { AllCome board.now (views self.old.ahead.keys ++ view node ∷ []) }
         ensures kept { Searched board.now (views self.old.done.keys)
             (views self.old.ahead.keys ++ view node ∷ [])
             → IfOk result (λ found. found ≡ None → IsSearched board.now self.new) }
         ensures counted { IfOk result (λ found. found ≡ None → IsCountedSearch board.now self.new) }
+        ensures coming { IfOk result (λ found. found ≡ None → IsComing board.now self.new) }
+        ensures order { IfOk result (λ found. IfSome found (λ found.
+            WhereOrder found (ComesToEnd board.now))) }
         ensures told { IfOk result (λ found. found ≡ Some Room → HasNoRoom board.now room) }
         ensures left { IfOk result (λ found. ¬ (found ≡ Some Nothing)) }
         ensures room { IfOk result (λ found. found ≡ None → self.old.bytes ≤ room

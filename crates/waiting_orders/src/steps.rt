@@ -4,6 +4,7 @@ ghost use Rattle.std.specs.List.{AllByRecursion};
 ghost use Rattle.waiting_orders.specs.Lines as lines;
 ghost use Rattle.waiting_orders.specs.Nodes as next;
 ghost use Rattle.waiting_orders.specs.Nodes.{view, views};
+ghost use Rattle.waiting_orders.specs.Orders.{AreBehindOver};
 ghost use Rattle.waiting_orders.specs.Reached.{Leads};
 
 use crate::alone::first_empty;
@@ -40,6 +41,8 @@ impl Node {
             next.HasStepsOver others.now pushes.now (view self.now) (views new.items)) }
         ensures each { IfOk result (λ new.
             AllByRecursion (Leads others.now pushes.now (view self.now)) (views new.items)) }
+        ensures behind { IfOk result (λ new.
+            AreBehindOver others.now pushes.now (view self.now) (views new.items)) }
     {
         let limit = self.others.limit(others);
         let push_limit = self.pushes.limit(pushes);

@@ -2,7 +2,7 @@
 //!
 //! [`channel::bounded`] makes a channel, as crossbeam-channel does: `send` and `recv` sleep while it is full, or empty, and its ends
 //! disconnect. A [`Queue`] passes values of any type that may go to another thread, which any thread pushes and pops, and is closed.
-//! These take memory as they are made, for the box of a value, and to sleep. In [`seats`] a thread has a seat of its own, by which it
+//! These take memory as they are made, for a value above 24 bytes, and to sleep. In [`seats`] a thread has a seat of its own, by which it
 //! passes numbers.
 //!
 //! ```
@@ -14,26 +14,27 @@
 
 use std::fmt;
 
-mod boxes;
 pub mod channel;
 mod queues;
 mod raw;
 pub mod seats;
 mod step;
+mod values;
 mod waits;
 
 pub use queues::{Missed, PushError, Queue};
 
 /// Which queue.
 #[derive(Clone, Copy, Debug, PartialEq, Eq)]
+#[repr(u32)]
 pub enum Kind {
     /// A thread that stops keeps no other from going on; in a [`Queue`] or a channel that holds while a seat is free.
-    NonBlocking,
+    NonBlocking = 0,
     /// A thread that stops within a call may keep others from pushing, or from popping.
-    TwoLock,
+    TwoLock = 1,
     /// The fastest; a thread that stops within a push may keep others from popping. It has 32,767 seats at most, and
     /// room for just as many values as it is made for.
-    Ring,
+    Ring = 2,
 }
 
 /// A word whose count is at its limit.
@@ -69,18 +70,17 @@ pub enum Refusal {
 }
 
 // Each refusal, the code that include/msq_codes.h has for it, and what it says.
-#[rustfmt::skip]
 const REFUSALS: [(Refusal, u32, &str); 10] = [
-    (Refusal::NoNode, raw::NO_NODE, "all nodes were in use"),
-    (Refusal::WornOut(WornWord::Free), raw::WORN_FREE, "the count of the free list is at its limit"),
-    (Refusal::WornOut(WornWord::Next), raw::WORN_NEXT, "the count of a node is at its limit"),
-    (Refusal::WornOut(WornWord::Tail), raw::WORN_TAIL, "the count of the tail is at its limit"),
-    (Refusal::WornOut(WornWord::Head), raw::WORN_HEAD, "the count of the head is at its limit"),
-    (Refusal::Busy, raw::BUSY, "others were in the way"),
-    (Refusal::Memory, raw::MEMORY, "no memory"),
-    (Refusal::BadSize, raw::BAD_SIZE, "a number is out of its range"),
-    (Refusal::ZeroCapacity, raw::BAD_SIZE, "there is no queue without room: no send waits for its receive"),
-    (Refusal::Closed, raw::CLOSED, "the queue is shut"),
+    (Refusal::NoNode, 1, "all nodes were in use"),
+    (Refusal::WornOut(WornWord::Free), 2, "the count of the free list is at its limit"),
+    (Refusal::WornOut(WornWord::Next), 37, "the count of a node is at its limit"),
+    (Refusal::WornOut(WornWord::Tail), 38, "the count of the tail is at its limit"),
+    (Refusal::WornOut(WornWord::Head), 39, "the count of the head is at its limit"),
+    (Refusal::Busy, 3, "others were in the way"),
+    (Refusal::Memory, 4, "no memory"),
+    (Refusal::BadSize, 5, "a number is out of its range"),
+    (Refusal::ZeroCapacity, 5, "there is no queue without room: no send waits for its receive"),
+    (Refusal::Closed, 16, "the queue is shut"),
 ];
 
 impl fmt::Display for Refusal {

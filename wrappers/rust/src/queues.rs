@@ -1,15 +1,15 @@
 //! A queue of values of any type, which any thread calls.
-use crate::boxes::{looks, Boxes};
 use crate::raw::MOST_COUNT;
-use crate::step::{calls_for, Answer, Task};
+use crate::step::{calls_for, Task};
+use crate::values::{looks, Values};
 use crate::waits::Until;
 use crate::{Kind, Refusal};
 use std::fmt;
 use std::time::Duration;
 
 /// A queue of values of any type that may go to another thread, with room for exactly as many as are asked for, shared by reference or
-/// in an `Arc`. Any thread pushes, pops and closes it. Each value is in a box; those of one thread come in its order, each once, and
-/// what is left is dropped with the queue.
+/// in an `Arc`. Any thread pushes, pops and closes it. Values up to 24 bytes lie in it, and a larger one is in a box; those of one
+/// thread come in its order, each once, and what is left is dropped with the queue.
 ///
 /// ```
 /// let queue = msq::Queue::new(8).unwrap();
@@ -39,19 +39,8 @@ use std::time::Duration;
 /// queue.close();
 /// assert_eq!(queue.pop(), Err(Missed::Closed));
 /// ```
-///
-/// Threads share it where its values may go to another thread, and not else:
-///
-/// ```
-/// fn is_shared<T: Send + Sync>() {}
-/// is_shared::<msq::Queue<std::cell::Cell<u8>>>();
-/// ```
-/// ```compile_fail
-/// fn is_shared<T: Sync>() {}
-/// is_shared::<msq::Queue<std::rc::Rc<u8>>>();
-/// ```
 pub struct Queue<T> {
-    pub(crate) boxes: Boxes<T>,
+    pub(crate) values: Values<T>,
 }
 
 /// Why a push or a pop wasn't done.
@@ -109,87 +98,53 @@ impl<T> fmt::Display for PushError<T> {
 
 impl<T> std::error::Error for PushError<T> {}
 
-// Why a call wasn't done: one with a time is late, and a try found nothing so.
-fn missed(answer: Answer, until: Until, nothing: Missed) -> Missed {
-    match answer {
-        Answer::Worn => Missed::Worn,
-        Answer::Busy if until.is_now() => Missed::Busy,
-        Answer::Nothing if until.is_now() => nothing,
-        Answer::Busy | Answer::Nothing => Missed::TimedOut,
-        Answer::Closed | Answer::Done => Missed::Closed,
-    }
-}
-
 impl<T: Send> Queue<T> {
-    /// A ring with room for exactly so many values, 1 or more; two calls more than that, 16 at most, may be under way at one
-    /// moment beside those that sleep. Refused `ZeroCapacity`, `BadSize` or `Memory`.
-    ///
-    /// ```
-    /// assert_eq!(msq::Queue::<String>::new(0).err(), Some(msq::Refusal::ZeroCapacity));
-    /// ```
+    /// A ring with room for exactly so many values, 1 or more, and calls as of [`bounded`](crate::channel::bounded). Refused
+    /// `ZeroCapacity`, `BadSize` or `Memory`.
     pub fn new(capacity: usize) -> Result<Queue<T>, Refusal> {
         Queue::of(Kind::Ring, capacity, calls_for(capacity))
     }
 
-    /// A queue of this kind, of which so many calls, 1 to 32,767, may be under way at one moment beside those that sleep: further ones
-    /// wait for these, and a try is told `Busy`.
-    ///
-    /// ```
-    /// let queue = msq::Queue::of(msq::Kind::NonBlocking, 8, 4).unwrap();
-    /// queue.push("text").unwrap();
-    /// assert_eq!(queue.pop(), Ok("text"));
-    /// ```
+    /// A queue of this kind, with so many calls, 1 to 32,767, as of [`bounded_of`](crate::channel::bounded_of).
     pub fn of(kind: Kind, capacity: usize, calls: u16) -> Result<Queue<T>, Refusal> {
-        Ok(Queue { boxes: Boxes::new(kind, capacity, calls, MOST_COUNT)? })
+        Ok(Queue { values: Values::new(kind, capacity, calls, MOST_COUNT)? })
     }
 }
 
 impl<T> Queue<T> {
-    fn put(&self, value: T, until: Until) -> Result<(), PushError<T>> {
-        self.boxes.push(value, until).map_err(|(answer, value)| {
-            let why = missed(answer, until, Missed::Full);
-            PushError { why, value }
-        })
-    }
-
-    fn get(&self, until: Until) -> Result<T, Missed> {
-        let got = self.boxes.pop(until);
-        got.map_err(|answer| missed(answer, until, Missed::Empty))
-    }
-
     /// Pushes a value, and sleeps while the queue is full. `Closed` or `Worn`.
     pub fn push(&self, value: T) -> Result<(), PushError<T>> {
-        self.put(value, Until::Ever)
+        self.values.push(value, Until::Ever)
     }
 
     /// Pushes a value, and waits for nothing. `Full`, `Busy`, `Closed` or `Worn`.
     pub fn try_push(&self, value: T) -> Result<(), PushError<T>> {
-        self.put(value, Until::Now)
+        self.values.push(value, Until::Now)
     }
 
     /// Pushes a value, and sleeps while the queue is full, for this time at most. `TimedOut`, `Closed` or `Worn`.
     pub fn push_timeout(&self, value: T, time: Duration) -> Result<(), PushError<T>> {
-        self.put(value, Until::after(time))
+        self.values.push(value, Until::after(time))
     }
 
     /// Pops the value at the front, and sleeps while the queue is empty. `Closed` or `Worn`.
     pub fn pop(&self) -> Result<T, Missed> {
-        self.get(Until::Ever)
+        self.values.pop(Until::Ever)
     }
 
     /// Pops the value at the front, and waits for nothing. `Empty`, `Busy`, `Closed` or `Worn`.
     pub fn try_pop(&self) -> Result<T, Missed> {
-        self.get(Until::Now)
+        self.values.pop(Until::Now)
     }
 
     /// Pops the value at the front, and sleeps while the queue is empty, for this time at most. `TimedOut`, `Closed` or `Worn`.
     pub fn pop_timeout(&self, time: Duration) -> Result<T, Missed> {
-        self.get(Until::after(time))
+        self.values.pop(Until::after(time))
     }
 
     /// Closes the queue: no push comes after it, and what is in it stays to be popped. All that sleep are told.
     pub fn close(&self) {
-        self.boxes.end(Task::Shut);
+        self.values.end(Task::Shut);
     }
 
     /// The values that come, which sleeps while there is none, until the queue is closed and empty, or worn, as `pop` then tells.
@@ -199,11 +154,11 @@ impl<T> Queue<T> {
 
     /// The values that are there, until the queue is found empty; it tries again while others are in the way.
     pub fn try_iter(&self) -> impl Iterator<Item = T> + '_ {
-        std::iter::from_fn(|| self.boxes.pop_now().ok())
+        std::iter::from_fn(|| self.values.pop_now().ok())
     }
 }
 
-looks!(Queue, "queue", boxes);
+looks!(Queue, "queue", values);
 
 impl<T> fmt::Debug for Queue<T> {
     fn fmt(&self, f: &mut fmt::Formatter<'_>) -> fmt::Result {

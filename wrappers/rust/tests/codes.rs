@@ -1,8 +1,8 @@
 //! What each call of a queue of values, and of a channel, answers in each case that it has an answer for, and what becomes of values.
 use msq::channel::{
-    bounded, bounded_of, try_bounded, RecvError, RecvTimeoutError, SendTimeoutError, TryRecvError, TrySendError,
+    bounded, bounded_of, try_bounded, RecvError, RecvTimeoutError, SendError, SendTimeoutError, TryRecvError,
+    TrySendError,
 };
-use msq::seats::{self, Body};
 use msq::{Kind, Missed, Queue, Refusal};
 use std::sync::atomic::AtomicIsize;
 use std::sync::atomic::Ordering::SeqCst;
@@ -45,49 +45,13 @@ fn no_queue_has_such_sizes() {
         );
     }
     assert!(matches!(try_bounded::<u8>(0), Err(Refusal::ZeroCapacity)));
+    assert_eq!(Queue::<String>::new(0).err(), Some(Refusal::ZeroCapacity));
 }
 
 #[test]
 #[should_panic(expected = "a channel for 0 values: there is no queue without room")]
 fn a_channel_without_room_panics() {
     bounded::<u8>(0);
-}
-
-#[test]
-fn many_pass_at_one_call() {
-    for kind in KINDS {
-        let (mut givers, mut takers) = seats::queue(kind, 16, 1, 1).unwrap();
-        let (giver, taker) = (&mut givers[0], &mut takers[0]);
-        let bodies: Vec<Body> = (0..100).map(Body::from).collect();
-        assert_eq!(giver.try_push_all(&[], 8), (0, Ok(())));
-        assert_eq!(giver.try_push_all(&bodies, 0), (0, Err(Refusal::BadSize)), "no turns");
-        assert_eq!(taker.try_pop_up_to(4, 8), (vec![], Ok(())), "empty");
-        let (held, told) = giver.try_push_all(&bodies, 8);
-        assert!((15..48).contains(&held) && told == Err(Refusal::NoNode));
-        let (first, told) = taker.try_pop_up_to(4, 8);
-        assert_eq!((first.len(), told), (4, Ok(())));
-        giver.try_shut(8).unwrap();
-        assert_eq!(giver.try_push_all(&bodies, 8), (0, Err(Refusal::Closed)), "shut");
-        let (rest, told) = taker.try_pop_up_to(100, 8);
-        assert_eq!(told, Err(Refusal::Closed));
-        let came = first.iter().chain(&rest).map(|value| value.body);
-        assert!(came.eq(bodies[..held].iter().copied()), "in their order");
-    }
-}
-
-#[test]
-fn more_pass_than_go_at_one_step() {
-    for kind in KINDS {
-        let (mut givers, mut takers) = seats::queue(kind, 100, 1, 1).unwrap();
-        let bodies: Vec<Body> = (0..90).map(Body::from).collect();
-        assert_eq!(givers[0].try_push_all(&bodies, 8), (90, Ok(())));
-        let (first, told) = takers[0].try_pop_up_to(50, 8);
-        assert_eq!((first.len(), told), (50, Ok(())));
-        let (rest, told) = takers[0].try_pop_up_to(50, 8);
-        assert_eq!((rest.len(), told), (40, Ok(())), "empty behind them");
-        let came = first.iter().chain(&rest).map(|value| value.body);
-        assert!(came.eq(bodies), "in their order");
-    }
 }
 
 #[test]
@@ -197,6 +161,30 @@ fn with_the_last_receiver_sends_end() {
 }
 
 #[test]
+fn what_is_in_a_channel_goes_with_its_receiver() {
+    for kind in KINDS {
+        let (asks, asked) = bounded_of(kind, 8, 4).unwrap();
+        let (answers, answered) = bounded::<u32>(1);
+        asks.send(answers).unwrap();
+        drop(asked);
+        assert!(answered.recv().unwrap_err().is_disconnected());
+    }
+}
+
+#[test]
+fn errors_give_values_back() {
+    assert_eq!((SendError::Worn(1).into_inner(), SendError::Disconnected(2).into_inner()), (1, 2));
+    let tried = [TrySendError::Full(1), TrySendError::Busy(2), TrySendError::Worn(3), TrySendError::Disconnected(4)];
+    assert_eq!(tried.map(TrySendError::into_inner), [1, 2, 3, 4]);
+    let late = [SendTimeoutError::Timeout(1), SendTimeoutError::Worn(2), SendTimeoutError::Disconnected(3)];
+    assert_eq!(late.map(SendTimeoutError::into_inner), [1, 2, 3]);
+    assert!(SendError::Worn(1).is_worn() && !SendError::Worn(1).is_disconnected());
+    assert!(
+        TrySendError::Full(1).is_full() && TryRecvError::Empty.is_empty() && RecvTimeoutError::Timeout.is_timeout()
+    );
+}
+
+#[test]
 fn a_sleeper_is_woken_by_the_last_sender() {
     let (sender, receiver) = bounded::<u8>(1);
     thread::scope(|scope| {
@@ -242,6 +230,56 @@ fn what_is_left_is_dropped() {
         assert_eq!(alive.load(SeqCst), 7);
         drop(queue);
         assert_eq!(alive.load(SeqCst), 0);
+    }
+}
+
+#[test]
+fn threads_come_and_go() {
+    const TIMES: usize = 100;
+    for (kind, calls) in KINDS.into_iter().flat_map(|kind| [1, 10, 100].map(|calls| (kind, calls))) {
+        let queue = Queue::of(kind, 400, calls).unwrap();
+        // (each pushes its own values, and pops as many, of any threads)
+        let run = |number: usize| {
+            (0..TIMES).filter(|time| queue.push(Box::new((number, *time))).is_ok() && queue.pop().is_ok()).count()
+        };
+        let done: usize = thread::scope(|scope| {
+            let staying: Vec<_> = (0..100).map(|number| scope.spawn(move || run(number))).collect();
+            let went: usize = (100..200).map(|number| scope.spawn(move || run(number)).join().unwrap()).sum();
+            went + staying.into_iter().map(|it| it.join().unwrap()).sum::<usize>()
+        });
+        assert_eq!((done, queue.len()), (200 * TIMES, 0), "{kind:?}, {calls}");
+    }
+}
+
+/// Calls a queue as its thread ends, where what the thread had of the crate may be gone.
+struct PushesAsItEnds(Arc<Queue<u64>>);
+
+impl Drop for PushesAsItEnds {
+    fn drop(&mut self) {
+        self.0.push(8).unwrap();
+    }
+}
+
+thread_local! {
+    static FIRST: std::cell::OnceCell<PushesAsItEnds> = const { std::cell::OnceCell::new() };
+    static LAST: std::cell::OnceCell<PushesAsItEnds> = const { std::cell::OnceCell::new() };
+}
+
+#[test]
+fn a_thread_that_is_ending_still_calls() {
+    for kind in KINDS {
+        let queue = Arc::new(Queue::of(kind, 200, 100).unwrap());
+        let ending = || PushesAsItEnds(Arc::clone(&queue));
+        thread::scope(|scope| {
+            let thread = scope.spawn(|| {
+                FIRST.with(|it| assert!(it.set(ending()).is_ok()));
+                queue.push(7).unwrap();
+                LAST.with(|it| assert!(it.set(ending()).is_ok()));
+            });
+            // (a scope doesn't wait for what is dropped as a thread ends)
+            thread.join().unwrap();
+        });
+        assert_eq!([queue.pop(), queue.pop(), queue.pop()], [Ok(7), Ok(8), Ok(8)], "{kind:?}");
     }
 }
 

@@ -70,6 +70,17 @@ fn futures_and_threads_meet() {
 }
 
 #[test]
+fn a_receive_is_ready_once_something_was_sent() {
+    let (sender, receiver) = bounded(1);
+    let waker = waker();
+    let context = &mut Context::from_waker(&waker);
+    let mut comes = pin!(receiver.recv_async());
+    assert!(comes.as_mut().poll(context).is_pending());
+    assert_eq!(pin!(sender.send_async(1)).poll(context), Poll::Ready(Ok(())));
+    assert_eq!(comes.as_mut().poll(context), Poll::Ready(Ok(1)));
+}
+
+#[test]
 fn a_future_that_is_dropped_hands_on() {
     for kind in KINDS {
         for _ in 0..50 {

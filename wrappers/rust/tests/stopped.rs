@@ -1,5 +1,5 @@
 //! What calls answer where others are in the way: another thread pushes and pops, and a signal stops it within a call.
-use msq::seats::{queue, Body, Emptiness};
+use msq::seats::queue;
 use msq::{Kind, Missed, Queue, Refusal};
 use std::ffi::{c_int, c_ulong};
 use std::sync::atomic::Ordering::SeqCst;
@@ -70,13 +70,12 @@ fn locks_are_held() {
     let (mut giver, mut taker) = (givers.remove(1), takers.remove(1));
     let (sender, receiver) = (&mut givers[0], &mut takers[0]);
     let mut act = move || {
-        let _ = giver.try_push(Body::from(7), TURNS);
+        let _ = giver.try_push(7, TURNS);
         let _ = taker.try_pop(TURNS);
     };
     stop_within(&mut act, || {
-        let told = sender.try_push(Body::from(7), TURNS);
+        let told = sender.try_push(7, TURNS);
         if told == busy {
-            assert_eq!(sender.try_push_all(&[Body::from(7)], TURNS), (0, busy));
             assert_eq!(sender.try_shut(TURNS), busy);
         } else {
             // (So that the queue isn't full at last, where a push lacks a node before it looks at the lock.)
@@ -84,13 +83,7 @@ fn locks_are_held() {
         }
         told == busy
     });
-    stop_within(act, || {
-        let told = receiver.try_pop(TURNS);
-        if told == Err(Refusal::Busy) {
-            assert_eq!(receiver.try_pop_up_to(1, TURNS), (vec![], busy));
-        }
-        told == Err(Refusal::Busy)
-    });
+    stop_within(act, || receiver.try_pop(TURNS) == Err(Refusal::Busy));
 }
 
 /// The same of a queue of values: a try is busy, and a call with a time is late.
@@ -124,14 +117,14 @@ fn a_place_is_claimed() {
     let (mut giver, mut taker) = (givers.remove(1), takers.remove(1));
     let (sender, receiver) = (&mut givers[0], &mut takers[0]);
     let act = move || {
-        let _ = giver.try_push(Body::from(7), TURNS);
+        let _ = giver.try_push(7, TURNS);
         let _ = taker.try_pop(TURNS);
     };
     stop_within(act, || {
         let claimed = receiver.try_pop(TURNS) == Err(Refusal::Busy);
         if claimed {
             assert_eq!(sender.try_shut(TURNS), Ok(()));
-            assert_eq!(receiver.emptiness(), Emptiness::Holds);
+            assert_eq!(receiver.try_pop(TURNS), Err(Refusal::Busy), "not empty");
         }
         claimed
     });

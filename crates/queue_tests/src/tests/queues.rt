@@ -4,6 +4,7 @@ use arena_queue::{Algorithm, ArenaQueueOf};
 use carriers::{Carrier, CloseCarrier, Numbers, RestOf};
 use history::{Close, Refusal, Rest};
 use node_arena::Role;
+use picked::{EitherQueue, EitherSeat};
 use ring_queue::{RingQueue, Role as RingRole};
 use ring_values::RingValues;
 use std::alloc::Global;
@@ -128,5 +129,54 @@ impl<T: Value> Made for RingValues<T> {
     fn leaves(self, alloc: Global, seats: Vec<Self::Seat>) -> Result<Left, Refusal> {
         let (rest, _end) = self.close(alloc, seats)?;
         Ok(left_of(rest))
+    }
+}
+
+// A queue of one of two kinds, with room for its end by its seats.
+fn leaves_of<A, B>(
+    queue: EitherQueue<A, B>,
+    alloc: Global,
+    seats: Vec<EitherSeat<A::Seat, B::Seat>>,
+) -> Result<Left, Refusal>
+where
+    A: CloseCarrier<Item: Numbered> + Drop,
+    B: CloseCarrier<Item = A::Item> + Drop,
+{
+    let room = queue.values_room(alloc, seats.len())?;
+    let (rest, _end) = queue.close_values_with(room, seats);
+    Ok(left_of(rest))
+}
+
+/// Of the first kind.
+impl<T: Value, A, L, const B: u32> Made for EitherQueue<A, QueueOf<T, L, B>>
+where
+    A: Made + CloseCarrier<Item = T>,
+    L: Algorithm<B>,
+{
+    fn made(alloc: Global, room: u32, limit: u64, roles: &[Role]) -> Making<Self, Self::Seat> {
+        let (queue, seats) = A::made(alloc, room, limit, roles)?;
+        Ok((
+            EitherQueue::First(queue),
+            EitherSeat::all_first(alloc, seats)?,
+        ))
+    }
+
+    fn leaves(self, alloc: Global, seats: Vec<Self::Seat>) -> Result<Left, Refusal> {
+        leaves_of(self, alloc, seats)
+    }
+}
+
+/// Of the second, a ring.
+impl<T: Value, A: Made + CloseCarrier<Item = T>> Made for EitherQueue<A, RingValues<T>> {
+    fn made(alloc: Global, room: u32, limit: u64, roles: &[Role]) -> Making<Self, Self::Seat> {
+        let (queue, seats) = RingValues::made(alloc, room, limit, roles)?;
+        Ok((
+            EitherQueue::Second(queue),
+            EitherSeat::all_second(alloc, seats)?,
+        ))
+    }
+
+    fn leaves(self, alloc: Global, seats: Vec<Self::Seat>) -> Result<Left, Refusal> {
+        leaves_of(self, alloc, seats)
     }
 }

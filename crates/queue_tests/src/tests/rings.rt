@@ -8,8 +8,9 @@ use history::Refusal::{self, BadSize, Busy, Closed, NoNode};
 use node_arena::Role;
 use rand::RngExt;
 use rand_pcg::Pcg32;
-use ring_queue::{MOST_SEATS, RingQueue, Role as RingRole, Seat};
+use ring_queue::{MOST_SEATS, MOST_WORDS, RingQueue, Role as RingRole, Seat};
 use ring_values::RingValues;
+use std::process::Abort;
 use std::sync::Wait;
 use std::test::Fail;
 
@@ -194,51 +195,58 @@ fn a_full_ring_of_values_says_so(rt: HostRuntime) -> Result<(), Fail> {
     Ok(())
 }
 
-/// Values that are words in their places come out whole, in order, each of the seat that pushed it, over many laps; a full ring
-/// refuses, an empty one has none, and the end tells those left.
+/// Values of one to three words in their places come out whole, in order, each of the seat that pushed it, over many laps; a full
+/// ring refuses, an empty one has none, and the end tells those left.
 #[test]
 fn words_lie_in_their_places(rt: HostRuntime) -> Result<(), Fail> {
+    carries_words(&rt, 1)?;
+    carries_words(&rt, 2)?;
+    carries_words(&rt, MOST_WORDS)
+}
+
+// The words of a value, so many of them.
+fn words_of(value: u64) -> [u64; 3] {
+    [value, value / 3, u64::MAX - value]
+}
+
+fn carries_words(rt: &(impl AllocGlobal + Abort), width: usize) -> Result<(), Fail> {
     let roles = [RingRole::Both, RingRole::Both];
-    let (queue, mut seats) = RingQueue::<()>::with_words(rt.alloc(), 3, AMPLE, &roles)?;
+    let (queue, mut seats) = RingQueue::<()>::with_words(rt.alloc(), width, 3, AMPLE, &roles)?;
+    let mut came = [0u64; 3];
     for i in 0..ROUNDS {
         for j in 0..3u64 {
-            queue.push_word(&mut seats[(j % 2) as usize], u64::MAX - 3 * i - j, 8)?;
+            let value = words_of(u64::MAX - 3 * i - j);
+            queue.push_words(&mut seats[(j % 2) as usize], &value[..width], 8)?;
         }
-        same(
-            &rt,
-            queue.push_word(&mut seats[0], 7, 8).err(),
-            Some(NoNode),
-            "full",
-        );
+        let refused = queue.push_words(&mut seats[0], &words_of(7)[..width], 8);
+        same(rt, refused.err(), Some(NoNode), "full");
         for j in 0..3u64 {
-            let popped = queue.pop_word(&mut seats[1], 8)?;
-            let told = popped.map(|r| (r.0.from, r.1));
+            let popped = queue.pop_words(&mut seats[1], &mut came[..width], 8)?;
             same(
-                &rt,
-                told,
-                Some((1 + (j % 2) as u16, u64::MAX - 3 * i - j)),
+                rt,
+                popped.map(|taken| taken.from),
+                Some(1 + (j % 2) as u16),
                 i,
             );
+            same(
+                rt,
+                &came[..width] == &words_of(u64::MAX - 3 * i - j)[..width],
+                true,
+                "words",
+            );
         }
-        same(
-            &rt,
-            queue.pop_word(&mut seats[0], 8)?.is_none(),
-            true,
-            "none",
-        );
+        let none = queue.pop_words(&mut seats[0], &mut came[..width], 8)?;
+        same(rt, none.is_none(), true, "none");
     }
-    queue.push_word(&mut seats[1], 5, 8)?;
-    queue.push_word(&mut seats[0], 6, 8)?;
+    queue.push_words(&mut seats[1], &words_of(5)[..width], 8)?;
+    queue.push_words(&mut seats[0], &words_of(6)[..width], 8)?;
     queue.shut_words(&mut seats[0])?;
-    same(
-        &rt,
-        queue.push_word(&mut seats[0], 7, 8).err(),
-        Some(Closed),
-        "shut",
-    );
+    let refused = queue.push_words(&mut seats[0], &words_of(7)[..width], 8);
+    same(rt, refused.err(), Some(Closed), "shut");
     let (numbers, values) = queue.word_rooms(rt.alloc())?;
     let (_, values) = queue.close_words(numbers, values, seats);
-    same(&rt, values.len(), 2, "left");
-    same(&rt, (values[0], values[1]), (5, 6), "left");
+    same(rt, values.len(), 2 * width, "left");
+    same(rt, &values[..width] == &words_of(5)[..width], true, "left");
+    same(rt, &values[width..] == &words_of(6)[..width], true, "left");
     Ok(())
 }

@@ -8,6 +8,7 @@ use carriers::Numbers;
 use history::Refusal::{self, BadSize, Closed, NoNode};
 use node_arena::Role;
 use nonblocking::{MsQueue, MsQueueOf};
+use picked::EitherQueue;
 use ring_queue::RingQueue;
 use ring_values::RingValues;
 use std::process::Abort;
@@ -78,7 +79,9 @@ macro_rules! over_each {
         $story::<MsValueQueue<Row>, _>($rt)?;
         $story::<RingValues<String>, _>($rt)?;
         $story::<RingValues<()>, _>($rt)?;
-        $story::<RingValues<Row>, _>($rt)
+        $story::<RingValues<Row>, _>($rt)?;
+        $story::<EitherQueue<MsValueQueue<String>, TwoLockValueQueue<String>>, _>($rt)?;
+        $story::<EitherQueue<TwoLockValueQueue<Row>, RingValues<Row>>, _>($rt)
     }};
 }
 

@@ -86,11 +86,13 @@ const WORN_FOR_ALL: [(usize, Asks, Came); 1] = [(
     Came::After(Act::WakeAll(Bell::Room), Code::Worn, None),
 )];
 
-fn came(tried: Tried<u64>) -> Came {
+// What a try of this task came to, with this value.
+fn came(tried: Tried, task: Task, value: Option<u64>) -> Came {
+    let phase = tried.call(task).phase;
     match tried {
-        Tried::Told(code, value) => Told(code, value),
-        Tried::Wakes(bell, asked) => Wakes(bell, asked.call.phase, asked.value),
-        Tried::Rest(asked) => Rest(asked.call.phase, asked.value),
+        Tried::Told(code) => Told(code, value),
+        Tried::Wakes(bell) => Wakes(bell, phase, value),
+        Tried::Rest(_) | Tried::AtPlace(_) => Rest(phase, value),
     }
 }
 
@@ -125,8 +127,14 @@ fn go<C: Carrier<Item = u64> + Drop, R: Abort>(
     for (who, asks, wanted) in calls {
         let share = &mut shares[*who];
         let found = match *asks {
-            PushInOne(value) => came(share.try_push(value)),
-            PopInOne => came(share.try_pop()),
+            PushInOne(number) => {
+                let mut value = Some(number);
+                came(share.try_push(&mut value), Task::Push, value)
+            }
+            PopInOne => {
+                let mut value = None;
+                came(share.try_pop(&mut value), Task::Pop, value)
+            }
             Stepped(task, value) => stepped(share, task, value),
         };
         same(rt, found, *wanted, (*who, *asks));

@@ -1,9 +1,10 @@
 //! Why a value wasn't sent, or received.
+use crate::{Missed, PushError};
 use std::fmt;
 
 // An error, of sends with the value: each case, what asks for it, and what it says. (It doesn't ask the value to be `Debug`.)
 macro_rules! error {
-    ($(#[$doc:meta])* $name:ident $(<$value:ident>)? { $($(#[$why:meta])* $case:ident $(($held:ident))?, $is:ident, $says:expr;)* }) => {
+    ($(#[$doc:meta])* $name:ident $(<$value:ident>)? { $($(#[$why:meta])* $case:ident $(($held:ident))?, $is:ident, $says:literal;)* }) => {
         $(#[$doc])*
         #[derive(Clone, Copy, PartialEq, Eq)]
         pub enum $name $(<$value>)? {
@@ -40,9 +41,9 @@ macro_rules! error {
     (@ $held:ident) => { "(..)" };
 }
 
-// An error of sends: its cases beside an end and wear, and the error of a send that waits.
+// Errors of sends: the cases of each beside an end and wear, each with why the push was missed.
 macro_rules! unsent {
-    ($(#[$doc:meta])* $name:ident $(from $waits:ident)? { $($(#[$why:meta])* $case:ident, $is:ident, $says:expr;)* }) => {
+    ($($(#[$doc:meta])* $name:ident { $($(#[$why:meta])* $case:ident by $missed:ident, $is:ident, $says:literal;)* })*) => {$(
         error! {
             $(#[$doc])*
             $name<T> {
@@ -55,12 +56,15 @@ macro_rules! unsent {
         }
 
         impl<T> $name<T> {
+            pub(super) fn of(PushError { why, value }: PushError<T>) -> $name<T> {
+                match why {
+                    $(Missed::$missed => $name::$case(value),)*
+                    Missed::Worn => $name::Worn(value),
+                    _ => $name::Disconnected(value),
+                }
+            }
+
             /// The value.
-            ///
-            /// ```
-            #[doc = concat!("let unsent = msq::channel::", stringify!($name), "::Worn(1);")]
-            /// assert!(unsent.is_worn() && unsent.into_inner() == 1);
-            /// ```
             pub fn into_inner(self) -> T {
                 match self {
                     $($name::$case(value) => value,)*
@@ -68,21 +72,12 @@ macro_rules! unsent {
                 }
             }
         }
-
-        $(impl<T> From<$waits<T>> for $name<T> {
-            fn from(error: $waits<T>) -> $name<T> {
-                match error {
-                    $waits::Disconnected(value) => $name::Disconnected(value),
-                    $waits::Worn(value) => $name::Worn(value),
-                }
-            }
-        })?
-    };
+    )*};
 }
 
-// An error of receives, in the same way.
+// Errors of receives, in the same way.
 macro_rules! unreceived {
-    ($(#[$doc:meta])* $name:ident $(from $waits:ident)? { $($(#[$why:meta])* $case:ident, $is:ident, $says:expr;)* }) => {
+    ($($(#[$doc:meta])* $name:ident { $($(#[$why:meta])* $case:ident by $missed:ident, $is:ident, $says:literal;)* })*) => {$(
         error! {
             $(#[$doc])*
             $name {
@@ -94,59 +89,52 @@ macro_rules! unreceived {
             }
         }
 
-        $(impl From<$waits> for $name {
-            fn from(error: $waits) -> $name {
-                match error {
-                    $waits::Disconnected => $name::Disconnected,
-                    $waits::Worn => $name::Worn,
+        impl $name {
+            pub(super) fn of(why: Missed) -> $name {
+                match why {
+                    $(Missed::$missed => $name::$case,)*
+                    Missed::Worn => $name::Worn,
+                    _ => $name::Disconnected,
                 }
             }
-        })?
-    };
+        }
+    )*};
 }
 
 unsent! {
     /// A value that wasn't sent by [`Sender::send`](super::Sender::send).
     SendError {}
-}
 
-unsent! {
     /// A value that wasn't sent by [`Sender::try_send`](super::Sender::try_send).
-    TrySendError from SendError {
+    TrySendError {
         /// The channel is full.
-        Full, is_full, "sending on a full channel";
+        Full by Full, is_full, "sending on a full channel";
         /// Others were in the way, or as many calls were under way as may be: try again.
-        Busy, is_busy, "others were in the way of sending";
+        Busy by Busy, is_busy, "others were in the way of sending";
     }
-}
 
-unsent! {
     /// A value that wasn't sent by [`Sender::send_timeout`](super::Sender::send_timeout).
-    SendTimeoutError from SendError {
+    SendTimeoutError {
         /// The time was over: the channel was full, or others were in the way.
-        Timeout, is_timeout, "timed out waiting on send operation";
+        Timeout by TimedOut, is_timeout, "timed out waiting on send operation";
     }
 }
 
 unreceived! {
     /// Why nothing was received by [`Receiver::recv`](super::Receiver::recv).
     RecvError {}
-}
 
-unreceived! {
     /// Why nothing was received by [`Receiver::try_recv`](super::Receiver::try_recv).
-    TryRecvError from RecvError {
+    TryRecvError {
         /// The channel is empty.
-        Empty, is_empty, "receiving on an empty channel";
+        Empty by Empty, is_empty, "receiving on an empty channel";
         /// Others were in the way, or as many calls were under way as may be: try again.
-        Busy, is_busy, "others were in the way of receiving";
+        Busy by Busy, is_busy, "others were in the way of receiving";
     }
-}
 
-unreceived! {
     /// Why nothing was received by [`Receiver::recv_timeout`](super::Receiver::recv_timeout).
-    RecvTimeoutError from RecvError {
+    RecvTimeoutError {
         /// The time was over: the channel was empty, or others were in the way.
-        Timeout, is_timeout, "timed out waiting on receive operation";
+        Timeout by TimedOut, is_timeout, "timed out waiting on receive operation";
     }
 }

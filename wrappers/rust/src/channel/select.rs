@@ -55,19 +55,16 @@ impl<'a> Select<'a> {
     }
 
     /// One more case: a send, and what is done with what it answers. Where another case is done the value is dropped.
-    pub fn send<T: 'a>(
-        &mut self,
-        sender: &'a Sender<T>,
-        value: T,
-        handler: impl FnOnce(Result<(), SendError<T>>) + 'a,
-    ) {
+    pub fn send<T: 'a, F>(&mut self, sender: &'a Sender<T>, value: T, handler: F)
+    where
+        F: FnOnce(Result<(), SendError<T>>) + 'a,
+    {
         self.push(sender.send_async(value), handler);
     }
 
     /// Waits until one of the cases is done, and tells which; for good where there is none.
     pub fn ready(self) -> usize {
-        let which = self.done_until(Until::Ever);
-        which.expect("a time that is none isn't over")
+        self.done_until(Until::Ever).expect("a time that is none isn't over")
     }
 
     /// The same, for this time at most; none where no case was done.

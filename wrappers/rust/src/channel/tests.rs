@@ -1,13 +1,16 @@
 //! What the crate alone can bring about, and its refusals.
 use super::*;
+use crate::waits::{thread_number, NUMBERS};
 use crate::{answer, raw, Missed, Queue, REFUSALS};
+use std::sync::{Barrier, Mutex};
+use std::thread;
 
 const SHORT: Duration = Duration::from_millis(1);
 
 #[test]
 fn a_worn_channel_is_told() {
     for kind in [Kind::NonBlocking, Kind::TwoLock, Kind::Ring] {
-        let (sender, receiver) = ends_of(Boxes::new(kind, 2, 1, 1).unwrap());
+        let (sender, receiver) = ends_of(Values::new(kind, 2, 1, 1).unwrap());
         while sender.try_send(7).is_ok() {
             let _ = receiver.try_recv();
         }
@@ -21,7 +24,7 @@ fn a_worn_channel_is_told() {
 #[test]
 fn a_worn_queue_is_told() {
     for kind in [Kind::NonBlocking, Kind::TwoLock, Kind::Ring] {
-        let queue = Queue { boxes: Boxes::new(kind, 2, 1, 1).unwrap() };
+        let queue = Queue { values: Values::new(kind, 2, 1, 1).unwrap() };
         while queue.try_push(7).is_ok() {
             let _ = queue.try_pop();
         }
@@ -40,7 +43,7 @@ fn what_a_worn_channel_keeps_is_dropped_with_it() {
     for kind in [Kind::NonBlocking, Kind::TwoLock, Kind::Ring] {
         for limit in 1..40 {
             let value = Arc::new(());
-            let (sender, receiver) = ends_of(Boxes::new(kind, 8, 1, limit).unwrap());
+            let (sender, receiver) = ends_of(Values::new(kind, 8, 1, limit).unwrap());
             for number in 0..100 {
                 let _ = sender.try_send(Arc::clone(&value));
                 if number > 2 {
@@ -61,9 +64,44 @@ fn a_try_beside_calls_with_all_handles_is_busy() {
         assert_eq!(sender.try_send(7), Err(TrySendError::Busy(7)));
         assert_eq!(receiver.try_recv(), Err(TryRecvError::Busy));
     };
-    sender.shared.boxes.steps().beside_all_calls(busy);
+    sender.shared.values.steps.beside_all_calls(busy);
     assert_eq!(sender.try_send(7), Ok(()));
     assert_eq!(receiver.try_recv(), Ok(7));
+}
+
+#[test]
+fn a_thread_has_a_handle_of_its_own_and_leases_within_a_call() {
+    for (capacity, calls, due) in [(1, 9, 9), (200, 100, 101)] {
+        let queue = Queue::<u8>::of(Kind::NonBlocking, capacity, calls).unwrap();
+        for _ in 0..2 {
+            let busy = || assert_eq!(queue.try_pop(), Err(Missed::Busy));
+            assert_eq!(queue.values.steps.beside_all_calls(busy), due);
+        }
+        assert_eq!(queue.try_pop(), Err(Missed::Empty));
+    }
+    assert!(Queue::<u8>::of(Kind::Ring, 200, i16::MAX as u16).is_ok(), "the most calls");
+}
+
+#[test]
+fn numbers_of_living_threads_are_others() {
+    for _ in 0..3 {
+        let (all_live, numbers) = (Barrier::new(100), Mutex::new(Vec::new()));
+        thread::scope(|scope| {
+            for _ in 0..100 {
+                scope.spawn(|| {
+                    numbers.lock().unwrap().push(thread_number());
+                    assert!(numbers.lock().unwrap().contains(&thread_number()), "it stays");
+                    all_live.wait();
+                });
+            }
+        });
+        let mut numbers = numbers.into_inner().unwrap();
+        numbers.retain(|it| *it < NUMBERS);
+        let count = numbers.len();
+        numbers.sort_unstable();
+        numbers.dedup();
+        assert!(numbers.len() == count && count > NUMBERS / 2, "{numbers:?}");
+    }
 }
 
 // (there is room for one value at least, so that no room is a size out of range for the library)

@@ -1,6 +1,7 @@
 use Rattle.std.proofs.Common.{◌∙◌, List, map, length, subst, sym}
 use Rattle.msq_c.specs.declared.share_handles.MsqShare.{MsqShare}
 use Rattle.msq_c.specs.NewShares.{AreNewShares, share_at}
+use Rattle.msq_c.specs.Shares.{is_full}
 use Rattle.msq_c.proofs.NewShares.{not_filled}
 use Rattle.msq_c.proofs.new_shares.create.Goals as goal
 
@@ -10,4 +11,4 @@ returns-in-Ok-clause-made c =
     (sym (c.hand_over.ensures ∙ c.deref_mut.ensures.value)) c.in-Ok.ensures.made
 
 pub returns-in-Err-clause-refused : goal.returns-in-Err-clause-refused
-returns-in-Err-clause-refused c = not_filled c.args.kind c.args.capacity c.args.limit c.args.slots.now c.in-Err.refusal c.if-not-all_are_empty.ensures c.in-Err.ensures.refused
+returns-in-Err-clause-refused c = not_filled is_full c.args.kind c.args.capacity c.args.limit c.args.slots.now c.in-Err.refusal c.if-not-all_are_empty.ensures c.in-Err.ensures.refused

@@ -1,7 +1,10 @@
-use Rattle.std.proofs.Common.{◌∙◌, ap, subst, ℕ, List, arith}
+use Rattle.std.proofs.Common.{◌∙◌, ap, subst, sym, ℕ, List, arith}
 use Rattle.carriers.specs.Numbers.{fifo_of}
 use Rattle.shared_queue.specs.Stepped.{stepped_queue}
 use Rattle.msq_c.specs.Made.{Asks, IsNew}
+use Rattle.msq_c.specs.NewShares.{IsNewNumbers}
+use Rattle.msq_c.specs.Queues.{Queue}
+use Rattle.msq_c.proofs.Made.{many_new}
 use Rattle.msq_c.proofs.NewShares.{may_share, no_room, no_nodes, no_shares, are_new, as_many}
 use Rattle.msq_c.proofs.new_shares.shares_of.Goals as goal
 
@@ -22,15 +25,15 @@ deal-requires-after_bounds c κs = may_share c.args.kind c.in-Some.nodes c.args.
     c.in_ok-queue.ensures.unused c.in_ok-queue.ensures.seats
 
 pub returns-clause-made : goal.returns-clause-made
-returns-clause-made c = are_new c.args.kind c.args.capacity c.args.limit c.args.count c.in-Some.nodes c.in_ok-roles.roles.items c.new.result c.new-stepped.result
-    c.in_ok-queue.queue c.in_ok-queue.seats.items c.in-Ok.shares.items (omega (arith, c.if-capacity-eq0.false)) c.in-Some.ensures.nodes c.in_ok-roles.ensures.roles
-    (subst (Asks c.args.kind c.in-Some.nodes c.args.limit) c.deref.ensures.value c.if-not-are_asked.ensures)
-    c.new-stepped.ensures.queue c.new.ensures (c.new-stepped.ensures.capacity ∙ c.from.ensures)
-    (subst (λ (rs : List ℕ). IsNew c.args.kind c.in-Some.nodes c.args.limit rs c.in_ok-queue.queue c.in_ok-queue.seats.items) c.deref-2.ensures.value c.in_ok-queue.ensures.new)
-    c.in-Ok.ensures.queue c.in-Ok.ensures.seats
+returns-clause-made c = are_new IsNewNumbers c.args.kind c.args.capacity c.args.limit c.args.count c.in-Some.nodes c.in_ok-roles.roles.items c.in_ok-roles.ensures.roles
+    c.in_ok-queue.seats.items c.in-Ok.shares.items c.in-Ok.ensures.seats c.new.result c.new-stepped.result (omega (arith, c.if-capacity-eq0.false)) c.in-Some.ensures.nodes
+    (subst (Asks c.args.kind c.in-Some.nodes c.args.limit) c.deref.ensures.value c.if-not-are_asked.ensures) c.new-stepped.ensures.queue (c.new-stepped.ensures.capacity ∙ c.from.ensures)
+    (subst (λ (q : Queue). IsNew c.args.kind c.in-Some.nodes c.args.limit c.in_ok-roles.roles.items q c.in_ok-queue.seats.items) (sym c.new.ensures)
+    (subst (λ (rs : List ℕ). IsNew c.args.kind c.in-Some.nodes c.args.limit rs c.in_ok-queue.queue c.in_ok-queue.seats.items) c.deref-2.ensures.value c.in_ok-queue.ensures.new))
+    c.in-Ok.ensures.queue
 
 pub returns-clause-len : goal.returns-clause-len
-returns-clause-len c = as_many c.args.kind c.args.capacity c.args.limit c.args.count c.in-Some.nodes c.in_ok-roles.roles.items c.in_ok-queue.queue c.in_ok-queue.seats.items
-    c.in-Ok.shares.items c.in_ok-roles.ensures.roles
-    (subst (λ (rs : List ℕ). IsNew c.args.kind c.in-Some.nodes c.args.limit rs c.in_ok-queue.queue c.in_ok-queue.seats.items) c.deref-2.ensures.value c.in_ok-queue.ensures.new)
-    c.in-Ok.ensures.seats
+returns-clause-len c = as_many IsNewNumbers c.args.kind c.args.capacity c.args.limit c.args.count c.in-Some.nodes c.in_ok-roles.roles.items c.in_ok-roles.ensures.roles
+    c.in_ok-queue.seats.items c.in-Ok.shares.items c.in-Ok.ensures.seats
+    (many_new c.args.kind c.in-Some.nodes c.args.limit c.in_ok-roles.roles.items c.in_ok-queue.queue c.in_ok-queue.seats.items
+    (subst (λ (rs : List ℕ). IsNew c.args.kind c.in-Some.nodes c.args.limit rs c.in_ok-queue.queue c.in_ok-queue.seats.items) c.deref-2.ensures.value c.in_ok-queue.ensures.new))

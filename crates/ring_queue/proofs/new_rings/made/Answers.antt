@@ -12,9 +12,10 @@ returns-clause-ok g c =
     let copied = c.in-Ok.roles.items in
     let b = c.args.carries in
     let p = c.args.placed in
-    let asked : record { slots = slots; most = c.from.result; limit = c.args.limit; roles = copied; carries = b; placed = p } ≡
-    record { slots = slots; most = c.args.most; limit = c.args.limit; roles = copied; carries = b; placed = p } =
-    λ i. record { slots = slots; most = c.from.ensures i; limit = c.args.limit; roles = copied; carries = b; placed = p } in
-    made b p c.args.most c.args.limit slots c.args.roles.now copied q seats (c.in-Ok.ensures.items_if_clones_equal (λ x y e. e))
+    let k = c.args.width in
+    let asked : record { slots = slots; most = c.from.result; limit = c.args.limit; roles = copied; carries = b; placed = p; width = k } ≡
+    record { slots = slots; most = c.args.most; limit = c.args.limit; roles = copied; carries = b; placed = p; width = k } =
+    λ i. record { slots = slots; most = c.from.ensures i; limit = c.args.limit; roles = copied; carries = b; placed = p; width = k } in
+    made b p k c.args.most c.args.limit slots c.args.roles.now copied q seats (c.in-Ok.ensures.items_if_clones_equal (λ x y e. e))
     (subst (λ (m : ℕ). IsLeastPower m slots) c.room_for.ensures.value c.power_from-slots.ensures)
     (c.in-Ok-built.ensures.plan ∙ asked) c.in-Ok-built.ensures.count (subst (λ (z : Layout). AreFresh z q.table.shared.table_id seats) asked c.in-Ok-built.ensures.seats)

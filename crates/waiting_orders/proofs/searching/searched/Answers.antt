@@ -1,5 +1,8 @@
 -- At first nothing was tried and the start is ahead; at the end nothing is ahead.
-use Rattle.std.proofs.Common.{◌≡◌, ◌≤◌, [], arith, tests}
+use Rattle.std.proofs.Common.{◌≡◌, ◌≤◌, [], IfSome, All, subst, arith, tests}
+use Rattle.waiting_orders.specs.Search.{ComesToEnd, WhereOrder}
+use Rattle.waiting_orders.specs.Waiting.{IsCall, IsOfQueue}
+use Rattle.waiting_orders.proofs.Coming.{shows_queue, start_comes, where_order}
 use Rattle.waiting_orders.proofs.Counting.{counted_first, start_alone, takes_room}
 use Rattle.waiting_orders.proofs.Trying.{begins_so, none_ahead, none_left}
 use Rattle.waiting_orders.proofs.searching.searched.Goals as goal
@@ -14,9 +17,16 @@ loop-node-init c = (
   begins_so c.in_ok-board.board c.in_ok-search.search.done.keys c.in_ok-search.search.ahead.keys c.in_ok-search.ensures.0 c.in_ok-search.ensures.1,
   (let less : c.in_ok-search.search.bytes ≤ c.args.room = grind (arith, tests, c.if-room-search.false) in less),
   counted_first c.in_ok-board.board c.in_ok-search.search.done.keys c.in_ok-search.search.ahead.keys c.in_ok-search.search.bytes c.in_ok-search.ensures.0 c.in_ok-search.ensures.1 c.in_ok-search.ensures.2,
+  start_comes c.in_ok-board.board c.in_ok-search.search.ahead.keys c.in_ok-search.ensures.1,
 )
 
 pub returns-clause-none : goal.returns-clause-none
 returns-clause-none c =
     let none : c.loop-node.search.ahead.keys ≡ [] = none_left c.loop-node.search.ahead.keys c.pop.result c.in_default.is c.pop.ensures.found in
     λ e h. none_ahead c.args.history.now c.in_ok-board.board c.loop-node.search.done.keys c.loop-node.search.ahead.keys c.in_ok-board.ensures none c.loop-node.invariant.0 h
+
+pub returns-in-Some-2-clause-order : goal.returns-in-Some-2-clause-order
+returns-in-Some-2-clause-order c =
+    let board = c.in_ok-board.board in
+    where_order c.in-Some-2.found (ComesToEnd board) (All IsCall c.args.history.now → IsOfQueue c.args.history.now) (shows_queue c.args.history.now board c.in_ok-board.ensures)
+    (subst (λ x. IfSome x (λ found. WhereOrder found (ComesToEnd board))) c.in-Some-2.is c.in_ok-found.ensures.order)

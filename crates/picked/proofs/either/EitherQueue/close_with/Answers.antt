@@ -1,3 +1,4 @@
+use Rattle.history.specs.Ends.{Closes}
 use Rattle.picked.specs.Either.{IsEitherSeat, as_first, as_second, either_permits, either_known}
 use Rattle.picked.specs.EitherEnds.{EitherAsks}
 use Rattle.picked.proofs.Within.{seats_within, asked_within, closes_within}
@@ -10,7 +11,7 @@ pub close_with-rest-requires-clause-asked : goal.close_with-rest-requires-clause
 close_with-rest-requires-clause-asked g c = asked_within as_first c.in-First-First.is-0 _ (c.taken_out.ensures as_first (λ x s is. is)) (EitherAsks g.A.Close.asks g.B.Close.asks) (either_known g.A.Fifo.known g.B.Fifo.known) c.requires.asked
 
 pub returns-in-First-First-clause-rest : goal.returns-in-First-First-clause-rest
-returns-in-First-First-clause-rest g c = closes_within as_first c.in-First-First.is-0 _ (c.taken_out.ensures as_first (λ x s is. is)) (either_permits g.A.Fifo.permits g.B.Fifo.permits) (either_known g.A.Fifo.known g.B.Fifo.known) c.close_with-rest.result.0 c.close_with-rest.ensures.rest
+returns-in-First-First-clause-rest g c = closes_within as_first c.in-First-First.is-0 _ (c.taken_out.ensures as_first (λ x s is. is)) (either_permits g.A.Fifo.permits g.B.Fifo.permits) (either_known g.A.Fifo.known g.B.Fifo.known) (λ ps ks. Closes ps ks c.close_with-rest.result.0) c.close_with-rest.ensures.rest
 
 pub close_with-rest-requires-in-Second-Second-clause-seats : goal.close_with-rest-requires-in-Second-Second-clause-seats
 close_with-rest-requires-in-Second-Second-clause-seats g c = seats_within as_second c.in-Second-Second.is-0 _ (c.taken_out-in-Second-Second.ensures as_second (λ x s is. is)) (IsEitherSeat g.A.Fifo.is_seat g.B.Fifo.is_seat) c.requires.seats
@@ -19,4 +20,4 @@ pub close_with-rest-requires-in-Second-Second-clause-asked : goal.close_with-res
 close_with-rest-requires-in-Second-Second-clause-asked g c = asked_within as_second c.in-Second-Second.is-0 _ (c.taken_out-in-Second-Second.ensures as_second (λ x s is. is)) (EitherAsks g.A.Close.asks g.B.Close.asks) (either_known g.A.Fifo.known g.B.Fifo.known) c.requires.asked
 
 pub returns-in-Second-Second-clause-rest : goal.returns-in-Second-Second-clause-rest
-returns-in-Second-Second-clause-rest g c = closes_within as_second c.in-Second-Second.is-0 _ (c.taken_out-in-Second-Second.ensures as_second (λ x s is. is)) (either_permits g.A.Fifo.permits g.B.Fifo.permits) (either_known g.A.Fifo.known g.B.Fifo.known) c.close_with-rest-in-Second-Second.result.0 c.close_with-rest-in-Second-Second.ensures.rest
+returns-in-Second-Second-clause-rest g c = closes_within as_second c.in-Second-Second.is-0 _ (c.taken_out-in-Second-Second.ensures as_second (λ x s is. is)) (either_permits g.A.Fifo.permits g.B.Fifo.permits) (either_known g.A.Fifo.known g.B.Fifo.known) (λ ps ks. Closes ps ks c.close_with-rest-in-Second-Second.result.0) c.close_with-rest-in-Second-Second.ensures.rest

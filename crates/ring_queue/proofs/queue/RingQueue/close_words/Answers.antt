@@ -1,6 +1,7 @@
 use Rattle.std.proofs.Common.{ap, arith}
 use Rattle.ring_queue.specs.Plans.{Layout}
-use Rattle.ring_queue.proofs.Closed.{no_word_slots, words_closed}
+use Rattle.ring_queue.proofs.Lefts.{room_there}
+use Rattle.ring_queue.proofs.Closed.{no_word_slots, words_closed, words_parted}
 use Rattle.ring_queue.proofs.Tokens.{enters, word_tokens, took_none}
 use Rattle.ring_queue.proofs.queue.RingQueue.close_words.Goals as goal
 
@@ -22,13 +23,15 @@ free-requires g c =
 pub words_left-values-requires-clause-words : goal.words_left-values-requires-clause-words
 words_left-values-requires-clause-words g c =
     let same = ap (λ (z : Layout). z.slots) c.plan.view_is in
-    (words_closed c.args.self c.args.seats.items c.requires.seats c.requires.all c.requires.placed _ _ c.gather.new.gatherer.me.0 _ _ same c.gather.ensures.seat c.gather.ensures.said c.close_with-closed.ensures.values.2).there
+    let wide = ap (λ (z : Layout). z.width) c.plan.view_is in
+    words_parted c.args.self c.args.seats.items c.requires.seats c.requires.all c.requires.placed _ _ _ c.gather.new.gatherer.me.0 _ _ same wide c.gather.ensures.seat c.close_with-closed.ensures.values.2
 
 pub words_left-values-requires-clause-room : goal.words_left-values-requires-clause-room
 words_left-values-requires-clause-room g c =
     let same = ap (λ (z : Layout). z.slots) c.plan.view_is in
+    let wide = ap (λ (z : Layout). z.width) c.plan.view_is in
     let few = (words_closed c.args.self c.args.seats.items c.requires.seats c.requires.all c.requires.placed _ _ c.gather.new.gatherer.me.0 _ _ same c.gather.ensures.seat c.gather.ensures.said c.close_with-closed.ensures.values.2).few in
-    omega (arith, few, same, c.requires.values.enough)
+    room_there _ _ _ _ _ _ few same wide c.requires.values.enough
 
 pub rest_of-rest-requires-clause-words : goal.rest_of-rest-requires-clause-words
 rest_of-rest-requires-clause-words g c =
@@ -51,4 +54,4 @@ returns g c =
     let same = ap (λ (z : Layout). z.slots) c.plan.view_is in
     let told = c.rest_of-rest.ensures in
     (words_closed c.args.self c.args.seats.items c.requires.seats c.requires.all c.requires.placed _ _ c.gather.new.gatherer.me.0 _ _ same c.gather.ensures.seat c.gather.ensures.said c.close_with-closed.ensures.values.2).closes
-    c.rest_of-rest.result told.left told.taken told.whole told.shut c.words_left-values.result.items c.words_left-values.ensures
+    c.rest_of-rest.result told.left told.taken told.whole told.shut _ c.words_left-values.result.items (ap (λ (z : Layout). z.width) c.plan.view_is) c.words_left-values.ensures

@@ -4,7 +4,7 @@ use Rattle.ring_queue.specs.Seats.{view}
 use Rattle.ring_queue.proofs.Lines.{reads_head}
 use Rattle.ring_queue.proofs.Calls.{reads}
 use Rattle.ring_queue.proofs.Asks.{asks}
-use Rattle.ring_queue.proofs.Placing.{even_head}
+use Rattle.ring_queue.proofs.Placing.{own_head}
 use Rattle.ring_queue.specs.Rows.{head_line}
 use Rattle.ring_queue.proofs.Runs.{ran_read}
 use Rattle.ring_queue.specs.Paths.{reading}
@@ -17,7 +17,7 @@ load-head-requires g c =
     let q = c.args.self.now in
     let sits = c.requires.ready.sits in
     let words = q.laid.words in
-    asks q.plan q.table.shared.key q.table.shared.table_id c.args.seat.now HeadFound q.laid 16 (λ n. n) sits (omega (arith, words)) even_head
+    asks q.plan q.table.shared.key q.table.shared.table_id c.args.seat.now HeadFound q.laid 16 (λ n. n) sits (omega (arith, words)) (own_head q.plan)
     (reads q.plan 16 (view c.args.seat.now) (HeadFound q.plan) (λ ws seats r is run whole knew. reads_head q.plan ws seats r (view c.args.seat.now) is run whole knew c.requires.ready.rests))
     (λ n v' k. ran_read q.plan (head_line (view c.args.seat.now).stage) 16 n (view c.args.seat.now) v' k.went) c.requires.ready.rests
 

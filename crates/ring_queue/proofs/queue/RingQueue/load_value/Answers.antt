@@ -1,12 +1,31 @@
-use Rattle.std.proofs.Common.{◌%◌, ap, ◌∙◌}
-use Rattle.ring_queue.specs.Placed.{value_word}
-use Rattle.ring_queue.proofs.PlacedAsks.{asks_load}
+use Rattle.std.proofs.Common.{◌+◌, take, ap, sym, ◌∙◌, arith}
+use Rattle.ring_queue.specs.Knowledge.{SeatView}
+use Rattle.ring_queue.specs.PlacedSeats.{hand_of}
+use Rattle.ring_queue.proofs.Moved.{stays_on}
+use Rattle.ring_queue.proofs.PlacedTurns.{has_read, read_all}
 use Rattle.ring_queue.proofs.queue.RingQueue.load_value.Goals as goal
 
-pub load-requires : goal.load-requires
-load-requires g c =
-    let q = c.args.self.now in
-    let has = c.requires.found in
-    let sits = c.requires.ready.sits in
-    asks_load q.plan q.table.shared.key q.table.shared.table_id c.args.seat.now q.laid c.requires.placed has.0 _ sits has.1
-    (c.beside-word.ensures.value ∙ ap (λ h. value_word (h % q.plan.slots)) sits.head) c.beside-word.ensures.within
+pub loop-part-preserved : goal.loop-part-preserved
+loop-part-preserved g c =
+    let before = c.loop-part.invariant in
+    let now = c.load_part.ensures in record {
+      ready = now.seat;
+      slots = stays_on c.args.seat.now c.loop-part.seat c.load_part.new.seat before.slots now.slots;
+      name = record { number = now.name.number ∙ before.name.number; role = now.name.role ∙ before.name.role };
+      head = now.head ∙ before.head;
+      known = now.known ∙ before.known;
+      said = now.said ∙ before.said;
+      found = (before.found.0, ap (λ (v : SeatView). v.stage) now.known ∙ before.found.1);
+      wide = now.wide ∙ before.wide;
+      read = has_read (hand_of c.load_part.new.seat) (take (c.loop-part.part + 1) c.load_part.new.value) now.loaded;
+    }
+
+pub returns-clause-loaded : goal.returns-clause-loaded
+returns-clause-loaded g c =
+    let over = c.loop-part-test.false in
+    let wide = c.loop-part.invariant.wide in
+    let some = c.args.self.now.laid.planned.in_places c.requires.placed in
+    read_all (hand_of c.loop-part.seat) c.loop-part.value c.loop-part.part c.loop-part.invariant.read (omega (arith, over, wide, c.requires.wide)) (omega (arith, wide, some))
+
+pub returns-clause-wide : goal.returns-clause-wide
+returns-clause-wide g c = c.loop-part.invariant.wide ∙ sym c.requires.wide

@@ -3,7 +3,7 @@ use Rattle.ring_queue.specs.Steps.{FrontFound}
 use Rattle.ring_queue.specs.Seats.{view}
 use Rattle.ring_queue.proofs.Calls.{fronts_there}
 use Rattle.ring_queue.proofs.Asks.{asks}
-use Rattle.ring_queue.proofs.Placing.{even_slot}
+use Rattle.ring_queue.proofs.Placing.{own_slot}
 use Rattle.ring_queue.specs.Paths.{P2, reading}
 use Rattle.ring_queue.proofs.Runs.{ran_read_at}
 use Rattle.ring_queue.proofs.Tries.{tried_one}
@@ -17,7 +17,7 @@ load-word-requires g c =
     let words = q.laid.words in
     let slot = c.slot_of-slot.ensures in
     let within = slot.within in
-    asks q.plan q.table.shared.key q.table.shared.table_id s FrontFound q.laid (32 + 2 * c.slot_of-slot.result) (λ n. n) sits (omega (arith, words, within)) (even_slot c.slot_of-slot.result)
+    asks q.plan q.table.shared.key q.table.shared.table_id s FrontFound q.laid (32 + 2 * c.slot_of-slot.result) (λ n. n) sits (omega (arith, words, within)) (own_slot q.plan c.slot_of-slot.result within)
     (fronts_there q.plan (view s) _ c.requires.rests (ap (λ k. 32 + 2 * k) (slot.value ∙ ap (λ h. h % q.plan.slots) sits.head)))
     (λ n v' k. ran_read_at q.plan P2 (32 + 2 * c.slot_of-slot.result) _ n (view s) v' (ap (λ k. 32 + 2 * k) (slot.value ∙ ap (λ h. h % q.plan.slots) sits.head)) k.went) c.requires.rests
 

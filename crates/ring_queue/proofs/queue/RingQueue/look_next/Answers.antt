@@ -3,7 +3,7 @@ use Rattle.ring_queue.specs.Steps.{NextFound}
 use Rattle.ring_queue.specs.Seats.{view}
 use Rattle.ring_queue.proofs.Calls.{nexts_there}
 use Rattle.ring_queue.proofs.Asks.{asks}
-use Rattle.ring_queue.proofs.Placing.{even_slot}
+use Rattle.ring_queue.proofs.Placing.{own_slot}
 use Rattle.ring_queue.specs.Paths.{P5, reading}
 use Rattle.ring_queue.proofs.Runs.{ran_read_at}
 use Rattle.ring_queue.proofs.Tries.{tried_one}
@@ -20,7 +20,7 @@ load-word-requires g c =
     let same = c.requires.1.1.1.0 in
     let counted = c.requires.1.1.1.1.0 in
     let few = c.requires.1.1.1.1.1 in
-    asks q.plan q.table.shared.key q.table.shared.table_id s (λ y. NextFound y g.before) q.laid (32 + 2 * c.slot_of-slot.result) (λ n. n) sits (omega (arith, words, within)) (even_slot c.slot_of-slot.result)
+    asks q.plan q.table.shared.key q.table.shared.table_id s (λ y. NextFound y g.before) q.laid (32 + 2 * c.slot_of-slot.result) (λ n. n) sits (omega (arith, words, within)) (own_slot q.plan c.slot_of-slot.result within)
     (nexts_there q.plan (view s) _ g.before c.requires.1.0.rests c.requires.1.1.0 (omega (arith, few, counted, ap length same))
     (ap (λ k. 32 + 2 * k) (slot.value ∙ ap (λ h. h % q.plan.slots) (λ i. sits.head i + (counted ∙ sym (ap length same)) i))))
     (λ n v' k. ran_read_at q.plan P5 (32 + 2 * c.slot_of-slot.result) _ n (view s) v'

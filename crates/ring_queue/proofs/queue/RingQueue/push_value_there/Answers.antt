@@ -21,7 +21,7 @@ store_value-requires-clause-due g c = (c.claim_for-was.ensures.due c.if-was-tail
 pub fill-requires-clause-stored : goal.fill-requires-clause-stored
 fill-requires-clause-stored g c placed =
     let told = c.claim_for-was.ensures.told.won (c.if-was-tail.true ∙ c.requires.ready.sits.tail) in
-    (c.args.value, _, _, ap (λ (v : SeatView). v.stage) c.store_value.ensures.known ∙ told.0, c.store_value.ensures.stored)
+    (c.args.value.now, _, _, ap (λ (v : SeatView). v.stage) c.store_value.ensures.known ∙ told.0, c.store_value.ensures.stored)
 
 pub fill-requires-clause-claimed : goal.fill-requires-clause-claimed
 fill-requires-clause-claimed g c =

@@ -7,4 +7,4 @@ returns-in-Ok-clause-says g c = push_after c.args.self.now.plan c.args.seat.now 
 
 pub returns-in-Ok-clause-said : goal.returns-in-Ok-clause-said
 returns-in-Ok-clause-said g c =
-    turn_said c.args.seat.now c.find_room.new.seat c.push_value_there.new.seat c.args.value c.push_value_there.result c.in-Ok.ensures.found.sees.number c.in-Ok.ensures.slots c.push_value_there.ensures.said
+    turn_said c.args.seat.now c.find_room.new.seat c.push_value_there.new.seat c.args.value.now c.push_value_there.result c.in-Ok.ensures.found.sees.number c.in-Ok.ensures.slots c.push_value_there.ensures.said

@@ -16,11 +16,11 @@ compare_exchange-was-requires g c =
     let w : ℕ = g.read.0 in
     let sits = c.requires.1.1.0.sits in
     let Raises : ℕ → Type 0 = λ y. Does q.plan 16 (view s) (λ n. either (nat_eq n y) (y + 1) n) (pops (view s).number (w ∷ [])) (FrontsTaken q.plan (w ∷ [])) in
-    asks_take q.plan q.table.shared.key q.table.shared.table_id s q.laid c.requires.1.1.1.0 w g.read.1 (λ n. either (nat_eq n s.head) (s.head + 1) n) sits
+    asks_take q.plan q.table.shared.key q.table.shared.table_id s q.laid c.requires.1.1.1.0 w g.read.1 c.requires.1.1.1.1.1.1.1 (λ n. either (nat_eq n s.head) (s.head + 1) n) sits
     (subst Raises (sym sits.head) (λ ws seats r is run whole knew. takes_words q.plan ws seats r (view s) is run whole knew (w ∷ []) (omega arith) c.requires.1.1.1.1.1.0 (λ value. c.requires.1.1.1.1.0)))
     (subst (λ (y : ℕ). (n : ℕ) (v' : SeatView) → FrontsTaken q.plan (w ∷ []) (view s) n v' → Made q.plan 16 n (either (nat_eq n y) (y + 1) n) (view s) v') (sym sits.head)
     (λ n v' k. ran_take q.plan (w ∷ []) (view s) n v' k))
-    c.requires.1.1.1.1.1.0 c.requires.1.1.1.1.1.1
+    c.requires.1.1.1.1.1.0 c.requires.1.1.1.1.1.1.0
 
 pub returns-clause-took : goal.returns-clause-took
 returns-clause-took g c won =

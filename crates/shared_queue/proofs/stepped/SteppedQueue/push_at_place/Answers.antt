@@ -6,5 +6,4 @@ pub returns-in-Got-clause-comes : goal.returns-in-Got-clause-comes
 returns-in-Got-clause-comes g c = took_then_pushed _ _ _ _ (rw c.in-Got.is at c.give_value.ensures.gives) _ c.ring_for.ensures
 
 pub returns-in_default-clause-comes : goal.returns-in_default-clause-comes
-returns-in_default-clause-comes g c = rw (c.advance-in_default.ensures.call, c.advance.ensures.call, c.start-call.ensures)
-    (took_in_vain _ _ _ _ c.give_value.result c.give_value.ensures.gives c.in_default.not-Got)
+returns-in_default-clause-comes g c = took_in_vain _ _ _ _ c.give_value.result c.give_value.ensures.gives c.in_default.not-Got

@@ -7,6 +7,7 @@ use Rattle.waiting_orders.specs.Nodes.{Spot, steps_to, pending_of, none_pending,
 use Rattle.waiting_orders.specs.Alone.{BeginsLater, IsAloneAt, alone_at}
 use Rattle.waiting_orders.proofs.Firsts.{quiet_steps}
 use Rattle.waiting_orders.proofs.GoingAlone.{alone_steps}
+use Rattle.waiting_orders.proofs.GoingOn.{going, going_alone, going_first}
 use Rattle.waiting_orders.proofs.Leading.{led, led_alone, led_first}
 use Rattle.waiting_orders.proofs.Needed.{needed_steps}
 use Rattle.waiting_orders.proofs.nodes.Node.steps_over.Goals as goal
@@ -87,3 +88,56 @@ returns-clause-each c =
     led c.args.others.now c.args.pushes.now s front c.in_ok-takes.ensures.left ways c.in_ok-ways.ensures.left behind (views c.in_ok-new-in-None-first_alone.new.items)
     (subst (λ b. views c.in_ok-new-in-None-first_alone.new.items ≡ steps_to (length ways) c.args.pushes.now s front ways ++ pending_of s front b ways) c.deref-in-None-first_alone-2.ensures.value
     (subst (λ l. views c.in_ok-new-in-None-first_alone.new.items ≡ steps_to (length l) c.args.pushes.now s front l ++ pending_of s front c.deref-in-None-first_alone-2.result.now l) c.deref-in-None-first_alone-3.ensures.value c.in_ok-new-in-None-first_alone.ensures))
+
+-- ---- and an operation goes, or is set aside
+
+pub returns-in-Some-clause-behind : goal.returns-in-Some-clause-behind
+returns-in-Some-clause-behind c = λ board e f calls.
+    let s : Spot = view c.args.self.now in
+    let front : Front = record { limit = c.limit-limit.result; push_limit = c.limit-push_limit.result; takes = c.in_ok-takes.takes; empty = c.first_empty-empty.result } in
+    let ways = c.in_ok-ways.ways.items in
+    going_first board s front calls
+    (subst (λ ops. IsLimit (left_of ops s.others) c.limit-limit.result) e c.limit-limit.ensures)
+    (subst (λ ops. IsLimit (left_of ops s.pushes) c.limit-push_limit.result) f c.limit-push_limit.ensures)
+    ways
+    (subst (λ ops. AreOut ops s.others (view_picks ways)) e c.in_ok-ways.ensures.each)
+    (subst (λ ops. AreOut ops s.pushes (view_picks c.in_ok-takes.takes.items)) f c.in_ok-takes.ensures.each)
+    c.in-Some.at (views c.in_ok-new-in-Some.new.items)
+    (subst (λ l. is_first_at s front (slice_get l c.in-Some.at) ≡ true) c.deref-2.ensures.value c.in-Some.ensures)
+    (subst (λ l. views c.in_ok-new-in-Some.new.items ≡ quiet_at s (slice_get l c.in-Some.at)) c.deref-in-Some.ensures.value c.in_ok-new-in-Some.ensures)
+
+pub returns-in-Some-first_alone-clause-behind : goal.returns-in-Some-first_alone-clause-behind
+returns-in-Some-first_alone-clause-behind c = λ board e f calls.
+    let s : Spot = view c.args.self.now in
+    let front : Front = record { limit = c.limit-limit.result; push_limit = c.limit-push_limit.result; takes = c.in_ok-takes.takes; empty = c.first_empty-empty.result } in
+    let ways = c.in_ok-ways.ways.items in
+    let takes = c.in_ok-takes.takes.items in
+    going_alone board s front calls
+    (subst (λ ops. IsLimit (left_of ops s.others) c.limit-limit.result) e c.limit-limit.ensures)
+    (subst (λ ops. IsLimit (left_of ops s.pushes) c.limit-push_limit.result) f c.limit-push_limit.ensures)
+    ways
+    (subst (λ ops. AreOut ops s.others (view_picks ways)) e c.in_ok-ways.ensures.each)
+    (subst (λ ops. AreOut ops s.pushes (view_picks takes)) f c.in_ok-takes.ensures.each)
+    c.in-Some-first_alone.alone.way c.in-Some-first_alone.alone.take (views c.in_ok-new-in-Some-first_alone.new.items)
+    (subst (λ ops. IsAloneAt ops board.pushes.operations.items s front (slice_get ways c.in-Some-first_alone.alone.way) (slice_get takes c.in-Some-first_alone.alone.take)) e
+    (subst (λ ops. IsAloneAt c.args.others.now ops s front (slice_get ways c.in-Some-first_alone.alone.way) (slice_get takes c.in-Some-first_alone.alone.take)) f
+    (subst (λ l. IsAloneAt c.args.others.now c.args.pushes.now s front (slice_get l c.in-Some-first_alone.alone.way) (slice_get takes c.in-Some-first_alone.alone.take)) c.deref-in-None.ensures.value c.in-Some-first_alone.ensures)))
+    (subst (λ l. views c.in_ok-new-in-Some-first_alone.new.items ≡ alone_at s (slice_get l c.in-Some-first_alone.alone.way) (slice_get takes c.in-Some-first_alone.alone.take)) c.deref-in-Some-first_alone.ensures.value c.in_ok-new-in-Some-first_alone.ensures)
+
+pub returns-clause-behind : goal.returns-clause-behind
+returns-clause-behind c = λ board e f calls.
+    let s : Spot = view c.args.self.now in
+    let front : Front = record { limit = c.limit-limit.result; push_limit = c.limit-push_limit.result; takes = c.in_ok-takes.takes; empty = c.first_empty-empty.result } in
+    let ways = c.in_ok-ways.ways.items in
+    let behind = c.in_ok-behind-in-None-first_alone.behind.items in
+    let made : views c.in_ok-new-in-None-first_alone.new.items ≡ steps_to (length ways) c.args.pushes.now s front ways ++ pending_of s front behind ways =
+    subst (λ b. views c.in_ok-new-in-None-first_alone.new.items ≡ steps_to (length ways) c.args.pushes.now s front ways ++ pending_of s front b ways) c.deref-in-None-first_alone-2.ensures.value
+    (subst (λ l. views c.in_ok-new-in-None-first_alone.new.items ≡ steps_to (length l) c.args.pushes.now s front l ++ pending_of s front c.deref-in-None-first_alone-2.result.now l) c.deref-in-None-first_alone-3.ensures.value c.in_ok-new-in-None-first_alone.ensures) in
+    going board s front calls
+    (subst (λ ops. IsLimit (left_of ops s.others) c.limit-limit.result) e c.limit-limit.ensures)
+    (subst (λ ops. IsLimit (left_of ops s.pushes) c.limit-push_limit.result) f c.limit-push_limit.ensures)
+    ways
+    (subst (λ ops. AreOut ops s.others (view_picks ways)) e c.in_ok-ways.ensures.each)
+    (subst (λ ops. AreOut ops s.pushes (view_picks c.in_ok-takes.takes.items)) f c.in_ok-takes.ensures.each)
+    behind (views c.in_ok-new-in-None-first_alone.new.items)
+    (made ∙ ap (λ ops. steps_to (length ways) ops s front ways ++ pending_of s front behind ways) f)

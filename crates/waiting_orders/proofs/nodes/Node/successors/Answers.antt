@@ -12,3 +12,6 @@ pub returns-clause-each : goal.returns-clause-each
 returns-clause-each c =
     subst (λ ops. AllByRecursion (Leads ops c.args.board.now.pushes.operations.items (view c.args.self.now)) (views c.in_ok-new.new.items)) c.deref.ensures.value
     (subst (λ ops. AllByRecursion (Leads c.deref.result.now ops (view c.args.self.now)) (views c.in_ok-new.new.items)) c.deref-2.ensures.value c.in_ok-new.ensures.each)
+
+pub returns-clause-behind : goal.returns-clause-behind
+returns-clause-behind c = c.in_ok-new.ensures.behind c.args.board.now c.deref.ensures.value c.deref-2.ensures.value

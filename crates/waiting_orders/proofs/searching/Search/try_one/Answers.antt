@@ -4,6 +4,8 @@ use Rattle.std.specs.List.{AllByRecursion}
 use Rattle.std.proofs.lemmas.List.{length-map}
 use Rattle.waiting_orders.specs.Lines.{left_of, view_left}
 use Rattle.waiting_orders.specs.Nodes.{turned, view, views}
+use Rattle.waiting_orders.specs.Waiting.{IsCall, IsUntold}
+use Rattle.waiting_orders.proofs.Coming.{end_comes, new_come}
 use Rattle.waiting_orders.proofs.Counting.{all_made, counts, fills, full_moved, grown, keeps, not_tried, were_moved, within}
 use Rattle.waiting_orders.proofs.Stepping.{unended}
 use Rattle.waiting_orders.proofs.Trying.{tries}
@@ -22,7 +24,7 @@ returns-then-branch-clause-kept c = λ h e.
     (turned new) (views c.put_ahead.new.self.ahead.keys) c.put_ahead.new.self.bytes (ap (λ d. views d.keys) (sym c.in_ok-put_ahead.ensures.same)) (ap (λ a. views a.keys) c.in_ok-put.ensures.1)
     c.in_ok-put.ensures.2 (c.in_ok-put_ahead.ensures.all c.if-branch.true) in
     tries c.args.board.now done ahead (views c.put_ahead.new.self.ahead.keys) new (views c.put_ahead.new.self.done.keys) (view c.args.node) put
-    (λ calls end. absurd (cc (sym (c.is_end.ensures (subst (λ ops. AllByRecursion (λ o. o.last ≡ None) (left_of ops (view_left c.args.node.others))) (sym c.deref.ensures.value) (unended c.args.board.now (view c.args.node) calls end))) ∙ c.if-is_end.false))) c.in_ok-new.ensures.all
+    (λ calls end. absurd (cc (sym (c.is_end.ensures.ended (subst (λ ops. AllByRecursion (λ o. o.last ≡ None) (left_of ops (view_left c.args.node.others))) (sym c.deref.ensures.value) (unended c.args.board.now (view c.args.node) calls end))) ∙ c.if-is_end.false))) c.in_ok-new.ensures.all
     (keeps c.args.room (views c.put_ahead.new.self.done.keys) ahead c.args.self.now.bytes (turned new) (views c.put_ahead.new.self.ahead.keys) c.put_ahead.new.self.bytes were)
     (all_made c.args.room (views c.put_ahead.new.self.done.keys) ahead c.args.self.now.bytes (turned new) (views c.put_ahead.new.self.ahead.keys) c.put_ahead.new.self.bytes were)
     h
@@ -69,3 +71,19 @@ returns-else-branch-clause-told c = λ e.
     (full_moved c.args.room (views c.put.new.self.done.keys) (views c.put.new.self.ahead.keys) ahead c.put.new.self.bytes c.args.self.now.bytes (turned new) (ap (λ a. views a.keys) c.in_ok-put.ensures.1)
     c.in_ok-put.ensures.2 (c.in_ok-put_ahead.ensures.full c.if-branch.false))
     c.requires.counted
+
+pub returns-then-branch-clause-coming : goal.returns-then-branch-clause-coming
+returns-then-branch-clause-coming c = λ e.
+    let ahead = views c.args.self.now.ahead.keys in
+    let new = views c.in_ok-new.new.items in
+    let were = were_moved c.args.room (views c.put.new.self.done.keys) (views c.put_ahead.new.self.done.keys) (views c.put.new.self.ahead.keys) ahead c.put.new.self.bytes c.args.self.now.bytes
+    (turned new) (views c.put_ahead.new.self.ahead.keys) c.put_ahead.new.self.bytes (ap (λ d. views d.keys) (sym c.in_ok-put_ahead.ensures.same)) (ap (λ a. views a.keys) c.in_ok-put.ensures.1)
+    c.in_ok-put.ensures.2 (c.in_ok-put_ahead.ensures.all c.if-branch.true) in
+    new_come c.args.board.now c.args.room (views c.put_ahead.new.self.done.keys) ahead c.args.self.now.bytes new (views c.put_ahead.new.self.ahead.keys) c.put_ahead.new.self.bytes (view c.args.node)
+    were c.in_ok-new.ensures.behind c.requires.coming
+
+pub returns-then-is_end-clause-order : goal.returns-then-is_end-clause-order
+returns-then-is_end-clause-order c =
+    end_comes c.args.board.now (views c.args.self.now.ahead.keys) (view c.args.node) c.requires.coming
+    (λ calls. subst (λ ops. AllByRecursion IsUntold (left_of ops (view_left c.args.node.others))) c.deref.ensures.value
+    (c.is_end.ensures.untold c.if-is_end.true (subst (λ ops. AllByRecursion IsCall (left_of ops (view_left c.args.node.others))) (sym c.deref.ensures.value) calls)))
