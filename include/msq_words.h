@@ -1,6 +1,6 @@
 /*
- * Queues of words: a value is one word (msq_word_*) or three (msq_words_*), which come out just as they went in, whatever they are,
- * as a pointer of any kind, a key of 64 bits, or the bytes of a small struct. Such a queue is of MSQ_NON_BLOCKING or MSQ_TWO_LOCK.
+ * Queues of three words: they come out just as they went in, whatever they are, as pointers of any kind, keys of 64 bits, or the
+ * bytes of a small struct. Such a queue is of MSQ_NON_BLOCKING or MSQ_TWO_LOCK.
  * Its seats are of a type of their own, which calls of msq.h don't take; what the caller owes, and what each code means, stands
  * there.
  */
@@ -13,9 +13,8 @@
 extern "C" {
 #endif
 
-/* Seats of queues of three words, and of one: all zeros, or what the last call left. */
+/* A seat of such a queue: all zeros, or what the last call left. */
 typedef struct msq_words_seat { msq_seat seat; } msq_words_seat;
-typedef struct msq_word_seat { msq_seat seat; } msq_word_seat;
 
 /* Pushes these words, in so many turns at most, 1 or more. MSQ_OK, MSQ_NO_NODE, MSQ_WORN_FREE, MSQ_BUSY, MSQ_CLOSED,
  * MSQ_BAD_SIZE where there are no turns, MSQ_NO_SEAT or MSQ_NO_ROLE; of MSQ_NON_BLOCKING also MSQ_WORN_NEXT or MSQ_WORN_TAIL.
@@ -35,19 +34,6 @@ MSQ_NODISCARD uint32_t msq_words_close(msq_words_seat *seats, size_t seats_len, 
                                        msq_rest *rest);
 void msq_words_drop(msq_words_seat *seat);
 
-/* Those of one word are as those of three: the `body` of a value is then all 64 bits that its push passed. */
-MSQ_NODISCARD uint32_t msq_word_create(uint32_t kind, uint32_t nodes, uint64_t limit, const uint8_t *roles, size_t roles_len,
-                                       msq_word_seat *seats, size_t seats_len);
-MSQ_NODISCARD uint32_t msq_word_push(msq_word_seat *seat, uint64_t word, uint32_t turns);
-MSQ_NODISCARD uint32_t msq_word_pop(msq_word_seat *seat, uint32_t turns, msq_value *value);
-MSQ_NODISCARD uint32_t msq_word_shut(msq_word_seat *seat, uint32_t turns);
-uint32_t msq_word_meet(msq_word_seat *one, msq_word_seat *other);
-MSQ_NODISCARD uint32_t msq_word_emptiness(msq_word_seat *seat);
-MSQ_NODISCARD uint32_t msq_word_len(msq_word_seat *seat, msq_length *length);
-MSQ_NODISCARD uint32_t msq_word_close(msq_word_seat *seats, size_t seats_len, msq_value *values, size_t values_len,
-                                      msq_rest *rest);
-void msq_word_drop(msq_word_seat *seat);
-
 #ifdef __cplusplus
 }
 #endif
@@ -55,7 +41,6 @@ void msq_word_drop(msq_word_seat *seat);
 MSQ_BEGIN
 
 MSQ_CALLS_OF(words_, words_, msq_words_seat, const msq_words *, msq_item)
-MSQ_CALLS_OF(word_, word_, msq_word_seat, uint64_t, msq_value)
 
 MSQ_END
 
@@ -68,14 +53,5 @@ MSQ_END
 #define msq_words_len(...) msq_checked_words_len(__VA_ARGS__)
 #define msq_words_close(...) msq_checked_words_close(__VA_ARGS__)
 #define msq_words_drop(...) msq_checked_words_drop(__VA_ARGS__)
-#define msq_word_create(...) msq_checked_word_create(__VA_ARGS__)
-#define msq_word_push(...) msq_checked_word_push(__VA_ARGS__)
-#define msq_word_pop(...) msq_checked_word_pop(__VA_ARGS__)
-#define msq_word_shut(...) msq_checked_word_shut(__VA_ARGS__)
-#define msq_word_meet(...) msq_checked_word_meet(__VA_ARGS__)
-#define msq_word_emptiness(...) msq_checked_word_emptiness(__VA_ARGS__)
-#define msq_word_len(...) msq_checked_word_len(__VA_ARGS__)
-#define msq_word_close(...) msq_checked_word_close(__VA_ARGS__)
-#define msq_word_drop(...) msq_checked_word_drop(__VA_ARGS__)
 
 #endif

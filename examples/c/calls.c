@@ -109,7 +109,7 @@ static void a_full_queue_is_told(void) {
 #ifdef MSQ_DEBUG
 /* Each call of a seat while another one uses it. */
 static void another_call_uses_the_seat(uint32_t kind) {
-    msq_seat *const places[FAMILIES] = {&seats[2], &word_seats[2].seat, &single_seats[2].seat};
+    msq_seat *const places[FAMILIES] = {&seats[2], &word_seats[2].seat};
     struct msq_call call;
     opens(kind, 8, MSQ_MOST_COUNT, 3);
     sit(2, 2);

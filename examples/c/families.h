@@ -96,34 +96,10 @@ CALL(words_push, msq_words_push(word_giver, &words, turns))
 CALL(words_pop, msq_words_pop(word_taker, turns, &item))
 CALL(words_shut, msq_words_shut(word_giver, turns))
 
-/* One word, by seats. */
-static msq_word_seat single_seats[SEATS], *single_giver = &single_seats[0], *single_taker = &single_seats[1];
-static const uint64_t word = UINT64_MAX - 1;
-static msq_value single;
-
-static uint32_t open_singles(uint32_t kind, uint32_t nodes, uint64_t limit, uint16_t number) {
-    return msq_word_create(kind, nodes, limit, roles, number, single_seats, number);
-}
-static void drop_singles(void) {
-    for (size_t k = 0; k < SEATS; k++) {
-        msq_word_drop(&single_seats[k]);
-    }
-}
-CALL(see_singles, msq_word_emptiness(single_taker))
-static void push_and_pop_singles(void) {
-    static msq_value own;
-    any(msq_word_push(&single_seats[2], word, 8));
-    any(msq_word_pop(&single_seats[3], 8, &own));
-}
-CALL(word_push, msq_word_push(single_giver, word, turns))
-CALL(word_pop, msq_word_pop(single_taker, turns, &single))
-CALL(word_shut, msq_word_shut(single_giver, turns))
-
 /* Which of its seats gives, and which takes. */
 static inline void sit(size_t gives, size_t takes) {
     giver = &seats[gives], taker = &seats[takes];
     word_giver = &word_seats[gives], word_taker = &word_seats[takes];
-    single_giver = &single_seats[gives], single_taker = &single_seats[takes];
 }
 
 static const struct family families[] = {
@@ -135,10 +111,6 @@ static const struct family families[] = {
      {{"msq_words_push", words_push}},
      {{"msq_words_pop", words_pop}},
      {{"msq_words_shut", words_shut}}},
-    {"one word", false, open_singles, drop_singles, see_singles, push_and_pop_singles,
-     {{"msq_word_push", word_push}},
-     {{"msq_word_pop", word_pop}},
-     {{"msq_word_shut", word_shut}}},
 };
 
 enum { FAMILIES = sizeof families / sizeof *families };

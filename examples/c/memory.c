@@ -80,7 +80,6 @@ enum { VALUES = 3 };
 static const uint8_t roles[] = {MSQ_BOTH, MSQ_BOTH};
 static msq_seat seats[2];
 static msq_words_seat word_seats[2];
-static msq_word_seat single_seats[2];
 static msq_value values[8];
 static msq_item items[8];
 static msq_rest rest;
@@ -103,15 +102,6 @@ static uint32_t create_words(uint32_t kind) {
 static uint32_t close_words(uint32_t kind) {
     (void)kind;
     return msq_words_close(word_seats, 2, items, 8, &rest);
-}
-
-static uint32_t create_singles(uint32_t kind) {
-    return msq_word_create(kind, 8, MSQ_MOST_COUNT, roles, 2, single_seats, 2);
-}
-
-static uint32_t close_singles(uint32_t kind) {
-    (void)kind;
-    return msq_word_close(single_seats, 2, values, 8, &rest);
 }
 
 static void count_one(void *object, void *context) {
@@ -139,15 +129,6 @@ static void seats_with_words(uint32_t kind) {
         expect("a push", msq_words_push(&word_seats[0], &words, 8), MSQ_OK);
     }
     is_done_at_last("close", close_words, kind);
-    expect("what is left", rest.left, VALUES);
-}
-
-static void seats_with_one_word(uint32_t kind) {
-    is_done_at_last("create", create_singles, kind);
-    for (uint64_t word = 0; word < VALUES; word++) {
-        expect("a push", msq_word_push(&single_seats[0], ~word, 8), MSQ_OK);
-    }
-    is_done_at_last("close", close_singles, kind);
     expect("what is left", rest.left, VALUES);
 }
 
@@ -183,7 +164,6 @@ int main(void) {
         small_queues_are_small(kind);
         if (kind != MSQ_RING) {
             seats_with_words(kind);
-            seats_with_one_word(kind);
         }
     }
     printf("%u allocations were refused, and %u answers were not as they should be\n", refused, wrong);

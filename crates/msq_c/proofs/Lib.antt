@@ -13,4 +13,3 @@ pub mod NewShares
 pub mod ShareEnds
 pub mod FirstSteps
 pub mod NewWordsShares
-pub mod WordsShareEnds

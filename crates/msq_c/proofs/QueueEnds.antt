@@ -21,7 +21,7 @@ use Rattle.msq_c.specs.declared.troubles.Trouble.{Trouble}
 use Rattle.msq_c.specs.Queues.{Queue, SeatOf, EndOf, known_of, permits_of, EndsWith, IsEnough}
 use Rattle.msq_c.specs.Blocks.{Owned, queue_of, owned_in}
 use Rattle.msq_c.specs.Seats.{is_full, block_at, known_at, queue_at}
-use Rattle.msq_c.specs.Ends.{AreFull, AreOfOne, KeepSeats, owned_at, HasAnyRoom, HasRoomOf, ClosesHandles}
+use Rattle.msq_c.specs.Ends.{AreFull, AreOfOne, KeepSeats, owned_at, HasAnyRoom, HasRest, RestRoom, HasRoomOf, ClosesHandles}
 
 -- the seats with their shares, where handles keep them
 pub same_owned : (slots slots' : List MsqSeat) → KeepSeats slots slots' → map owned_at slots' ≡ map owned_at slots
@@ -72,15 +72,13 @@ asks_so : (q : Queue) (ks : List Known) → IsEnough q (length ks) → EitherAsk
 asks_so (First p) ks enough = tt
 asks_so (Second r) ks enough = enough
 
--- all seats of a queue, without their shares, and room for its end
-module _ (p q : Queue) (seats : List SeatOf) (others : ℕ) (same : q ≡ p) (many : length seats ≡ others + 1) (room : EndRoom)
-    (has : HasAnyRoom p (others + 1) room) where
-  pub room_of_all : HasEitherRoom (λ p. HasRoomFor (picked_arena_of p)) ring.HasRoomFor q (length seats) room.rest
-  room_of_all = subst (λ (n : ℕ). HasEitherRoom (λ p. HasRoomFor (picked_arena_of p)) ring.HasRoomFor q n room.rest) (sym many)
-      (subst (λ (p : Queue). HasEitherRoom (λ p. HasRoomFor (picked_arena_of p)) ring.HasRoomFor p (others + 1) room.rest) (sym same) has.rest)
+-- seats of a queue, without their shares, and room for its end by as many
+module _ (p q : Queue) (same : q ≡ p) (seats : List SeatOf) (room : RestRoom) (has : HasRest p (length seats) room) where
+  pub room_by_all : HasEitherRoom (λ p. HasRoomFor (picked_arena_of p)) ring.HasRoomFor q (length seats) room
+  room_by_all = subst (λ (x : Queue). HasEitherRoom (λ p. HasRoomFor (picked_arena_of p)) ring.HasRoomFor x (length seats) room) (sym same) has.room
 
-  pub all_asked : EitherAsks (λ p x. Unit {0}) (λ r x. length x ≡ length (permits_in r)) q (map known_of seats)
-  all_asked = asks_so q (map known_of seats) (subst (IsEnough q) (sym (length-map seats known_of ∙ many)) (subst (λ (p : Queue). IsEnough p (others + 1)) (sym same) has.enough))
+  pub asked_by_all : EitherAsks (λ p x. Unit {0}) (λ r x. length x ≡ length (permits_in r)) q (map known_of seats)
+  asked_by_all = asks_so q (map known_of seats) (subst (λ (x : Queue). IsEnough x (length (map known_of seats))) (sym same) (subst (IsEnough p) (sym (length-map seats known_of)) has.enough))
 
 -- the seats of a queue without their shares, the last one and others, and room for its end
 module _ (last : Owned) (others : List Owned) (q : Queue) (seats : List SeatOf) (same : q ≡ queue_of last) (those : seats ≡ map seat_of others ++ seat_of last ∷ []) (room : EndRoom)
@@ -88,11 +86,14 @@ module _ (last : Owned) (others : List Owned) (q : Queue) (seats : List SeatOf) 
   many : length seats ≡ length others + 1
   many = omega (arith, ap length those, length-append (map seat_of others) (seat_of last ∷ []), length-map others seat_of)
 
+  all_rest : HasRest (queue_of last) (length seats) room.rest
+  all_rest = subst (λ (n : ℕ). HasRest (queue_of last) n room.rest) (sym many) has.rest
+
   pub rest_room : HasEitherRoom (λ p. HasRoomFor (picked_arena_of p)) ring.HasRoomFor q (length seats) room.rest
-  rest_room = room_of_all (queue_of last) q seats (length others) same many room has
+  rest_room = room_by_all (queue_of last) q same seats room.rest all_rest
 
   pub asked : EitherAsks (λ p x. Unit {0}) (λ r x. length x ≡ length (permits_in r)) q (map known_of seats)
-  asked = all_asked (queue_of last) q seats (length others) same many room has
+  asked = asked_by_all (queue_of last) q same seats room.rest all_rest
 
   pub closes : (rest : Rest) → Closes (permits_of q) (map known_of seats) rest → Closes (permits_of (queue_of last)) (map (λ (s : Owned). known_of (seat_of s)) (others ++ last ∷ [])) rest
   closes rest c = subst (λ (ks : List Known). Closes (permits_of (queue_of last)) ks rest) (all_known others last seats those known_of)

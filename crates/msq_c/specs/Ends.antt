@@ -1,12 +1,17 @@
 -- The end of a queue, by handles.
 use Rattle.std.specs.Prelude.{◌≡◌, ℕ, ◌+◌, ◌≤◌, List, [], length, map, vec_capacity, true, false}
+use Rattle.std.specs.Global.{Vec}
 use Rattle.std.specs.List.{All, AllPass}
 use Rattle.history.specs.Ends.{Closes}
 use Rattle.history.specs.declared.refusals.Refusal.TheVariants.{Memory}
 use Rattle.history.specs.declared.rests.Rest.{Rest}
+use Rattle.history.specs.declared.operations.Taken.{Taken}
+use Rattle.node_arena.specs.declared.seats.Seat.{Seat}
 use Rattle.node_arena.specs.Ended.{HasRoomFor}
 use Rattle.picked.specs.Picked.{picked_arena_of}
+use Rattle.ring_queue.specs.declared.seats.Seat.{Seat as RingSeat}
 use Rattle.ring_queue.specs.Ends as ring
+use Rattle.picked.specs.declared.either_seats.EitherRoom.{EitherRoom}
 use Rattle.picked.specs.EitherEnds.{HasEitherRoom}
 use Rattle.msq_c.specs.declared.seat_blocks.EndRoom.{EndRoom}
 use Rattle.msq_c.specs.declared.handles.MsqSeat.{MsqSeat}
@@ -49,10 +54,18 @@ pub record ClosesHandles (slots : List MsqSeat) (rest : Rest) (end : EndOf) : Ty
 abbrev pub IsMemory : Trouble → Type 0
 IsMemory refusal = refusal ≡ Refused Memory
 
+-- room for what is left of a queue as it is ended
+abbrev pub RestRoom : Type 0
+RestRoom = EitherRoom (Vec Taken) (Seat (Unit {0})) (Vec Taken) (RingSeat (Unit {0}))
+
+-- there is room for what is left at an end of a queue by so many seats, which are enough for it
+pub record HasRest (q : Queue) (count : ℕ) (rest : RestRoom) : Type 0 where
+  pub enough : IsEnough q count
+  pub room : HasEitherRoom (λ p. HasRoomFor (picked_arena_of p)) ring.HasRoomFor q count rest
+
 -- there is room for the end of a queue by so many seats, which are enough for it
 pub record HasAnyRoom (q : Queue) (count : ℕ) (room : EndRoom) : Type 0 where
-  pub enough : IsEnough q count
-  pub rest : HasEitherRoom (λ p. HasRoomFor (picked_arena_of p)) ring.HasRoomFor q count room.rest
+  pub rest : HasRest q count room.rest
   pub none : room.seats.items ≡ []
   pub seats : count ≤ vec_capacity room.seats
 

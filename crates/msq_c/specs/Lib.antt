@@ -11,6 +11,8 @@ pub mod Many
 pub mod Blocks
 pub mod Rests
 pub mod Seats
+pub mod Passed
+pub mod ShareRows
 pub mod Shares
 pub mod NewShares
 pub mod Values
@@ -23,10 +25,8 @@ pub mod WordMade
 pub mod WordRests
 pub mod WordRows
 pub mod Three
-pub mod One
 pub mod ShareEnds
 pub mod WordsQueues
 pub mod WordsShares
-pub mod WordsCalls
 pub mod WordsShareEnds
 pub mod NewWordsShares

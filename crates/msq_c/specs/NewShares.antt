@@ -9,10 +9,10 @@ use Rattle.shared_queue.specs.declared.share.Share.{Share}
 use Rattle.shared_queue.specs.declared.stepped.SteppedQueue.{SteppedQueue}
 use Rattle.shared_queue.specs.Sharing.{stepped_at, share_seat}
 use Rattle.shared_queue.specs.Stepped.{stepped_queue, capacity_of}
+use Rattle.msq_c.specs.declared.share_blocks.ShareBlock.{ShareBlock}
 use Rattle.msq_c.specs.declared.share_handles.MsqShare.{MsqShare}
 use Rattle.msq_c.specs.declared.troubles.Trouble.{Trouble}
 use Rattle.msq_c.specs.declared.troubles.Trouble.TheVariants.{Refused, BadSize, InUse}
-use Rattle.msq_c.specs.Blocks.{numbers}
 use Rattle.msq_c.specs.Made.{Asks, IsNew}
 use Rattle.msq_c.specs.Queues.{Queue, SeatOf}
 use Rattle.msq_c.specs.Shares.{is_full, block_at}
@@ -68,22 +68,19 @@ module _ {H : Type 0} (holds : H → Bool) where
     pub refused : IfErr out (RefusesFilling kind capacity limit hs)
     pub same : OnErr out (hs' ≡ hs)
 
--- a share of a queue of numbers of any kind
-abbrev pub ShareOf : Type 0
-ShareOf = Share (Numbers Queue) ℕ SeatOf numbers
+-- the share of a handle H, which owns such a block, where there is one
+abbrev pub share_at : {H C A S : Type 0} {g : Ghosts C A S} (own : H → ShareBlock C A S g) → H → Share C A S g
+share_at own h = (own h).share
+
+-- handles, each empty before, have all the shares of a new queue; refused, they are as they were
+abbrev pub FillsShares : {H C A S : Type 0} {g : Ghosts C A S} (New : (kind nodes limit : ℕ) (roles : List ℕ) → C → List S → Type 0)
+    (holds : H → Bool) (own : H → ShareBlock C A S g) (kind capacity limit : ℕ) (hs hs' : List H) → Result (Unit {0}) Trouble → Type 0
+FillsShares New holds own = Fills holds (λ kind capacity limit calls hs. AreNewOf New kind capacity limit calls (map (share_at own) hs))
 
 -- a new queue of numbers of the kind with this number, and its seats
 abbrev pub IsNewNumbers : (kind nodes limit : ℕ) (roles : List ℕ) → Numbers Queue → List SeatOf → Type 0
 IsNewNumbers kind nodes limit roles q seats = IsNew kind nodes limit roles (fifo_of q) seats
 
--- these shares have all the seats of one
-abbrev pub AreNewShares : (kind capacity limit calls : ℕ) → List ShareOf → Type 0
-AreNewShares = AreNewOf IsNewNumbers
-
--- the share of a handle, where there is one
-abbrev pub share_at : MsqShare → ShareOf
-share_at h = (block_at h).share
-
--- handles, each empty before, have all the shares of a new queue of numbers; refused, they are as they were
+-- handles of a queue of numbers have all the shares of a new one
 abbrev pub AnswersShares : (kind capacity limit : ℕ) (hs hs' : List MsqShare) → Result (Unit {0}) Trouble → Type 0
-AnswersShares = Fills is_full (λ kind capacity limit calls hs. AreNewShares kind capacity limit calls (map share_at hs))
+AnswersShares = FillsShares IsNewNumbers is_full block_at

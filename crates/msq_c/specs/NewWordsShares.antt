@@ -17,10 +17,10 @@ use Rattle.msq_c.specs.declared.troubles.Trouble.{Trouble}
 use Rattle.msq_c.specs.declared.words.MsqWords.{MsqWords}
 use Rattle.msq_c.specs.declared.words_share_handles.MsqWordsShare.{MsqWordsShare}
 use Rattle.msq_c.specs.Made.{kind_number, role_number, ring_role_number}
-use Rattle.msq_c.specs.NewShares.{AreNewOf, Fills}
+use Rattle.msq_c.specs.NewShares.{FillsShares}
 use Rattle.msq_c.specs.WordMade.{plan_for}
 use Rattle.msq_c.specs.WordsQueues.{WordsQueue, WordsSeat}
-use Rattle.msq_c.specs.WordsShares.{ShareOf, is_full, share_at}
+use Rattle.msq_c.specs.WordsShares.{is_full, block_at}
 
 -- the last place of a ring of values with room for so many, by so many seats, each of which may have one in hand, with this limit: so
 -- many pushes are left at first, and more, as its slots are fewer than twice as many; or the greatest place there is
@@ -50,10 +50,6 @@ abbrev pub IsNew : (kind nodes limit : ℕ) (numbers : List ℕ) → WordsQueue 
 IsNew kind nodes limit numbers (First q) seats = IsNewNodes kind nodes limit numbers q seats
 IsNew kind nodes limit numbers (Second q) seats = (kind ≡ 2) × IsNewRing nodes limit numbers q seats
 
--- these shares have all the seats of one new queue of three words
-abbrev pub AreNewShares : (kind capacity limit calls : ℕ) → List ShareOf → Type 0
-AreNewShares = AreNewOf IsNew
-
--- handles, each empty before, have all the shares of a new queue of three words; refused, they are as they were
+-- handles of a queue of three words have all the shares of a new one
 abbrev pub AnswersShares : (kind capacity limit : ℕ) (hs hs' : List MsqWordsShare) → Result (Unit {0}) Trouble → Type 0
-AnswersShares = Fills is_full (λ kind capacity limit calls hs. AreNewShares kind capacity limit calls (map share_at hs))
+AnswersShares = FillsShares IsNew is_full block_at

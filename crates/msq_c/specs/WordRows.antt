@@ -1,6 +1,4 @@
--- The seats of queues of three words, and of one, that the handles of C own.
-use Rattle.std.specs.Prelude.{ℕ}
-use denote.Builtin.{u64}
+-- The seats of queues of three words that the handles of C own.
 use denote.RattleType.{RattleType}
 use Rattle.node_arena.specs.contracts.seats.Seat as seat
 use Rattle.picked.specs.contracts.kind_values.AnyValues as any
@@ -21,11 +19,3 @@ OwnThree = Own MsqWords (carrier.ghosts words.the_row)
 -- its type in memory
 abbrev pub three_row : RattleType
 three_row = row_of words.the_row
-
--- a seat of a queue of one word
-abbrev pub OwnOne : Type 0
-OwnOne = Own ℕ (carrier.ghosts u64)
-
--- its type in memory
-abbrev pub one_row : RattleType
-one_row = row_of u64

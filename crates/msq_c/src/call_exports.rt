@@ -3,18 +3,23 @@ ghost use Rattle.std.specs.Prelude.{◌≡◌, false};
 ghost use Rattle.msq_c.specs.Codes.{Tells, done_code};
 ghost use Rattle.msq_c.specs.Calls.{AnswersBegin, AnswersStep};
 ghost use Rattle.msq_c.specs.Calls.{AnswersGiveUp, AnswersLength, AnswersListen};
-ghost use Rattle.msq_c.specs.NewShares.{AnswersShares, share_at};
+ghost use Rattle.msq_c.specs.NewShares.{AnswersShares};
+ghost use Rattle.msq_c.specs.Passed.{of_numbers};
 ghost use Rattle.msq_c.specs.ShareEnds.{AreOfOne, AnswersClose};
-ghost use Rattle.msq_c.specs.Shares.{is_full};
+ghost use Rattle.msq_c.specs.Shares.{is_full, block_at};
 
 use crate::call_words::{MsqAct, MsqCall};
+use crate::looks::ForLength;
 use crate::rests::MsqRest;
+use crate::seat_blocks::Queue;
 use crate::share_handles::MsqShare;
 use crate::slots::{Slot, lift};
 use crate::troubles::{Trouble, code};
 use crate::values::MsqValue;
 use crate::{new_shares, share_blocks, share_ends};
 use calls::{Bell, give_up};
+use carriers::Numbers;
+use history::Body;
 use std::alloc::Global;
 
 /// Makes a queue of a kind, 0 the non-blocking one, 1 the two-lock one and 2 the ring, with room for exactly so many values, and fills
@@ -34,7 +39,7 @@ pub extern "C" fn msq_shares_create(
     ensures { Tells done_code result
         (AnswersShares kind capacity limit slots.old slots.new) }
 {
-    code(new_shares::create(alloc, kind, capacity, limit, slots))
+    code(new_shares::create::<Numbers<Queue>, MsqShare>(alloc, kind, capacity, limit, slots))
 }
 
 /// Begins a call: task 0 pushes the word, below 2^48, 1 pops, 2 shuts, and 3 and 4 end a sender and a receiver. One that tries never
@@ -54,10 +59,12 @@ pub extern "C" fn msq_share_begin(
     //=   this word, and was stepped as `msq_call_step` does, late from the first if it never waits. The word is then the
     //=   call's, and the call is laid down unless it is told. Refused exactly where the handle is empty, with
     //=   `MSQ_NO_SEAT`, or there is no such task or the word is from 2^48 on, with `MSQ_BAD_SIZE`, and nothing changed.
-    ensures { Tells done_code result (AnswersBegin slot.old slot.new task tries
-        word.old word.new call.old call.new act.old act.new) }
+    ensures { Tells done_code result (AnswersBegin of_numbers is_full block_at
+        slot.old slot.new task tries word.old word.new call.old call.new act.old act.new) }
 {
-    code(share_blocks::begin(alloc, slot, task, tries, word, call, act))
+    code(share_blocks::begin::<Body, Numbers<Queue>, u64, MsqShare>(
+        alloc, slot, task, tries, word, call, act,
+    ))
 }
 
 /// Makes the next steps of a call, and tells what is to be done before the one after them. `past` is whether its time is.
@@ -74,10 +81,13 @@ pub extern "C" fn msq_call_step(
     //=   calls that wait says, and what is told is what that machine says is to be done. The word that is slept on, or
     //=   woken, no clause names. Refused exactly where the handle is empty, with `MSQ_NO_SEAT`, or the numbers are no
     //=   call, with `MSQ_BAD_SIZE`, and nothing changed.
-    ensures { Tells done_code result
-        (AnswersStep slot.old slot.new call.old call.new past act.old act.new) }
+    ensures { Tells done_code result (AnswersStep of_numbers is_full block_at
+        slot.old slot.new call.old.word call.new.word call.old call.new past act.old act.new) }
 {
-    code(share_blocks::step(alloc, slot, call, past, act))
+    let mut word = call.word;
+    code(share_blocks::step::<Body, Numbers<Queue>, u64, MsqShare>(
+        alloc, slot, &mut word, call, past, act,
+    ))
 }
 
 /// Gives up a call that nobody is to be woken for: it is then stepped until it tells, which it does without sleeping.
@@ -87,11 +97,11 @@ pub extern "C" fn msq_call_give_up(call: &mut MsqCall) -> u32
     //=   exactly where the numbers are no call, with no change.
     ensures { Tells done_code result (AnswersGiveUp call.old call.new) }
 {
-    let Some(mut asked) = call.lift() else {
+    let Some(mut asked) = call.lift::<Body, u64>(&call.word) else {
         return Trouble::BadSize.code();
     };
     give_up(&mut asked.call);
-    *call = MsqCall::of(&asked);
+    *call = MsqCall::of::<Body, u64>(&asked);
     0
 }
 
@@ -100,9 +110,10 @@ pub extern "C" fn msq_call_give_up(call: &mut MsqCall) -> u32
 pub extern "C" fn msq_share_len(alloc: Global, slot: &mut MsqShare, len: &mut u64) -> u32
     //= library/share_len: A length told to C is no more than the room of its queue; refused `MSQ_NO_SEAT` exactly where the
     //=   handle is empty, with no change.
-    ensures { Tells done_code result (AnswersLength is_full share_at slot.old slot.new len.old len.new) }
+    ensures { Tells done_code result
+        (AnswersLength is_full block_at slot.old slot.new len.old len.new) }
 {
-    match share_blocks::len(alloc, slot) {
+    match share_blocks::len::<Numbers<Queue>, ForLength, MsqShare>(alloc, slot) {
         Ok(found) => {
             *len = found;
             0
@@ -124,11 +135,11 @@ pub extern "C" fn msq_share_listen(
     //=   word; refused `MSQ_BAD_SIZE` exactly at a task that waits for nothing, or `MSQ_NO_SEAT` exactly where the handle
     //=   is empty, with no change. That a listener is counted, and which word that is, no clause says.
     ensures { Tells done_code result
-        (AnswersListen is_full share_at slot.old slot.new task act.old act.new) }
+        (AnswersListen is_full block_at slot.old slot.new task act.old act.new) }
 {
     match task {
-        0 => code(share_blocks::listen(alloc, slot, Bell::Room, act)),
-        1 => code(share_blocks::listen(alloc, slot, Bell::Values, act)),
+        0 => code(share_blocks::listen::<Numbers<Queue>, MsqShare>(alloc, slot, Bell::Room, act)),
+        1 => code(share_blocks::listen::<Numbers<Queue>, MsqShare>(alloc, slot, Bell::Values, act)),
         _ => Trouble::BadSize.code(),
     }
 }
@@ -142,7 +153,7 @@ pub extern "C" fn msq_shares_close(
     values: &mut [MsqValue],
     rest: &mut MsqRest,
 ) -> u32
-    requires { AreOfOne slots.old }
+    requires { AreOfOne is_full block_at slots.old }
     //= library/shares_close: A queue whose calls are stepped, ended from C, tells 0 where all these handles, now empty,
     //=   closed it: what is left is what its own `close` says of their seats, the values written from the front, as many as
     //=   have room. Refused, nothing is written: at `MSQ_NO_SEAT` a handle is empty, and none changed; at `MSQ_BAD_SIZE`
@@ -151,7 +162,7 @@ pub extern "C" fn msq_shares_close(
     ensures { Tells done_code result
         (AnswersClose slots.old slots.new values.old values.new rest.old rest.new) }
 {
-    match share_ends::close(alloc, slots) {
+    match share_ends::close::<Numbers<Queue>, MsqShare>(alloc, slots) {
         Ok((found, _end)) => {
             *rest = MsqRest::written(found, values);
             0

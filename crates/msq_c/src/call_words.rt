@@ -1,15 +1,13 @@
 //! A call that may wait, and what is to be done for it, as C has them.
-ghost use Rattle.std.specs.Prelude.{◌≡◌, ◌≤◌, ◌^◌, ◌⊎◌, ℕ, IfSome, IfNone};
-ghost use Rattle.history.specs.Limits.{body_bits};
-ghost use Rattle.calls.specs.declared.calls.Call.{Call};
-ghost use Rattle.shared_queue.specs.declared.stepped.Asked.{Asked};
-ghost use Rattle.msq_c.specs.Calls.{task_number, phase_number, code_number, word_of, laid, laid_with, Lifts, IsNew, new_call};
+ghost use Rattle.std.specs.Prelude.{◌≡◌, ◌≤◌, ◌⊎◌, IfSome, IfNone};
+ghost use Rattle.msq_c.specs.Calls.{task_number, phase_number, code_number, laid, laid_with, new_call};
+ghost use Rattle.msq_c.specs.Calls.{IsNoCall, Lifts};
 ghost use Rattle.calls.specs.declared.calls.Act.TheVariants.{Tell};
 ghost use Rattle.msq_c.specs.Calls.{IsTold, IsWatch, act_after};
 ghost use Rattle.shared_queue.specs.TriedCalls.{call_after};
 
+use crate::passed::Passed;
 use calls::{Act, Call, Code, Phase, Task, start};
-use history::Body;
 use shared_queue::{Asked, SteppedQueue, Tried};
 use std::ptr;
 
@@ -125,16 +123,6 @@ fn number_of_code(code: Code) -> u8
     }
 }
 
-/// The word of a call with this value, or 0 where it has none.
-pub(crate) fn word_in(value: &Option<Body>) -> u64
-    ensures { result ≡ word_of value.now }
-{
-    match value {
-        Some(body) => body.number(),
-        None => 0,
-    }
-}
-
 impl MsqCall {
     /// A call as C has it, with this word, that heard so many rings.
     pub(crate) fn with(call: &Call, word: u64, heard: u64) -> MsqCall
@@ -157,18 +145,17 @@ impl MsqCall {
         }
     }
 
-    /// A call of a number as C has it.
-    pub(crate) fn of(asked: &Asked<Body>) -> MsqCall
-        ensures { result ≡ laid asked.now }
+    /// A call as C has it that passes a W.
+    pub(crate) fn of<A, W: Passed<A>>(asked: &Asked<A>) -> MsqCall
+        ensures { result ≡ laid W.passes asked.now }
     {
-        MsqCall::with(&asked.call, word_in(&asked.value), asked.heard)
+        MsqCall::with(&asked.call, W::kept(&asked.value), asked.heard)
     }
 
     /// The call without its value, where these are the numbers of one.
     pub(crate) fn call(&self) -> Option<Call>
         ensures some { IfSome result (λ c. laid_with c self.now.word self.now.heard ≡ self.now) }
-        ensures none { IfNone result
-            ((c : Call) (word heard : ℕ) → ¬ (laid_with c word heard ≡ self.now)) }
+        ensures none { IfNone result (IsNoCall self.now) }
     {
         Some(Call {
             task: task_of(self.task)?,
@@ -185,30 +172,17 @@ impl MsqCall {
         })
     }
 
-    /// The call, where these are the numbers of one of a number.
-    pub(crate) fn lift(&self) -> Option<Asked<Body>>
-        ensures some { IfSome result (Lifts self.now) }
-        ensures none { IfNone result ((a : Asked ℕ) → ¬ Lifts self.now a) }
+    /// The call, where these are the numbers of one, and this is its value.
+    pub(crate) fn lift<A: Drop, W: Passed<A>>(&self, word: &W) -> Option<Asked<A>>
+        ensures some { IfSome result (Lifts W.passes self.now word.now) }
+        ensures none { IfNone result (IsNoCall self.now ⊎ W.passes.none word.now) }
     {
-        let value = Body::new(self.word)?;
+        let value = word.value()?;
         Some(Asked {
             call: self.call()?,
             value: Some(value),
             heard: self.heard,
         })
-    }
-}
-
-/// The task with this number, and the value of a new call of it: the word of a push.
-pub(crate) fn task_with(number: u8, word: u64) -> Option<(Task, Option<Body>)>
-    ensures some { IfSome result (λ r. IsNew number word r.0 r.1) }
-    ensures none { IfNone result ((5 ≤ number) ⊎ (2 ^ body_bits ≤ word)) }
-{
-    let task = task_of(number)?;
-    let body = Body::new(word)?;
-    match task {
-        Task::Push => Some((task, Some(body))),
-        _ => Some((task, None)),
     }
 }
 

@@ -74,7 +74,7 @@ impl Slot<SeatBlock> for MsqSeat {
     }
 }
 
-//= library/send: A handle, `MsqSeat`, `MsqWordSeat`, `MsqWordsSeat` or `MsqShare`, may go to another thread; the calls that
+//= library/send: A handle, `MsqSeat`, `MsqWordsSeat` or `MsqShare`, may go to another thread; the calls that
 //=   make queues need this.
 // SAFETY: proved, in proofs/handles/Handle/TheSendSync: the block may go, and a pointer is owned by one handle.
 unsafe impl Send for Handle {}

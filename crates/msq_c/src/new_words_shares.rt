@@ -1,27 +1,19 @@
-//! A new queue of three words whose calls are stepped, and a handle for each of its seats.
-ghost use Rattle.std.specs.Prelude.{◌≡◌, ◌≤◌, ◌<◌, ◌^◌, map, length, IfOk, IfErr, OnOk, OnErr};
+//! A new queue of three words whose calls may wait, and its seats.
+ghost use Rattle.std.specs.Prelude.{◌≡◌, ◌≤◌, ◌<◌, ◌^◌, IfOk, IfErr};
 ghost use Rattle.std.specs.List.{All};
 ghost use Rattle.msq_c.specs.Ends.{IsMemory};
 ghost use Rattle.msq_c.specs.Made.{Asks};
-ghost use Rattle.msq_c.specs.NewShares.{RefusesShares, RefusesFilling};
 ghost use Rattle.msq_c.specs.NewWordsShares as new;
-ghost use Rattle.msq_c.specs.NewWordsShares.{IsNew, AreNewShares};
+ghost use Rattle.msq_c.specs.NewWordsShares.{IsNew};
 ghost use Rattle.msq_c.specs.WordsQueues.{IsSeat, AreUnused};
-ghost use Rattle.msq_c.specs.WordsShares.{is_full, share_at};
-ghost use Rattle.msq_c.specs.WordEnds.{AreFull, AreEmpty};
 
-use crate::new_queues::{
-    RING, Spacer, are_asked, count_for, hand_over, kind_of, ring_roles_of, roles_of, spacer_for,
-};
-use crate::new_shares::{all_both, nodes_for};
-use crate::slots::{all_are_empty, sealed};
+use crate::new_queues::{RING, count_for, kind_of, ring_roles_of, roles_of};
+use crate::new_shares::NewQueue;
 use crate::troubles::Trouble;
-use crate::words_share_handles::MsqWordsShare;
-use crate::words_shares::{WordsQueue, WordsSeat, WordsShareBlock};
+use crate::words_shares::{WordsQueue, WordsSeat};
 use history::Refusal;
 use picked::{AnyValues, EitherQueue, EitherSeat};
 use ring_values::RingValues;
-use shared_queue::{Share, SteppedQueue, deal};
 use std::alloc::Global;
 
 // The last place of a ring with room for so many values, by so many seats, with this limit.
@@ -104,100 +96,17 @@ fn new_queue(
     new_linked(alloc, kind, nodes, limit, numbers)
 }
 
-// A new queue's shares, and what lies between them and its words.
-fn shares_of(
-    alloc: Global,
-    kind: u32,
-    capacity: u32,
-    limit: u64,
-    count: usize,
-) -> Result<(Vec<Share<WordsQueue>>, Spacer), Trouble>
-    ensures made { IfOk result (λ r. AreNewShares kind capacity limit count r.0.items) }
-    ensures len { IfOk result (λ r. length r.0.items ≡ count) }
-    ensures refused { IfErr result (RefusesShares kind capacity limit count) }
-{
-    if capacity == 0 {
-        return Err(Trouble::BadSize);
-    }
-    let Some(nodes) = nodes_for(kind, capacity, count) else {
-        return Err(Trouble::BadSize);
-    };
-    let roles = all_both(alloc, count)?;
-    if !are_asked(kind, nodes, limit, &roles) {
-        return Err(Trouble::BadSize);
-    }
-    let (queue, seats) = new_queue(alloc, kind, nodes, limit, &roles)?;
-    let spacer = spacer_for(alloc, nodes)?;
-    let counts = kind != RING || capacity < nodes;
-    let stepped = SteppedQueue::new(queue, u64::from(capacity), counts);
-    let Ok(shares) = deal(alloc, stepped, seats) else {
-        return Err(Trouble::Refused(Refusal::Memory));
-    };
-    Ok((shares, spacer))
-}
+impl NewQueue for WordsQueue {
+    ghost is_new = { IsNew };
 
-// Each share in a block of its own.
-fn boxed(
-    alloc: Global,
-    shares: Vec<Share<WordsQueue>>,
-) -> Result<Vec<Box<WordsShareBlock, Global>>, Trouble>
-    ensures boxes { IfOk result (λ boxes. map (λ b. b.value.share) boxes.items ≡ shares.items) }
-    ensures only_memory { IfErr result IsMemory }
-{
-    let mut boxes = Vec::new(alloc);
-    for share in shares {
-        let Ok(boxed) = Box::new(alloc, WordsShareBlock::new(share)) else {
-            return Err(Trouble::Refused(Refusal::Memory));
-        };
-        if boxes.push(boxed).is_err() {
-            return Err(Trouble::Refused(Refusal::Memory));
-        }
-    }
-    Ok(boxes)
-}
-
-// So many full handles with the shares of a new queue.
-fn handles_of(
-    alloc: Global,
-    kind: u32,
-    capacity: u32,
-    limit: u64,
-    count: usize,
-) -> Result<Vec<MsqWordsShare>, Trouble>
-    ensures full { IfOk result (λ h. AreFull is_full h.items) }
-    ensures made { IfOk result
-        (λ h. AreNewShares kind capacity limit count (map share_at h.items)) }
-    ensures len { IfOk result (λ h. length h.items ≡ count) }
-    ensures refused { IfErr result (RefusesShares kind capacity limit count) }
-{
-    let (shares, _spacer) = shares_of(alloc, kind, capacity, limit, count)?;
-    let boxes = boxed(alloc, shares)?;
-    sealed::<WordsShareBlock, MsqWordsShare>(alloc, boxes)
-}
-
-/// A new queue of three words, whose shares fill these handles.
-pub(crate) fn create(
-    alloc: Global,
-    kind: u32,
-    capacity: u32,
-    limit: u64,
-    slots: &mut [MsqWordsShare],
-) -> Result<(), Trouble>
-    ensures empty { OnOk result (AreEmpty is_full slots.old) }
-    ensures full { OnOk result (AreFull is_full slots.new) }
-    ensures made { OnOk result
-        (AreNewShares kind capacity limit (length slots.old) (map share_at slots.new)) }
-    ensures refused { IfErr result (RefusesFilling is_full kind capacity limit slots.old) }
-    ensures same { OnErr result (slots.new ≡ slots.old) }
-{
-    if !all_are_empty::<WordsShareBlock, MsqWordsShare>(slots) {
-        return Err(Trouble::InUse);
-    }
-    match handles_of(alloc, kind, capacity, limit, slots.len()) {
-        Ok(mut handles) => {
-            hand_over(slots, &mut handles);
-            Ok(())
-        }
-        Err(refusal) => Err(refusal),
+    fn new_queue(
+        alloc: Global,
+        kind: u32,
+        nodes: u32,
+        limit: u64,
+        numbers: &[u8],
+    ) -> Result<(WordsQueue, Vec<WordsSeat>), Trouble> {
+        let (queue, seats) = new_queue(alloc, kind, nodes, limit, numbers)?;
+        Ok((queue, seats))
     }
 }

@@ -2,7 +2,7 @@
 ghost use Rattle.std.specs.Prelude.{◌≡◌, IfOk, IfErr, OnOk, MatchBool};
 ghost use Rattle.history.specs.Answers.{Pushed, PopAnswers, DidShut, Meets};
 ghost use Rattle.msq_c.specs.Queues.{IsEnough};
-ghost use Rattle.msq_c.specs.Ends.{HasAnyRoom, IsRoomless};
+ghost use Rattle.msq_c.specs.Ends.{HasRest, HasAnyRoom, IsRoomless};
 
 use crate::troubles::Trouble;
 use carriers::Numbers;
@@ -19,10 +19,13 @@ pub type Queue = EitherQueue<PickedQueue, RingQueue>;
 /// A seat of one.
 pub type QueueSeat = EitherSeat<Seat, RingSeat>;
 
+/// Memory for what is left of a queue as it is ended, and for its seats as those of its kind.
+pub(crate) type RestRoom = EitherRoom<Vec<Taken>, Seat, Vec<Taken>, RingSeat>;
+
 /// Memory for the end of a queue: for what is left and its seats as those of its kind, and for its seats without their shares.
 #[derive(Drop)]
 pub struct EndRoom {
-    pub(crate) rest: EitherRoom<Vec<Taken>, Seat, Vec<Taken>, RingSeat>,
+    pub(crate) rest: RestRoom,
     pub(crate) seats: Vec<QueueSeat>,
 }
 
@@ -36,17 +39,29 @@ fn are_enough(queue: &Queue, count: usize) -> bool
     }
 }
 
-/// Room for the end of a queue by so many seats, where they are enough.
-pub(crate) fn room_for_end(alloc: Global, queue: &Queue, count: usize) -> Result<EndRoom, Trouble>
-    ensures room { IfOk result (HasAnyRoom queue.now count) }
+/// Room for what is left at an end of a queue by so many seats, where they are enough.
+pub(crate) fn rest_room(alloc: Global, queue: &Queue, count: usize) -> Result<RestRoom, Trouble>
+    ensures room { IfOk result (HasRest queue.now count) }
     ensures refused { IfErr result IsRoomless }
 {
     if !are_enough(queue, count) {
         return Err(Trouble::InUse);
     }
-    match (queue.room(alloc, count), Vec::with_capacity(alloc, count)) {
-        (Ok(rest), Ok(seats)) => Ok(EndRoom { rest, seats }),
-        _ => Err(Trouble::Refused(Refusal::Memory)),
+    match queue.room(alloc, count) {
+        Ok(rest) => Ok(rest),
+        Err(refusal) => Err(Trouble::Refused(refusal)),
+    }
+}
+
+/// Room for the end of a queue by so many seats, where they are enough.
+fn room_for_end(alloc: Global, queue: &Queue, count: usize) -> Result<EndRoom, Trouble>
+    ensures room { IfOk result (HasAnyRoom queue.now count) }
+    ensures refused { IfErr result IsRoomless }
+{
+    let rest = rest_room(alloc, queue, count)?;
+    match Vec::with_capacity(alloc, count) {
+        Ok(seats) => Ok(EndRoom { rest, seats }),
+        Err(_) => Err(Trouble::Refused(Refusal::Memory)),
     }
 }
 

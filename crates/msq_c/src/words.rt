@@ -1,9 +1,8 @@
-//! Values of three words and of one, as C passes and gets them.
+//! Values of three words, as C passes and gets them.
 ghost use Rattle.std.specs.Prelude.{◌≡◌};
 ghost use Rattle.carriers.specs.declared.items.ItemOf.{ItemOf};
-ghost use Rattle.msq_c.specs.Words.{item_of, bits_of};
+ghost use Rattle.msq_c.specs.Words.{item_of};
 
-use crate::values::MsqValue;
 use carriers::ItemOf;
 
 /// Three words, a value of a queue of words: a pointer, a key, or what a small struct has in its bytes.
@@ -43,14 +42,6 @@ fn words_of(front: ItemOf<MsqWords>) -> MsqItem
     }
 }
 
-// The 64 bits that were pushed, and who pushed them.
-fn word_of(front: ItemOf<u64>) -> MsqValue
-    ensures { result ≡ bits_of front }
-{
-    let ItemOf { value: body, from } = front;
-    MsqValue { body, from }
-}
-
 impl Item<MsqWords> for MsqItem {
     ghost told = { item_of };
 
@@ -58,15 +49,5 @@ impl Item<MsqWords> for MsqItem {
         ensures { result ≡ item_of front }
     {
         words_of(front)
-    }
-}
-
-impl Item<u64> for MsqValue {
-    ghost told = { bits_of };
-
-    fn of(front: ItemOf<u64>) -> MsqValue
-        ensures { result ≡ bits_of front }
-    {
-        word_of(front)
     }
 }

@@ -2,10 +2,11 @@
 ghost use Rattle.std.specs.Prelude.{◌≡◌, false};
 ghost use Rattle.msq_c.specs.Codes.{Tells, done_code};
 ghost use Rattle.msq_c.specs.NewWordsShares.{AnswersShares};
-ghost use Rattle.msq_c.specs.Calls.{AnswersLength, AnswersListen};
-ghost use Rattle.msq_c.specs.WordsCalls.{AnswersBegin, AnswersStep};
-ghost use Rattle.msq_c.specs.WordsShareEnds.{AreOfOne, AnswersClose};
-ghost use Rattle.msq_c.specs.WordsShares.{is_full, share_at};
+ghost use Rattle.msq_c.specs.Calls.{AnswersBegin, AnswersStep, AnswersLength, AnswersListen};
+ghost use Rattle.msq_c.specs.Passed.{of_words};
+ghost use Rattle.msq_c.specs.ShareEnds.{AreOfOne};
+ghost use Rattle.msq_c.specs.WordsShareEnds.{AnswersClose};
+ghost use Rattle.msq_c.specs.WordsShares.{is_full, block_at};
 
 use crate::call_words::{MsqAct, MsqCall};
 use crate::rests::MsqRest;
@@ -14,7 +15,8 @@ use crate::troubles::{Trouble, code};
 use crate::word_rests::written;
 use crate::words::{MsqItem, MsqWords};
 use crate::words_share_handles::MsqWordsShare;
-use crate::{new_words_shares, words_share_ends, words_shares};
+use crate::words_shares::{ForWordCount, WordsQueue};
+use crate::{new_shares, share_blocks, share_ends};
 use calls::Bell;
 use std::alloc::Global;
 
@@ -34,7 +36,7 @@ pub extern "C" fn msq_words_shares_create(
     ensures { Tells done_code result
         (AnswersShares kind capacity limit slots.old slots.new) }
 {
-    code(new_words_shares::create(alloc, kind, capacity, limit, slots))
+    code(new_shares::create::<WordsQueue, MsqWordsShare>(alloc, kind, capacity, limit, slots))
 }
 
 /// Begins a call: task 0 pushes the words, 1 pops, 2 shuts, and 3 and 4 end a sender and a receiver. One that tries never waits, and is
@@ -55,10 +57,12 @@ pub extern "C" fn msq_words_share_begin(
     //=   first if it never waits. The words are then the call's if it has any, and else stay; the call is laid down, with 0 as
     //=   its word, unless it is told. Refused exactly where the handle is empty, with `MSQ_NO_SEAT`, or there is no such
     //=   task, with `MSQ_BAD_SIZE`, and nothing changed.
-    ensures { Tells done_code result (AnswersBegin slot.old slot.new task tries
-        words.old words.new call.old call.new act.old act.new) }
+    ensures { Tells done_code result (AnswersBegin of_words is_full block_at
+        slot.old slot.new task tries words.old words.new call.old call.new act.old act.new) }
 {
-    code(words_shares::begin(alloc, slot, task, tries, words, call, act))
+    code(share_blocks::begin::<MsqWords, WordsQueue, MsqWords, MsqWordsShare>(
+        alloc, slot, task, tries, words, call, act,
+    ))
 }
 
 /// Makes the next steps of a call with these words, and tells what is to be done before the one after them. `past` is whether its time
@@ -76,10 +80,12 @@ pub extern "C" fn msq_words_call_step(
     //=   was stepped, with these words as its value, as by `msq_call_step`; the words are then the call's if it has any, and
     //=   else stay. Refused exactly where the handle is empty, with `MSQ_NO_SEAT`, or the numbers are no call, with
     //=   `MSQ_BAD_SIZE`, and nothing changed. `msq_call_give_up` gives it up.
-    ensures { Tells done_code result (AnswersStep slot.old slot.new words.old words.new
-        call.old call.new past act.old act.new) }
+    ensures { Tells done_code result (AnswersStep of_words is_full block_at
+        slot.old slot.new words.old words.new call.old call.new past act.old act.new) }
 {
-    code(words_shares::step(alloc, slot, words, call, past, act))
+    code(share_blocks::step::<MsqWords, WordsQueue, MsqWords, MsqWordsShare>(
+        alloc, slot, words, call, past, act,
+    ))
 }
 
 /// How many values the queue holds, never more than it has room for.
@@ -87,9 +93,10 @@ pub extern "C" fn msq_words_call_step(
 pub extern "C" fn msq_words_share_len(alloc: Global, slot: &mut MsqWordsShare, len: &mut u64) -> u32
     //= library/words_share_len: A length of a queue of three words told to C is no more than its room; refused `MSQ_NO_SEAT`
     //=   exactly where the handle is empty, with no change.
-    ensures { Tells done_code result (AnswersLength is_full share_at slot.old slot.new len.old len.new) }
+    ensures { Tells done_code result
+        (AnswersLength is_full block_at slot.old slot.new len.old len.new) }
 {
-    match words_shares::len(alloc, slot) {
+    match share_blocks::len::<WordsQueue, ForWordCount, MsqWordsShare>(alloc, slot) {
         Ok(found) => {
             *len = found;
             0
@@ -110,11 +117,16 @@ pub extern "C" fn msq_words_share_listen(
     //= library/words_share_listen: A handle of a queue of three words that listens from C tells as `msq_share_listen` does,
     //=   and keeps its seat.
     ensures { Tells done_code result
-        (AnswersListen is_full share_at slot.old slot.new task act.old act.new) }
+        (AnswersListen is_full block_at slot.old slot.new task act.old act.new) }
 {
     match task {
-        0 => code(words_shares::listen(alloc, slot, Bell::Room, act)),
-        1 => code(words_shares::listen(alloc, slot, Bell::Values, act)),
+        0 => code(share_blocks::listen::<WordsQueue, MsqWordsShare>(alloc, slot, Bell::Room, act)),
+        1 => code(share_blocks::listen::<WordsQueue, MsqWordsShare>(
+            alloc,
+            slot,
+            Bell::Values,
+            act,
+        )),
         _ => Trouble::BadSize.code(),
     }
 }
@@ -128,13 +140,13 @@ pub extern "C" fn msq_words_shares_close(
     items: &mut [MsqItem],
     rest: &mut MsqRest,
 ) -> u32
-    requires { AreOfOne slots.old }
+    requires { AreOfOne is_full block_at slots.old }
     //= library/words_shares_close: A queue of three words whose calls are stepped, ended from C, tells as `msq_shares_close`
     //=   does, and writes the words left, from the front, just as they were pushed, as many as have room.
     ensures { Tells done_code result
         (AnswersClose slots.old slots.new items.old items.new rest.old rest.new) }
 {
-    match words_share_ends::close(alloc, slots) {
+    match share_ends::close::<WordsQueue, MsqWordsShare>(alloc, slots) {
         Ok((found, _end)) => {
             *rest = written(found, items);
             0

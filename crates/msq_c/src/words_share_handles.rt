@@ -1,15 +1,18 @@
 //! A share of a queue of three words whose calls are stepped, behind a pointer, as C holds it.
 ghost use Rattle.std.specs.Prelude.{◌≡◌, Bool, true};
 ghost use Rattle.msq_c.specs.Boxed.{box_if};
-ghost use Rattle.msq_c.specs.declared.words_shares.WordsShareBlock.{WordsShareBlock};
-ghost use Rattle.msq_c.specs.contracts.words_shares.WordsShareBlock.{the_row};
+ghost use Rattle.msq_c.specs.ShareRows.{WordsShare, words_row};
 
 use crate::parts::Parts;
+use crate::share_blocks::ShareBlock;
 use crate::slots::Slot;
-use crate::words_shares::WordsShareBlock;
+use crate::words_shares::WordsQueue;
 use std::alloc::Global;
 use std::marker::Model;
 use std::ptr;
+
+/// A seat of a queue of three words, with its share.
+type WordsShare = ShareBlock<WordsQueue>;
 
 /// A pointer to a share, where it is full; it then owns the share's block.
 #[repr(C)]
@@ -17,11 +20,11 @@ use std::ptr;
 pub struct WordsShareHandle {
     at: *mut u8,
     ghost full: { Bool },
-    ghost value: { WordsShareBlock } by { the_row.coded },
+    ghost value: { WordsShare } by { words_row.coded },
 }
 
 impl Model for WordsShareHandle {
-    ghost also_owns = { λ h. box_if the_row h.full h.at h.value };
+    ghost also_owns = { λ h. box_if words_row h.full h.at h.value };
 }
 
 /// What C holds of a share of a queue of three words: a handle, and whether it is full. All zeros are an empty one.
@@ -33,7 +36,7 @@ pub struct MsqWordsShare {
     ghost tells: { handle.full ≡ full },
 }
 
-impl Slot<WordsShareBlock> for MsqWordsShare {
+impl Slot<WordsShare> for MsqWordsShare {
     ghost use Rattle.msq_c.specs.WordsShares.{is_full, block_at};
 
     ghost holds = { is_full };
@@ -53,16 +56,16 @@ impl Slot<WordsShareBlock> for MsqWordsShare {
         }
     }
 
-    fn into_parts(self, alloc: Global) -> Parts<WordsShareBlock, Global> {
+    fn into_parts(self, alloc: Global) -> Parts<WordsShare, Global> {
         let MsqWordsShare { handle, full: _ } = self;
         let WordsShareHandle { at } = handle;
         Parts {
-            ptr: at as *mut WordsShareBlock,
+            ptr: at as *mut WordsShare,
             alloc,
         }
     }
 
-    fn of_parts(parts: Parts<WordsShareBlock, Global>) -> MsqWordsShare
+    fn of_parts(parts: Parts<WordsShare, Global>) -> MsqWordsShare
         ensures value { block_at result ≡ parts.value }
         ensures full { is_full result ≡ true }
     {

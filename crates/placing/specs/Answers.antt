@@ -1,5 +1,5 @@
 -- What an answer says of a recorded history.
-use Rattle.std.specs.Prelude.{◌≡◌, ◌≤◌, ℕ, List, All, length}
+use Rattle.std.specs.Prelude.{◌≡◌, ◌<◌, ℕ, List, All, length}
 use Rattle.history.specs.declared.operations.Stamped.{Stamped}
 use Rattle.history.specs.declared.operations.Verdict.TheVariants.{Yes}
 use Rattle.history.specs.History.{verdict}
@@ -10,7 +10,6 @@ use Rattle.placing.specs.declared.answers.Unknown.TheVariants.{Room, Unplaced}
 use Rattle.placing.specs.declared.answers.Placed.{Placed}
 use Rattle.placing.specs.declared.answers.Placed.TheVariants.{History, Impossible, Open}
 use Rattle.placing.specs.SpreadStamps.{IsSpread}
-use Rattle.placing.specs.Orders.{IsOrder}
 use Rattle.placing.specs.Reasons.{IsReason}
 use Rattle.placing.specs.Faults.{IsFaultless}
 
@@ -22,10 +21,10 @@ IsAnswer ops (Impossible reason) = IsReason ops reason
 IsAnswer ops (Open cause) = All IsFaultless ops
 
 -- Why neither was found, by a search whose states may take so many bytes: those that are reached take as many or more, or the
--- history is one of a queue, but by the order that was found one of at most 2147483648 operations isn't.
+-- history is one of a queue, of more than 2147483648 operations.
 abbrev pub IsCause : List Stamped → (room : ℕ) → Unknown → Type 0
 IsCause ops room Room = TakesRoom ops room
-IsCause ops room Unplaced = IsOfQueue ops × (order : List ℕ) × (length ops ≤ 2147483648 → IsOrder ops order → ⊥)
+IsCause ops room Unplaced = IsOfQueue ops × (2147483648 < length ops)
 
 -- where an answer is open, it has its cause
 abbrev pub HasCause : List Stamped → (room : ℕ) → Placed → Type 0

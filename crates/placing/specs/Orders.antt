@@ -1,30 +1,8 @@
--- Orders in which a recorded history is one of a queue, and points for them.
-use Rattle.std.specs.Prelude.{◌≡◌, ◌≢◌, ◌⊎◌, ℕ, ◌+◌, ◌≤◌, ◌<◌, max, List, [], ◌∷◌, Option, None, Some, IfSome, All, AllPairs, length, replicate, slice_get, slice_set}
-use Rattle.std.specs.List.{Contains}
+-- Points for the orders in which a recorded history is one of a queue.
+use Rattle.std.specs.Prelude.{◌≡◌, ℕ, ◌+◌, ◌≤◌, max, List, [], ◌∷◌, Option, None, Some, IfSome, length, replicate, slice_get, slice_set}
 use Rattle.history.specs.declared.operations.Stamped.{Stamped}
-use Rattle.history.specs.History.{IsSequentialRun}
-use Rattle.history.specs.Linearizability.{IsPending, KeepsTime}
-use Rattle.history.specs.Queue.{empty}
 use Rattle.placing.specs.SpreadStamps.{IsFirstOf}
-
--- operations with one before them, where there is one
-abbrev pub with_found : Option Stamped → List Stamped → List Stamped
-with_found None ops = ops
-with_found (Some o) ops = o ∷ ops
-
--- the operations of a list at these indices
-abbrev pub picked : List Stamped → List ℕ → List Stamped
-picked ops [] = []
-picked ops (index ∷ indices) = with_found (slice_get ops index) (picked ops indices)
-
--- By this order of operations a history is one of a queue: each operation is in it once, but for pending ones left out, an
--- operation that ended before another began comes first, and the queue gives each reply.
-pub record IsOrder (ops : List Stamped) (order : List ℕ) : Type 0 where
-  pub there : All (λ index. index < length ops) order
-  pub once : AllPairs (λ i j. i ≢ j) order
-  pub only_pending_left_out : (index : ℕ) (o : Stamped) → slice_get ops index ≡ Some o → Contains order index ⊎ IsPending o
-  pub timely : KeepsTime (picked ops order)
-  pub runs : IsSequentialRun empty (picked ops order)
+pub use Rattle.waiting_orders.specs.Indexed.{with_found, picked, IsOrder}
 
 -- no operation of an order ended before a number, before it began, or before one began that comes before it
 abbrev pub NoneEndsTooSoon : List Stamped → (begun : ℕ) → List ℕ → Type 0

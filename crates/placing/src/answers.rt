@@ -58,8 +58,7 @@ pub enum Reason {
 pub enum Unknown {
     /// The states of the search took more room than they may.
     Room,
-    /// It is one of a queue, but the order that the search found got no points that `check` judges Yes: by it a history
-    /// of at most 2,147,483,648 operations isn't one.
+    /// It is one of a queue, of more than 2,147,483,648 operations, for which no points were found.
     Unplaced,
 }
 

@@ -49,8 +49,8 @@ pub fn place(alloc: Global, history: &[Stamped], room: u64) -> Result<Placed, Re
     //=   an operation that is wrong by itself. Or Memory.
     ensures answer { IfOk result (IsAnswer history.now) }
     //= judge/open: Open is told as `Room` only where states of the search, each reached from the start and listed once,
-    //=   take as many bytes as the room or more (`TakesRoom`); or as `Unplaced` of a history that is one of a queue, for
-    //=   want of points alone: by the order that was found a history of at most 2,147,483,648 operations isn't one.
+    //=   take as many bytes as the room or more (`TakesRoom`); or as `Unplaced` of a history of more than 2,147,483,648
+    //=   operations that is one of a queue.
     ensures cause { IfOk result (HasCause history.now room) }
     ensures only_memory { IfErr result (λ refusal. refusal ≡ Refusal.Memory) }
 {
@@ -83,10 +83,11 @@ fn sought(alloc: Global, history: &[Stamped], room: u64) -> Result<Placed, Refus
     }
 }
 
-// The history with points by an order, where it is one, of a history that is one of a queue.
+// The history with points by an order of it.
 fn by_order(alloc: Global, history: &[Stamped], order: &[usize]) -> Result<Placed, Refusal>
     requires all { All IsFaultless history.now }
     requires is_of_queue { IsOfQueue history.now }
+    requires order { IsOrder history.now order.now }
     ensures answer { IfOk result (IsAnswer history.now) }
     ensures cause { (room : ℕ) → IfOk result (HasCause history.now room) }
     ensures only_memory { IfErr result (λ refusal. refusal ≡ Refusal.Memory) }

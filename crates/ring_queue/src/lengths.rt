@@ -1,5 +1,6 @@
 //! How many values a ring holds, and whether it is empty, without taking anything.
-ghost use Rattle.ring_queue.specs.Seats.{KeepsName, KeepsSlots, known_of};
+ghost use Rattle.ring_queue.specs.PlacedSeats.{IsWordSeat};
+ghost use Rattle.ring_queue.specs.Seats.{IsAtRest, KeepsName, KeepsSlots, known_of};
 ghost use Rattle.ring_queue.specs.Queues.{IsNumberSeat, IsRingSeat};
 ghost use Rattle.node_arena.specs.Looks.{FoundSo};
 ghost use Rattle.ring_queue.specs.Lengths.{WasSoLong, LeavesPushes};
@@ -109,6 +110,30 @@ impl<T> RingQueue<T> {
         ensures slots { KeepsSlots seat.old seat.new }
         ensures name { KeepsName seat.old seat.new }
         //= ring/len (seat, name, long)
+        ensures long { WasSoLong (known_of seat.old) result (known_of seat.new) }
+    {
+        self.len_at_rest(seat)
+    }
+
+    /// How many values the ring holds, as `len` tells, of a ring whose values lie in their places. Takes no memory and doesn't wait.
+    pub fn len_words(&self, seat: &mut Seat<T>) -> Len
+        requires { IsWordSeat self.now seat.old }
+        ensures seat { IsWordSeat self.now seat.new }
+        //= ring/look_slots
+        ensures slots { KeepsSlots seat.old seat.new }
+        ensures name { KeepsName seat.old seat.new }
+        //= ring/len (seat, name, long)
+        ensures long { WasSoLong (known_of seat.old) result (known_of seat.new) }
+    {
+        self.len_at_rest(seat)
+    }
+
+    // How many values a ring holds, by a seat in no call.
+    fn len_at_rest(&self, seat: &mut Seat<T>) -> Len
+        requires { IsAtRest self.now.plan self.now.table.shared.table_id seat.old }
+        ensures seat { IsAtRest self.now.plan self.now.table.shared.table_id seat.new }
+        ensures slots { KeepsSlots seat.old seat.new }
+        ensures name { KeepsName seat.old seat.new }
         ensures long { WasSoLong (known_of seat.old) result (known_of seat.new) }
     {
         self.look_at_head(seat);

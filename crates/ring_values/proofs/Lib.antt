@@ -4,3 +4,5 @@ pub mod Popped
 pub mod Opened
 pub mod Closings
 pub mod Looked
+pub mod Fronts
+pub mod LearnedWords

@@ -4,6 +4,7 @@ use Rattle.std.specs.List.{All}
 use Rattle.std.proofs.lemmas.List.{length-map}
 use Rattle.std.proofs.lemmas.List.Elements.{All-nil, All-cons}
 use Rattle.std.proofs.lemmas.Option.{slice_get-map, none-some, same_Some}
+use Rattle.history.specs.Seats.{Permit}
 use Rattle.carriers.specs.Deeds.{own_deeds}
 use Rattle.carriers.specs.Knowledge.{KnownOf}
 use Rattle.ring_queue.specs.declared.queue.RingQueue.{RingQueue}
@@ -23,6 +24,19 @@ use Rattle.ring_values.specs.Queues.{ring_of, IsQueueSeat}
 all_places : {A : Type 0} (P : A → Type 0) (xs : List A) → ((k : ℕ) (x : A) → slice_get xs k ≡ Some x → P x) → All P xs
 all_places P [] h = All-nil P
 all_places P (x ∷ xs) h = All-cons P x xs (h 0 x refl) (all_places P xs (λ k y e. h (suc k) y e))
+
+-- seats that know nothing are those of a new queue
+module _ {S A : Type 0} (known : S → KnownOf A) (roles : List Role) (seats : List S) (each : (k : ℕ) (s : S) → slice_get seats k ≡ Some s → known s ≡ newcomer (k + 1)) where
+  new_at : (k : ℕ) (c : KnownOf A) (o : Option S) → slice_get seats k ≡ o → option_map known o ≡ Some c → c ≡ newcomer (k + 1)
+  new_at k c None e h = absurd (none-some c h)
+  new_at k c (Some s) e h = sym (same_Some (known s) c h) ∙ each k s e
+
+  pub all_new : (permits : List Permit) → permits ≡ permits_by roles → length seats ≡ length roles → AreNewOf permits (map known seats)
+  all_new permits made count =
+      record {
+        count = length-map seats known ∙ count ∙ sym (length-map roles permit_of) ∙ ap length (sym made);
+        each = λ k c e. new_at k c (slice_get seats k) refl (sym (slice_get-map known seats k) ∙ e);
+      }
 
 -- each seat of a new queue may begin a call, and has no slot
 pub made_seats : {T : Type 0} (most limit : ℕ) (roles : List Role) (q : RingValues T) (seats : List (Seat T))
@@ -44,14 +58,6 @@ module _ {T : Type 0} (most limit : ℕ) (roles : List Role) (r : RingQueue T) (
   knows_none : (n : ℕ) (s : Seat T) → IsDealt r.plan r.table.shared.table_id n s → known_by s ≡ newcomer n
   knows_none n s new = (λ i. record { number = (new.view i).number; seen = told [] (new.none_done i); mine = own_deeds (new.view i).number (told [] (new.none_done i)); notes = (new.view i).notes })
 
-  new_at : (k : ℕ) (c : KnownOf T) (o : Option (Seat T)) → slice_get seats k ≡ o → option_map known_by o ≡ Some c → c ≡ newcomer (k + 1)
-  new_at k c None e h = absurd (none-some c h)
-  new_at k c (Some s) e h = sym (same_Some (known_by s) c h) ∙ knows_none (k + 1) s (m.each k s e)
-
   -- and its seats are all that it has, none of which has made a call
   pub made_new : AreNewOf (permits_in r) (map known_by seats)
-  made_new =
-      record {
-        count = length-map seats known_by ∙ m.count ∙ sym (length-map roles permit_of) ∙ ap length (sym made_permits);
-        each = λ k c e. new_at k c (slice_get seats k) refl (sym (slice_get-map known_by seats k) ∙ e);
-      }
+  made_new = all_new known_by roles seats (λ k s e. knows_none (k + 1) s (m.each k s e)) (permits_in r) made_permits m.count

@@ -7,3 +7,5 @@ pub mod Pops
 pub mod Remains
 pub mod Ends
 pub mod Looks
+pub mod Words
+pub mod WordQueues

@@ -10,6 +10,7 @@ use Rattle.waiting_orders.specs.declared.boards.Board.{Board}
 use Rattle.waiting_orders.specs.declared.nodes.Node.{Node}
 use Rattle.waiting_orders.specs.Nodes.{Spot, IsIn, IsBoard, is_same, start, turned, view, views}
 use Rattle.waiting_orders.specs.Reached.{AreApart, IsReached, Leads, TakesRoom, size, sizes}
+use Rattle.waiting_orders.specs.Indexed.{indexed}
 use Rattle.waiting_orders.specs.Search.{HasNoRoom, IsCounted, IsFull, IsPut, WerePut}
 use Rattle.waiting_orders.proofs.Lists.{both_true, or_left, or_right}
 
@@ -60,12 +61,15 @@ pub none_in : (n : Node) (ns : List Node) → list_any (is_same n) ns ≡ false 
 none_in n ns e i = let f = in_any n ns i in cc (sym e ∙ f)
 
 -- a state that is none of those there goes last
-pub put_last : (n : Node) (ns after : List Node) → (IsIn (view n) (views ns) → ⊥) → after ≡ cond (list_any (is_same n) ns) ns (ns ++ n ∷ []) → views after ≡ views ns ++ view n ∷ []
-put_last n ns after off e = go (list_any (is_same n) ns) refl e
+pub put_node : (n : Node) (ns after : List Node) → (IsIn (view n) (views ns) → ⊥) → after ≡ cond (list_any (is_same n) ns) ns (ns ++ n ∷ []) → after ≡ ns ++ n ∷ []
+put_node n ns after off e = go (list_any (is_same n) ns) refl e
   where
-    go : (b : Bool) → list_any (is_same n) ns ≡ b → after ≡ cond b ns (ns ++ n ∷ []) → views after ≡ views ns ++ view n ∷ []
+    go : (b : Bool) → list_any (is_same n) ns ≡ b → after ≡ cond b ns (ns ++ n ∷ []) → after ≡ ns ++ n ∷ []
     go true f e = absurd (off (any_in n ns f))
-    go false f e = ap views e ∙ map-append view ns (n ∷ [])
+    go false f e = e
+
+pub put_last : (n : Node) (ns after : List Node) → (IsIn (view n) (views ns) → ⊥) → after ≡ cond (list_any (is_same n) ns) ns (ns ++ n ∷ []) → views after ≡ views ns ++ view n ∷ []
+put_last n ns after off e = ap views (put_node n ns after off e) ∙ map-append view ns (n ∷ [])
 
 -- ---- lists of states
 
@@ -182,10 +186,10 @@ module _ (others pushes : List Stamped) (us more : List Spot) (in_more : (u : Sp
 
 module _ (board : Board) where
   abbrev Reached : List Spot → Spot → Type 0
-  Reached us t = IsReached board.others.operations.items board.pushes.operations.items us t
+  Reached us t = IsReached board.others.items board.pushes.items us t
 
   abbrev Led : Spot → Spot → Type 0
-  Led s t = Leads board.others.operations.items board.pushes.operations.items s t
+  Led s t = Leads board.others.items board.pushes.items s t
 
   -- the last one of those ahead is put to those that were tried
   pub counted_put : (done ahead : List Spot) (s : Spot) (bytes : ℕ) → IsCounted board done (ahead ++ s ∷ []) bytes → IsCounted board (done ++ s ∷ []) ahead bytes
@@ -199,7 +203,7 @@ module _ (board : Board) where
   }
     where
       more : (ts : List Spot) → AllByRecursion (Reached done) ts → AllByRecursion (Reached (done ++ s ∷ [])) ts
-      more ts h = all_reached board.others.operations.items board.pushes.operations.items done (done ++ s ∷ []) (λ u i. in_front done (s ∷ []) u i) ts h
+      more ts h = all_reached board.others.items board.pushes.items done (done ++ s ∷ []) (λ u i. in_front done (s ∷ []) u i) ts h
 
   -- one is put ahead
   counted_one : (room : ℕ) (done ahead : List Spot) (bytes : ℕ) (s : Spot) (after : List Spot) (now : ℕ) (u : Spot) → IsIn u done → Led u s → IsPut room done ahead bytes s after now
@@ -228,7 +232,7 @@ module _ (board : Board) where
     states = all;
     apart = apart_both done (f.after ++ f.last ∷ []) c.done_apart (apart_more f.after f.last c.ahead_apart (λ k. f.unknown (in_behind done f.after f.last k)))
         (joined (λ u. IsIn u done → ⊥) f.after (f.last ∷ []) c.new ((λ k. f.unknown (in_front done f.after f.last k)), tt));
-    reached = all_reached board.others.operations.items board.pushes.operations.items done all (λ u i. in_front done (f.after ++ f.last ∷ []) u i) all
+    reached = all_reached board.others.items board.pushes.items done all (λ u i. in_front done (f.after ++ f.last ∷ []) u i) all
         (joined (Reached done) done (f.after ++ f.last ∷ []) c.done_reached (joined (Reached done) f.after (f.last ∷ []) c.ahead_reached (inr (u, i, last_led.0), tt)));
     many = (let a = sizes_both done (f.after ++ f.last ∷ []) in let b = sizes_both f.after (f.last ∷ []) in let d = c.few in let e = f.full in omega (arith, a, b, d, e));
   }
@@ -343,11 +347,11 @@ counted_ahead board done ahead rest node bytes e h = subst (λ l. IsCounted boar
 pub start_alone : (board : Board) (room bytes : ℕ) → bytes ≤ size start → room ≤ bytes → HasNoRoom board room
 start_alone board room bytes l fits = record { states = start ∷ []; apart = ((λ i. i), tt); reached = (inl refl, tt); many = omega (arith, l, fits) }
 
-pub takes_room : (ops : List Stamped) (board : Board) (room : ℕ) → IsBoard ops board → HasNoRoom board room → TakesRoom ops room
+pub takes_room : (ops : List Stamped) (board : Board) (room : ℕ) → IsBoard (indexed 0 ops) board → HasNoRoom board room → TakesRoom ops room
 takes_room ops board room is many =
     record {
-      others = board.others.operations.items;
-      pushes = board.pushes.operations.items;
+      others = board.others.items;
+      pushes = board.pushes.items;
       all = is.all;
       none_waits = is.others;
       each_waits = is.pushes;

@@ -1,8 +1,9 @@
 -- Of pushes alone, only the start is reached.
-use Rattle.std.proofs.Common.{◌≡◌, ℕ, ◌≤◌, true, false, inl, inr, List, [], ◌∷◌, ◌++◌, refl, sym, ap, ◌∙◌, subst, arith}
+use Rattle.std.proofs.Common.{◌≡◌, ℕ, suc, ◌≤◌, true, false, inl, inr, List, [], ◌∷◌, ◌++◌, refl, sym, ap, ◌∙◌, subst, arith}
 use Rattle.std.specs.List.{AllByRecursion}
 use Rattle.std.proofs.lemmas.Option.{none-some}
 use Rattle.history.specs.declared.operations.Stamped.{Stamped}
+use Rattle.waiting_orders.specs.Indexed.{indexed}
 use Rattle.waiting_orders.specs.Waiting.{waits}
 use Rattle.waiting_orders.specs.Nodes.{Spot, IsIn, start}
 use Rattle.waiting_orders.specs.Reached.{AreApart, AreTooMany, IsReached, TakesRoom, size, sizes}
@@ -28,9 +29,13 @@ none_goes : (others : List Stamped) → AllByRecursion (λ o. waits o ≡ false)
 none_goes [] a b = refl
 none_goes (o ∷ others) a b = absurd (cc (sym a.0 ∙ b.0))
 
+all_wait : (k : ℕ) (ops : List Stamped) → AllByRecursion (λ o. waits o ≡ true) ops → AllByRecursion (λ o. waits o ≡ true) (indexed k ops)
+all_wait k [] h = tt
+all_wait k (o ∷ ops) h = (h.0, all_wait (suc k) ops h.1)
+
 pub one_start : (ops : List Stamped) (room : ℕ) → AllByRecursion (λ o. waits o ≡ true) ops → TakesRoom ops room → room ≤ 160
 one_start ops room all t =
-    let each = all_moved (λ o. waits o ≡ true) ops (t.others ++ t.pushes) t.all all in
+    let each = all_moved (λ o. waits o ≡ true) (indexed 0 ops) (t.others ++ t.pushes) t.all (all_wait 0 ops all) in
     let none : t.others ≡ [] = none_goes t.others t.none_waits (all_first (λ o. waits o ≡ true) t.others t.pushes each) in
     let many : AreTooMany [] t.pushes room = subst (λ l. AreTooMany l t.pushes room) none t.many in
     let few : sizes many.states ≤ 160 = one_state many.states many.apart (reached_start t.pushes many.states many.states many.reached) in

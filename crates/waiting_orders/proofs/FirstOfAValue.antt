@@ -31,19 +31,19 @@ use Rattle.waiting_orders.proofs.GoingAlone.{all_by, empties_later, ends_true, f
 use Rattle.waiting_orders.proofs.Stepping.{all_left, each_step, each_told, max_least, push_out, value_fits, where_off, where_on}
 
 module _ (board : Board) (s : Spot) (f : Front) (ways : List Pick)
-    (limit : IsLimit (left_of board.others.operations.items s.others) f.limit)
-    (push_limit : IsLimit (left_of board.pushes.operations.items s.pushes) f.push_limit)
-    (ways_are : ArePicks board.others.operations.items s.others f.limit (view_picks ways))
-    (takes_are : ArePicks board.pushes.operations.items s.pushes f.push_limit (view_picks f.takes.items))
-    (takes_out : AreOut board.pushes.operations.items s.pushes (view_picks f.takes.items))
-    (ways_out : AreOut board.others.operations.items s.others (view_picks ways))
+    (limit : IsLimit (left_of board.others.items s.others) f.limit)
+    (push_limit : IsLimit (left_of board.pushes.items s.pushes) f.push_limit)
+    (ways_are : ArePicks board.others.items s.others f.limit (view_picks ways))
+    (takes_are : ArePicks board.pushes.items s.pushes f.push_limit (view_picks f.takes.items))
+    (takes_out : AreOut board.pushes.items s.pushes (view_picks f.takes.items))
+    (ways_out : AreOut board.others.items s.others (view_picks ways))
     (begin : AllByRecursion (BeginsLater f.empty) ways)
     (calls : AreCalls board) where
   abbrev os : List Stamped
-  os = left_of board.others.operations.items s.others
+  os = left_of board.others.items s.others
 
   abbrev ps : List Stamped
-  ps = left_of board.pushes.operations.items s.pushes
+  ps = left_of board.pushes.items s.pushes
 
   abbrev here : State
   here = state_of board s
@@ -52,19 +52,19 @@ module _ (board : Board) (s : Spot) (f : Front) (ways : List Pick)
   is_taken v take = may_be_taken f v take.operation
 
   abbrev made : List Spot
-  made = steps_to (length ways) board.pushes.operations.items s f ways
+  made = steps_to (length ways) board.pushes.items s f ways
 
   os_wait : AllByRecursion (λ o. waits o ≡ false) os
-  os_wait = all_left (λ o. waits o ≡ false) board.others.operations.items s.others calls.others
+  os_wait = all_left (λ o. waits o ≡ false) board.others.items s.others calls.others
 
   ps_wait : AllByRecursion (λ o. waits o ≡ true) ps
-  ps_wait = all_left (λ o. waits o ≡ true) board.pushes.operations.items s.pushes calls.pushes
+  ps_wait = all_left (λ o. waits o ≡ true) board.pushes.items s.pushes calls.pushes
 
   os_calls : AllByRecursion IsCall os
-  os_calls = all_left IsCall board.others.operations.items s.others calls.other_calls
+  os_calls = all_left IsCall board.others.items s.others calls.other_calls
 
   ps_calls : AllByRecursion IsCall ps
-  ps_calls = all_left IsCall board.pushes.operations.items s.pushes calls.push_calls
+  ps_calls = all_left IsCall board.pushes.items s.pushes calls.push_calls
 
   here_calls : AllByRecursion IsCall here.left
   here_calls = all_joined IsCall os ps os_calls ps_calls
@@ -131,7 +131,7 @@ module _ (board : Board) (s : Spot) (f : Front) (ways : List Pick)
     found : (k : ℕ) × (pick : Pick) × (slice_get f.takes.items k ≡ Some pick) × (pick.operation ≡ q)
     found =
         let out = push_out os ps q (o ∷ t.left) os_wait h.pushes.waits (IsPermutation-trans _ _ _ h.is (IsPermutation-middle (o ∷ []) q t.left)) in
-        let k = found_pick board.pushes.operations.items f.takes.items q out.0 (takes_are q out.0 out.1 (push_limit.needed q.first all_open)) in
+        let k = found_pick board.pushes.items f.takes.items q out.0 (takes_are q out.0 out.1 (push_limit.needed q.first all_open)) in
         (k.0, k.1, k.2, k.3)
 
     at_first : First (is_taken v) f.takes.items → OneEnds board n made
@@ -141,10 +141,10 @@ module _ (board : Board) (s : Spot) (f : Front) (ways : List Pick)
         p = m.pick.operation
 
         rest : List Stamped
-        rest = left_of board.pushes.operations.items (view_left m.pick.rest)
+        rest = left_of board.pushes.items (view_left m.pick.rest)
 
         p_out : IsPermutation ps (p ∷ rest)
-        p_out = pick_is board.pushes.operations.items s.pushes f.takes.items m.place m.pick takes_out m.there
+        p_out = pick_is board.pushes.items s.pushes f.takes.items m.place m.pick takes_out m.there
 
         out : IsPermutation here.left (p ∷ (os ++ rest))
         out = IsPermutation-trans _ _ _ (IsPermutation-append_right os ps (p ∷ rest) p_out) (IsPermutation-middle os p rest)
@@ -280,10 +280,10 @@ module _ (board : Board) (s : Spot) (f : Front) (ways : List Pick)
         p = m.pick.operation
 
         rest : List Stamped
-        rest = left_of board.others.operations.items (view_left m.pick.rest)
+        rest = left_of board.others.items (view_left m.pick.rest)
 
         p_out : IsPermutation os (p ∷ rest)
-        p_out = pick_is board.others.operations.items s.others ways m.place m.pick ways_out m.there
+        p_out = pick_is board.others.items s.others ways m.place m.pick ways_out m.there
 
         out : IsPermutation here.left (p ∷ (rest ++ ps))
         out = IsPermutation-append os (p ∷ rest) ps ps p_out (IsPermutation-refl _)
@@ -362,7 +362,7 @@ module _ (board : Board) (s : Spot) (f : Front) (ways : List Pick)
                           (all_by (λ o. o.reply ≡ Some Empty → 0 ≤ o.first) os (λ o rest is empty. omega arith)),
                     )
                 by false e c =
-                    (p.first, at_number p.first (omega arith) (omega arith) (empties_later board.others.operations.items s.others f ways ways_are begin p.first may_p.1 c))
+                    (p.first, at_number p.first (omega arith) (omega arith) (empties_later board.others.items s.others f ways ways_are begin p.first may_p.1 c))
 
         go : ((k : ℕ) × (slice_get (o ∷ q ∷ []) k ≡ Some p) × IsPermutation (rest ++ ps) (without k (o ∷ q ∷ []) ++ t.left)) ⊎ ((ms : List Stamped) × IsPermutation t.left (p ∷ ms) × IsPermutation (rest ++ ps) (o ∷ q ∷ ms))
             → OneEnds board n made

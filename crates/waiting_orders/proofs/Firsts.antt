@@ -44,18 +44,18 @@ record May (reply : Option Reply) (s : State) (time : ℕ) : Type 0 where
   until : time ≤ max s.time number
 
 module _ (board : Board) (s : Spot) (f : Front) (way : Pick) (calls : AreCalls board)
-    (limit : IsLimit (left_of board.others.operations.items s.others) f.limit) (push_limit : IsLimit (left_of board.pushes.operations.items s.pushes) f.push_limit) where
+    (limit : IsLimit (left_of board.others.items s.others) f.limit) (push_limit : IsLimit (left_of board.pushes.items s.pushes) f.push_limit) where
   abbrev others : List Stamped
-  others = left_of board.others.operations.items s.others
+  others = left_of board.others.items s.others
 
   abbrev pushes : List Stamped
-  pushes = left_of board.pushes.operations.items s.pushes
+  pushes = left_of board.pushes.items s.pushes
 
   other_calls : AllByRecursion IsCall others
-  other_calls = all_left IsCall board.others.operations.items s.others calls.other_calls
+  other_calls = all_left IsCall board.others.items s.others calls.other_calls
 
   push_calls : AllByRecursion IsCall pushes
-  push_calls = all_left IsCall board.pushes.operations.items s.pushes calls.push_calls
+  push_calls = all_left IsCall board.pushes.items s.pushes calls.push_calls
 
   may : (reply : Option Reply) (op : Op) → is_first reply op s f way ≡ true → May reply (state_of board s) (quiet_time reply s way)
   may None op e = absurd cc
@@ -75,13 +75,13 @@ module _ (board : Board) (s : Spot) (f : Front) (way : Pick) (calls : AreCalls b
   may (Some Empty) Shut e = absurd cc
   may (Some (Refused refusal)) op e = record { number = 0; quiet = e; ongoing = open_at_zero (others ++ pushes); until = le_max_left s.time 0 }
 
-  goes : IsPermutation others (way.operation ∷ left_of board.others.operations.items (view_left way.rest)) → is_first way.operation.reply way.operation.op s f way ≡ true → (new : List Spot)
+  goes : IsPermutation others (way.operation ∷ left_of board.others.items (view_left way.rest)) → is_first way.operation.reply way.operation.op s f way ≡ true → (new : List Spot)
       → new ≡ quiet_at s (Some way) → HasSteps board s new
   goes is e new made again n h =
       let m = may way.operation.reply way.operation.op e in
-      let t : State = record { left = left_of board.others.operations.items (view_left way.rest) ++ pushes; shut = s.shut; time = quiet_time way.operation.reply s way } in
-      let other = (all_moved (λ o. waits o ≡ false) others (way.operation ∷ left_of board.others.operations.items (view_left way.rest)) is
-      (all_left (λ o. waits o ≡ false) board.others.operations.items s.others calls.others)).0 in
+      let t : State = record { left = left_of board.others.items (view_left way.rest) ++ pushes; shut = s.shut; time = quiet_time way.operation.reply s way } in
+      let other = (all_moved (λ o. waits o ≡ false) others (way.operation ∷ left_of board.others.items (view_left way.rest)) is
+      (all_left (λ o. waits o ≡ false) board.others.items s.others calls.others)).0 in
       inr (
         t,
         subst (λ us. Among board us t) (sym made) (inl (record { left = IsPermutation-refl _; shut = refl; time = omega arith })),
@@ -89,7 +89,7 @@ module _ (board : Board) (s : Spot) (f : Front) (way : Pick) (calls : AreCalls b
             (record {
               quiet = m.quiet;
               other = other;
-              is = IsPermutation-append_left pushes others (way.operation ∷ left_of board.others.operations.items (view_left way.rest)) is;
+              is = IsPermutation-append_left pushes others (way.operation ∷ left_of board.others.items (view_left way.rest)) is;
               calls = all_joined IsCall others pushes other_calls push_calls;
               ongoing = m.ongoing;
               same = refl;
@@ -105,10 +105,10 @@ pick_is ops left (x ∷ ways) (suc at) way h e = pick_is ops left ways at way h.
 
 -- where an operation that changes nothing may go first, the state behind it is enough
 pub quiet_steps : (board : Board) (s : Spot) (f : Front) (ways : List Pick) (at : ℕ) (new : List Spot)
-    → IsLimit (left_of board.others.operations.items s.others) f.limit → IsLimit (left_of board.pushes.operations.items s.pushes) f.push_limit
-    → AreOut board.others.operations.items s.others (view_picks ways) → is_first_at s f (slice_get ways at) ≡ true → new ≡ quiet_at s (slice_get ways at) → HasSteps board s new
+    → IsLimit (left_of board.others.items s.others) f.limit → IsLimit (left_of board.pushes.items s.pushes) f.push_limit
+    → AreOut board.others.items s.others (view_picks ways) → is_first_at s f (slice_get ways at) ≡ true → new ≡ quiet_at s (slice_get ways at) → HasSteps board s new
 quiet_steps board s f ways at new limit push_limit are first made = go (slice_get ways at) refl first made
   where
     go : (x : Option Pick) → slice_get ways at ≡ x → is_first_at s f x ≡ true → new ≡ quiet_at s x → HasSteps board s new
     go None e first made = absurd cc
-    go (Some way) e first made = λ calls. goes board s f way calls limit push_limit (pick_is board.others.operations.items s.others ways at way are e) first new made calls
+    go (Some way) e first made = λ calls. goes board s f way calls limit push_limit (pick_is board.others.items s.others ways at way are e) first new made calls

@@ -163,31 +163,31 @@ empties_later ops left f ways picks begin number ongoing c = all_by (λ o. o.rep
     go o rest is false e empty = between number o.first f.limit ongoing e
 
 module _ (board : Board) (s : Spot) (f : Front) (ways : List Pick) (way take : Pick) (calls : AreCalls board)
-    (limit : IsLimit (left_of board.others.operations.items s.others) f.limit)
-    (picks : ArePicks board.others.operations.items s.others f.limit (view_picks ways))
+    (limit : IsLimit (left_of board.others.items s.others) f.limit)
+    (picks : ArePicks board.others.items s.others f.limit (view_picks ways))
     (begin : AllByRecursion (BeginsLater f.empty) ways)
-    (way_is : IsPermutation (left_of board.others.operations.items s.others) (way.operation ∷ left_of board.others.operations.items (view_left way.rest)))
-    (take_is : IsPermutation (left_of board.pushes.operations.items s.pushes) (take.operation ∷ left_of board.pushes.operations.items (view_left take.rest))) where
+    (way_is : IsPermutation (left_of board.others.items s.others) (way.operation ∷ left_of board.others.items (view_left way.rest)))
+    (take_is : IsPermutation (left_of board.pushes.items s.pushes) (take.operation ∷ left_of board.pushes.items (view_left take.rest))) where
   abbrev others : List Stamped
-  others = left_of board.others.operations.items s.others
+  others = left_of board.others.items s.others
 
   abbrev pushes : List Stamped
-  pushes = left_of board.pushes.operations.items s.pushes
+  pushes = left_of board.pushes.items s.pushes
 
   abbrev os : List Stamped
-  os = left_of board.others.operations.items (view_left way.rest)
+  os = left_of board.others.items (view_left way.rest)
 
   abbrev ps : List Stamped
-  ps = left_of board.pushes.operations.items (view_left take.rest)
+  ps = left_of board.pushes.items (view_left take.rest)
 
   abbrev number : ℕ
   number = take_time s way take
 
-  all_others : (P : Stamped → Type 0) → AllByRecursion P board.others.operations.items → AllByRecursion P others
-  all_others P h = all_left P board.others.operations.items s.others h
+  all_others : (P : Stamped → Type 0) → AllByRecursion P board.others.items → AllByRecursion P others
+  all_others P h = all_left P board.others.items s.others h
 
-  all_pushes : (P : Stamped → Type 0) → AllByRecursion P board.pushes.operations.items → AllByRecursion P pushes
-  all_pushes P h = all_left P board.pushes.operations.items s.pushes h
+  all_pushes : (P : Stamped → Type 0) → AllByRecursion P board.pushes.items → AllByRecursion P pushes
+  all_pushes P h = all_left P board.pushes.items s.pushes h
 
   to_os : (P : Stamped → Type 0) → AllByRecursion P others → AllByRecursion P (way.operation ∷ os)
   to_os P h = all_moved P others (way.operation ∷ os) way_is h
@@ -215,7 +215,7 @@ module _ (board : Board) (s : Spot) (f : Front) (ways : List Pick) (way take : P
   abbrev behind : State
   behind = record { left = os ++ ps; shut = s.shut; time = number }
 
-  module _ (v : Taken) (got : Got v way.operation) (h : MayGoAlone v board.others.operations.items board.pushes.operations.items s f way take) where
+  module _ (v : Taken) (got : Got v way.operation) (h : MayGoAlone v board.others.items board.pushes.items s f way take) where
     -- others that are left had not ended before the number
     still : AllByRecursion (IsOpenAt number) others
     still = limit.enough (all_others IsCall calls.other_calls) number h.ongoing
@@ -227,7 +227,7 @@ module _ (board : Board) (s : Spot) (f : Front) (ways : List Pick) (way take : P
     ps_open n = all_where (IsOpenAt n) (λ x. not (waits x)) ps (not_waits ps ps_wait.1)
 
     calm : is_open_at number f.empty ≡ true → AllByRecursion (λ o. o.reply ≡ Some Empty → number ≤ o.first) others
-    calm c = empties_later board.others.operations.items s.others f ways picks begin number h.ongoing c
+    calm c = empties_later board.others.items s.others f ways picks begin number h.ongoing c
 
     push_by : take.operation.first ≤ number
     push_by = le_max_right (max s.time way.operation.first) take.operation.first
@@ -263,28 +263,28 @@ module _ (board : Board) (s : Spot) (f : Front) (ways : List Pick) (way take : P
             (0, alone_at_number 0 (omega arith) (all_by (λ o. o.reply ≡ Some Empty → 0 ≤ o.first) others (λ o rest is empty. omega arith)) (omega (arith, late, most)))
         by false e c = (number, alone_at_number number (omega arith) (calm c) (le_max_right s.time number))
 
-  goes : IsAloneOf (told way.operation.op way.operation.reply) board.others.operations.items board.pushes.operations.items s f way take → (n : ℕ) × GoesAlone n (state_of board s) behind
+  goes : IsAloneOf (told way.operation.op way.operation.reply) board.others.items board.pushes.items s f way take → (n : ℕ) × GoesAlone n (state_of board s) behind
   goes h = by (told way.operation.op way.operation.reply) refl h
     where
-      by : (x : Option Taken) → told way.operation.op way.operation.reply ≡ x → IsAloneOf x board.others.operations.items board.pushes.operations.items s f way take → (n : ℕ) × GoesAlone n (state_of board s) behind
+      by : (x : Option Taken) → told way.operation.op way.operation.reply ≡ x → IsAloneOf x board.others.items board.pushes.items s f way take → (n : ℕ) × GoesAlone n (state_of board s) behind
       by None e h = absurd h
       by (Some v) e h = alone v (told_got v way.operation e) h
 
 -- where a pop goes alone, the state behind it is enough
 pub alone_steps : (board : Board) (s : Spot) (f : Front) (ways : List Pick) (way take : ℕ) (new : List Spot)
-    → IsLimit (left_of board.others.operations.items s.others) f.limit → ArePicks board.others.operations.items s.others f.limit (view_picks ways)
-    → AreOut board.others.operations.items s.others (view_picks ways) → AreOut board.pushes.operations.items s.pushes (view_picks f.takes.items)
+    → IsLimit (left_of board.others.items s.others) f.limit → ArePicks board.others.items s.others f.limit (view_picks ways)
+    → AreOut board.others.items s.others (view_picks ways) → AreOut board.pushes.items s.pushes (view_picks f.takes.items)
     → AllByRecursion (BeginsLater f.empty) ways
-    → IsAloneAt board.others.operations.items board.pushes.operations.items s f (slice_get ways way) (slice_get f.takes.items take)
+    → IsAloneAt board.others.items board.pushes.items s f (slice_get ways way) (slice_get f.takes.items take)
     → new ≡ alone_at s (slice_get ways way) (slice_get f.takes.items take) → HasSteps board s new
 alone_steps board s f ways way take new limit picks ways_out takes_out begin h made = go (slice_get ways way) (slice_get f.takes.items take) refl refl h made
   where
-    go : (x y : Option Pick) → slice_get ways way ≡ x → slice_get f.takes.items take ≡ y → IsAloneAt board.others.operations.items board.pushes.operations.items s f x y → new ≡ alone_at s x y → HasSteps board s new
+    go : (x y : Option Pick) → slice_get ways way ≡ x → slice_get f.takes.items take ≡ y → IsAloneAt board.others.items board.pushes.items s f x y → new ≡ alone_at s x y → HasSteps board s new
     go None y a b h made = absurd h
     go (Some w) None a b h made = absurd h
     go (Some w) (Some p) a b h made = λ calls n ends.
-        let way_is = pick_is board.others.operations.items s.others ways way w ways_out a in
-        let take_is = pick_is board.pushes.operations.items s.pushes f.takes.items take p takes_out b in
+        let way_is = pick_is board.others.items s.others ways way w ways_out a in
+        let take_is = pick_is board.pushes.items s.pushes f.takes.items take p takes_out b in
         let t : State = behind board s f ways w p calls limit picks begin way_is take_is in
         let g = goes board s f ways w p calls limit picks begin way_is take_is h in
         inr (

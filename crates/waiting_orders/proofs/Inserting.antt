@@ -1,21 +1,17 @@
 -- Operations that are put into an order where they keep time, and values that pushes put into a queue.
-use Rattle.std.proofs.Common.{◌≡◌, ◌⊎◌, inl, inr, append_assoc, ℕ, ◌≤◌, ◌<◌, Bool, true, false, nat_le, Option, None, Some, IfSome, List, [], ◌∷◌, ◌++◌, refl, sym, ap, subst, arith}
+use Rattle.std.proofs.Common.{◌≡◌, ◌⊎◌, inl, inr, append_assoc, ℕ, ◌≤◌, ◌<◌, Bool, true, false, nat_le, Option, None, Some, IfSome, List, [], ◌∷◌, ◌++◌, refl, sym, ap, ◌∙◌, subst, arith}
 use Rattle.std.specs.List.{AllByRecursion}
-use Rattle.std.specs.List.Sorted.{IsPermutation}
 use Rattle.std.proofs.lemmas.Bool.{leb-true, leb-false}
-use Rattle.std.proofs.lemmas.List.Sorted.{IsPermutation-refl, IsPermutation-sym, IsPermutation-cons, IsPermutation-trans, IsPermutation-middle}
 use Rattle.history.specs.declared.operations.Taken.{Taken}
 use Rattle.history.specs.declared.operations.Op.{Op}
 use Rattle.history.specs.declared.operations.Op.TheVariants.{Enq, Deq, Shut}
 use Rattle.history.specs.declared.operations.Reply.{Reply}
 use Rattle.history.specs.declared.operations.Reply.TheVariants.{Done, Value, Empty, Refused}
 use Rattle.history.specs.declared.operations.Stamped.{Stamped}
-use Rattle.history.specs.declared.refusals.Refusal.{Refusal}
 use Rattle.history.specs.Queue.{Queue}
-use Rattle.history.specs.History.{leaves, answer}
+use Rattle.history.specs.History.{answer, AgreesWithQueue, IsSequentialRun}
 use Rattle.history.specs.Linearizability.{Answered, operations_of, GivesRecordedReply, MayComeBefore, KeepsTime, IsRun}
 use Rattle.waiting_orders.specs.Waiting.{IsCall, IsOpenAt, waits}
-use Rattle.waiting_orders.proofs.Futures.{all_moved}
 use Rattle.waiting_orders.proofs.Lists.{all_weaker}
 
 -- ---- lists
@@ -81,70 +77,57 @@ ended_between number time (Some last) a b = by (nat_le time last) refl
 pub began_before : (time : ℕ) (o : Stamped) → IsCall o → (IsOpenAt time o → ⊥) → o.first ≤ time
 began_before time o call ended = ended_between o.first time o.last call.spans ended
 
--- ---- a push is put among pushes
-
--- the same operations with one more, which keep time
-pub record With (o : Stamped) (os : List Stamped) : Type 0 where
-  pub list : List Stamped
-  pub is : IsPermutation list (o ∷ os)
-  pub timely : KeepsTime list
-
-pub with_one : (o : Stamped) (os : List Stamped) → IsCall o → AllByRecursion IsCall os → KeepsTime os → With o os
-with_one o [] call calls timely = record { list = o ∷ []; is = IsPermutation-refl _; timely = (tt, tt) }
-with_one o (p ∷ os) call calls timely = go (open_or_not p.first o) (with_one o os call calls.1 timely.1)
-  where
-    go : MayComeBefore p o ⊎ (MayComeBefore p o → ⊥) → With o os → With o (p ∷ os)
-    go (inl h) m = record {
-      list = p ∷ m.list;
-      is = IsPermutation-trans _ _ _ (IsPermutation-cons p m.list (o ∷ os) m.is) (IsPermutation-middle (p ∷ []) o os);
-      timely = (all_moved (MayComeBefore p) (o ∷ os) m.list (IsPermutation-sym m.list (o ∷ os) m.is) (h, timely.0), m.timely);
-    }
-    go (inr ended) m = let h = began_before p.first o call ended in record {
-      list = o ∷ p ∷ os;
-      is = IsPermutation-refl _;
-      timely = ((sooner_open o.first p.first h p calls.0.spans, all_sooner_open o.first p.first h os timely.0), timely);
-    }
-
--- ---- what was refused for something else than a shut is put into a run
-
 abbrev pub given : Stamped → Reply → Answered
 given o reply = record { operation = o; reply = reply }
 
--- a run with one operation more
-pub record RunWith (o : Stamped) (queue : Queue) (rest : List Answered) : Type 0 where
-  pub order : List Answered
-  pub is : IsPermutation (operations_of order) (o ∷ operations_of rest)
-  pub replies : AllByRecursion GivesRecordedReply order
-  pub timely : KeepsTime (operations_of order)
-  pub runs : IsRun queue order
+-- whether a reply is a refusal
+abbrev pub is_refusal : Reply → Bool
+is_refusal Done = false
+is_refusal (Value v) = false
+is_refusal Empty = false
+is_refusal (Refused refusal) = true
 
-pub run_with : (o : Stamped) (refusal : Refusal) → o.reply ≡ Some (Refused refusal) → leaves refusal ≡ true → IsCall o → (queue : Queue) (rest : List Answered) → AllByRecursion IsCall (operations_of rest)
-    → AllByRecursion GivesRecordedReply rest → KeepsTime (operations_of rest) → IsRun queue rest → RunWith o queue rest
-run_with o refusal told left call queue [] calls replies timely runs = record {
-  order = given o (Refused refusal) ∷ [];
-  is = IsPermutation-refl _;
-  replies = (subst (λ r. IfSome r (λ told. Refused refusal ≡ told)) (sym told) refl, tt);
-  timely = (tt, tt);
-  runs = (inl left, tt);
-}
-run_with o refusal told left call queue (a ∷ rest) calls replies timely runs =
-    go (open_or_not a.operation.first o) (run_with o refusal told left call (answer queue a.operation (Some a.reply)).after rest calls.1 replies.1 timely.1 runs.1)
+-- an operation was told a reply, or nothing where that isn't a refusal
+abbrev pub MayGive : Stamped → Reply → Type 0
+MayGive o reply = (o.reply ≡ Some reply) ⊎ ((o.reply ≡ None) × (is_refusal reply ≡ false))
+
+abbrev pub Gives : Answered → Type 0
+Gives a = MayGive a.operation a.reply
+
+pub may_give : (o : Stamped) (reply : Reply) → is_refusal reply ≡ false → IfSome o.reply (λ told. reply ≡ told) → MayGive o reply
+may_give o reply e h = go o.reply h
   where
-    go : MayComeBefore a.operation o ⊎ (MayComeBefore a.operation o → ⊥) → RunWith o (answer queue a.operation (Some a.reply)).after rest → RunWith o queue (a ∷ rest)
-    go (inl h) m = record {
-      order = a ∷ m.order;
-      is = IsPermutation-trans _ _ _ (IsPermutation-cons a.operation (operations_of m.order) (o ∷ operations_of rest) m.is) (IsPermutation-middle (a.operation ∷ []) o (operations_of rest));
-      replies = (replies.0, m.replies);
-      timely = (all_moved (MayComeBefore a.operation) (o ∷ operations_of rest) (operations_of m.order) (IsPermutation-sym (operations_of m.order) (o ∷ operations_of rest) m.is) (h, timely.0), m.timely);
-      runs = (runs.0, m.runs);
-    }
-    go (inr ended) m = let h = began_before a.operation.first o call ended in record {
-      order = given o (Refused refusal) ∷ a ∷ rest;
-      is = IsPermutation-refl _;
-      replies = (subst (λ r. IfSome r (λ told. Refused refusal ≡ told)) (sym told) refl, replies);
-      timely = ((sooner_open o.first a.operation.first h a.operation calls.0.spans, all_sooner_open o.first a.operation.first h (operations_of rest) timely.0), timely);
-      runs = (inl left, runs);
-    }
+    go : (told : Option Reply) → IfSome told (λ told. reply ≡ told) → (told ≡ Some reply) ⊎ ((told ≡ None) × (is_refusal reply ≡ false))
+    go None h = inr (refl, e)
+    go (Some told) h = inl (ap Some (sym h))
+
+pub gives_recorded : (order : List Answered) → AllByRecursion Gives order → AllByRecursion GivesRecordedReply order
+gives_recorded [] h = tt
+gives_recorded (a ∷ order) h = (one h.0, gives_recorded order h.1)
+  where
+    one : Gives a → GivesRecordedReply a
+    one (inl e) = subst (λ r. IfSome r (λ told. a.reply ≡ told)) (sym e) refl
+    one (inr e) = subst (λ r. IfSome r (λ told. a.reply ≡ told)) (sym e.0) tt
+
+-- a run is one of what was told
+pub runs_told : (queue : Queue) (order : List Answered) → AllByRecursion Gives order → IsRun queue order → IsSequentialRun queue (operations_of order)
+runs_told queue [] h runs = tt
+runs_told queue (a ∷ order) h runs =
+    (agrees h.0, subst (λ q. IsSequentialRun q (operations_of order)) (after h.0) (runs_told (answer queue a.operation (Some a.reply)).after order h.1 runs.1))
+  where
+    agrees : Gives a → AgreesWithQueue queue a.operation a.operation.reply
+    agrees (inl e) = subst (AgreesWithQueue queue a.operation) (sym e) runs.0
+    agrees (inr e) = subst (AgreesWithQueue queue a.operation) (sym e.0) tt
+
+    same : (reply : Reply) → is_refusal reply ≡ false → (answer queue a.operation (Some reply)).after ≡ (answer queue a.operation None).after
+    same Done e = refl
+    same (Value v) e = refl
+    same Empty e = refl
+    same (Refused refusal) e = absurd cc
+
+    after : Gives a → (answer queue a.operation (Some a.reply)).after ≡ (answer queue a.operation a.operation.reply).after
+    after (inl e) = ap (λ r. (answer queue a.operation r).after) (sym e)
+    after (inr e) = same a.reply e.1 ∙ ap (λ r. (answer queue a.operation r).after) (sym e.0)
 
 -- ---- pushes have their effects
 
@@ -189,9 +172,9 @@ one_told actor first last at (Enq body) (Some (Refused refusal)) w = absurd cc
 one_told actor first last at Deq reply w = absurd cc
 one_told actor first last at Shut reply w = absurd cc
 
-pub pushes_told : (ps : List Stamped) (rest : List Answered) → AllByRecursion (λ p. waits p ≡ true) ps → AllByRecursion GivesRecordedReply rest → AllByRecursion GivesRecordedReply (pushed ps rest)
+pub pushes_told : (ps : List Stamped) (rest : List Answered) → AllByRecursion (λ p. waits p ≡ true) ps → AllByRecursion Gives rest → AllByRecursion Gives (pushed ps rest)
 pushes_told [] rest w h = h
-pushes_told (p ∷ ps) rest w h = (one_told p.actor p.first p.last p.at p.op p.reply w.0, pushes_told ps rest w.1 h)
+pushes_told (p ∷ ps) rest w h = (may_give p Done refl (one_told p.actor p.first p.last p.at p.op p.reply w.0), pushes_told ps rest w.1 h)
 
 pub pushes_run : (ps : List Stamped) (vs : List Taken) (rest : List Answered) → AllByRecursion (λ p. waits p ≡ true) ps → IsRun (record { values = vs ++ values_of ps; shut = false }) rest
     → IsRun (record { values = vs; shut = false }) (pushed ps rest)

@@ -28,8 +28,15 @@ pub mod Needed
 mod Inserting
 mod Replies
 mod Ordering
+mod Merging
 mod Walking
 pub mod EndingWalks
 mod Passing
 pub mod GoingOn
 pub mod Coming
+pub mod Gone
+pub mod Rooted
+pub mod Reading
+pub mod Listing
+pub mod Relabelled
+pub mod Indices

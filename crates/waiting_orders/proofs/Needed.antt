@@ -191,35 +191,35 @@ module _ (board : Board) where
           among_right board (pending_to n s f ways) _ t (subst (λ k. Among board (pending_at s f ways (slice_get ways k)) t) same h)
 
 module _ (board : Board) (s : Spot) (f : Front) (ways behind : List Pick)
-    (limit : IsLimit (left_of board.others.operations.items s.others) f.limit)
-    (push_limit : IsLimit (left_of board.pushes.operations.items s.pushes) f.push_limit)
-    (ways_are : ArePicks board.others.operations.items s.others f.limit (view_picks ways))
-    (ways_out : AreOut board.others.operations.items s.others (view_picks ways))
-    (takes_are : ArePicks board.pushes.operations.items s.pushes f.push_limit (view_picks f.takes.items))
-    (takes_out : AreOut board.pushes.operations.items s.pushes (view_picks f.takes.items))
+    (limit : IsLimit (left_of board.others.items s.others) f.limit)
+    (push_limit : IsLimit (left_of board.pushes.items s.pushes) f.push_limit)
+    (ways_are : ArePicks board.others.items s.others f.limit (view_picks ways))
+    (ways_out : AreOut board.others.items s.others (view_picks ways))
+    (takes_are : ArePicks board.pushes.items s.pushes f.push_limit (view_picks f.takes.items))
+    (takes_out : AreOut board.pushes.items s.pushes (view_picks f.takes.items))
     (begin : AllByRecursion (BeginsLater f.empty) ways)
-    (behind_are : none_pending ways ≡ false → ArePicks board.pushes.operations.items s.pushes f.limit (view_picks behind))
+    (behind_are : none_pending ways ≡ false → ArePicks board.pushes.items s.pushes f.limit (view_picks behind))
     (calls : AreCalls board) where
   abbrev os : List Stamped
-  os = left_of board.others.operations.items s.others
+  os = left_of board.others.items s.others
 
   abbrev ps : List Stamped
-  ps = left_of board.pushes.operations.items s.pushes
+  ps = left_of board.pushes.items s.pushes
 
   abbrev here : State
   here = state_of board s
 
   os_wait : AllByRecursion (λ o. waits o ≡ false) os
-  os_wait = all_left (λ o. waits o ≡ false) board.others.operations.items s.others calls.others
+  os_wait = all_left (λ o. waits o ≡ false) board.others.items s.others calls.others
 
   ps_wait : AllByRecursion (λ o. waits o ≡ true) ps
-  ps_wait = all_left (λ o. waits o ≡ true) board.pushes.operations.items s.pushes calls.pushes
+  ps_wait = all_left (λ o. waits o ≡ true) board.pushes.items s.pushes calls.pushes
 
   ps_calls : AllByRecursion IsCall ps
-  ps_calls = all_left IsCall board.pushes.operations.items s.pushes calls.push_calls
+  ps_calls = all_left IsCall board.pushes.items s.pushes calls.push_calls
 
   here_calls : AllByRecursion IsCall here.left
-  here_calls = all_joined IsCall os ps (all_left IsCall board.others.operations.items s.others calls.other_calls) ps_calls
+  here_calls = all_joined IsCall os ps (all_left IsCall board.others.items s.others calls.other_calls) ps_calls
 
   open_by_limit : (number : ℕ) → AllByRecursion (OtherIsOpen number) here.left → is_open_at number f.limit ≡ true
   open_by_limit number h = limit.needed number (others_open number os os_wait (all_first (OtherIsOpen number) os ps h))
@@ -236,7 +236,7 @@ module _ (board : Board) (s : Spot) (f : Front) (ways behind : List Pick)
   not_free p number e some h Deq (Some Done) w = absurd w
   not_free p number e some h Deq (Some (Value v)) w =
       let g = push_out os ps w.push w.there.rest os_wait w.pushes.waits w.there.is in
-      let k = found_pick board.pushes.operations.items behind w.push g.0 (behind_are some w.push g.0 g.1 (sooner_open w.push.first number w.began h)) in
+      let k = found_pick board.pushes.items behind w.push g.0 (behind_are some w.push g.0 g.1 (sooner_open w.push.first number w.began h)) in
       let shut : is_open_at w.push.first f.push_limit ≡ false = subst (λ last. is_open_at w.push.first last ≡ false) e (not_open w.push.first p.last w.behind) in
       let one : is_behind f.push_limit v k.1 ≡ true = subst (λ q. (fits v q && not (is_open_at q.first f.push_limit)) ≡ true) (sym k.3) (both_true _ _ (value_fits v w.push w.pushes) (ap not shut)) in
       fails_at (λ push. not (is_behind f.push_limit v push)) behind k.0 k.1 k.2 (ap not one)
@@ -261,7 +261,7 @@ module _ (board : Board) (s : Spot) (f : Front) (ways behind : List Pick)
   needed p e some h =
       let o = h.pop in
       let g = other_out os ps o h.there.rest ps_wait (way_pops p h.number o.op o.reply h.way) h.there.is in
-      let k = found_pick board.others.operations.items ways o g.0 (ways_are o g.0 g.1 (sooner_open o.first h.number h.began h.ongoing)) in
+      let k = found_pick board.others.items ways o g.0 (ways_are o g.0 g.1 (sooner_open o.first h.number h.began h.ongoing)) in
       let free : is_free s.shut f.push_limit behind k.1.operation.op k.1.operation.reply ≡ false =
       subst (λ q. is_free s.shut f.push_limit behind q.op q.reply ≡ false) (sym k.3) (not_free p h.number e some h.ongoing o.op o.reply h.way) in
       let ended : is_some f.push_limit ≡ true = ap is_some (sym e) ∙ way_ended p h.number o.op o.reply h.way in
@@ -331,16 +331,16 @@ module _ (board : Board) (s : Spot) (f : Front) (ways behind : List Pick)
       go (inl none) = absurd (cc (sym none ∙ some))
       go (inr l) =
           let o = l.pick.operation in
-          let out = IsPermutation-append_left ps os (o ∷ left_of board.others.operations.items (view_left l.pick.rest)) (pick_is board.others.operations.items s.others ways l.place l.pick ways_out l.there) in
+          let out = IsPermutation-append_left ps os (o ∷ left_of board.others.items (view_left l.pick.rest)) (pick_is board.others.items s.others ways l.place l.pick ways_out l.there) in
           let is = pending_op o.op o.reply l.pending in
-          instead l (stand d p o here t (left_of board.others.operations.items (view_left l.pick.rest) ++ ps) x.is out (deq_waits o is.0) wait)
+          instead l (stand d p o here t (left_of board.others.items (view_left l.pick.rest) ++ ps) x.is out (deq_waits o is.0) wait)
 
-  all_needed : (new : List Spot) → new ≡ steps_to (length ways) board.pushes.operations.items s f ways ++ pending_of s f behind ways
+  all_needed : (new : List Spot) → new ≡ steps_to (length ways) board.pushes.items s f ways ++ pending_of s f behind ways
       → (n : ℕ) → CanEnd (suc n) here → IsEnd here ⊎ OneEnds board n new
   all_needed new e n h = by (at_limit ps f.push_limit push_limit ps_calls)
     where
       told : List Spot
-      told = steps_to (length ways) board.pushes.operations.items s f ways
+      told = steps_to (length ways) board.pushes.items s f ways
 
       other_goes : (t : State) → (x : Step here t) → is_pending_pop x.operation.op x.operation.reply ≡ false → CanEnd n t → OneEnds board n new
       other_goes t x none c =
@@ -396,10 +396,10 @@ module _ (board : Board) (s : Spot) (f : Front) (ways behind : List Pick)
 
 -- where a state can be placed to the end, one of those that are made can be
 pub needed_steps : (board : Board) (s : Spot) (f : Front) (ways behind : List Pick) (new : List Spot)
-    → IsLimit (left_of board.others.operations.items s.others) f.limit → IsLimit (left_of board.pushes.operations.items s.pushes) f.push_limit
-    → ArePicks board.others.operations.items s.others f.limit (view_picks ways) → AreOut board.others.operations.items s.others (view_picks ways)
-    → ArePicks board.pushes.operations.items s.pushes f.push_limit (view_picks f.takes.items) → AreOut board.pushes.operations.items s.pushes (view_picks f.takes.items)
-    → AllByRecursion (BeginsLater f.empty) ways → (none_pending ways ≡ false → ArePicks board.pushes.operations.items s.pushes f.limit (view_picks behind))
-    → new ≡ steps_to (length ways) board.pushes.operations.items s f ways ++ pending_of s f behind ways → HasSteps board s new
+    → IsLimit (left_of board.others.items s.others) f.limit → IsLimit (left_of board.pushes.items s.pushes) f.push_limit
+    → ArePicks board.others.items s.others f.limit (view_picks ways) → AreOut board.others.items s.others (view_picks ways)
+    → ArePicks board.pushes.items s.pushes f.push_limit (view_picks f.takes.items) → AreOut board.pushes.items s.pushes (view_picks f.takes.items)
+    → AllByRecursion (BeginsLater f.empty) ways → (none_pending ways ≡ false → ArePicks board.pushes.items s.pushes f.limit (view_picks behind))
+    → new ≡ steps_to (length ways) board.pushes.items s f ways ++ pending_of s f behind ways → HasSteps board s new
 needed_steps board s f ways behind new limit push_limit ways_are ways_out takes_are takes_out begin behind_are e calls =
     all_needed board s f ways behind limit push_limit ways_are ways_out takes_are takes_out begin behind_are calls new e

@@ -1,5 +1,5 @@
 -- What the queue answers to an operation that goes, by the operation's call and its reply.
-use Rattle.std.proofs.Common.{◌≡◌, ◌⊎◌, inl, inr, Bool, true, false, Option, None, Some, IfSome, List, [], ◌∷◌, refl, sym, subst}
+use Rattle.std.proofs.Common.{◌≡◌, inl, inr, Bool, true, false, Option, None, Some, IfSome, List, [], ◌∷◌, refl, sym, ◌∙◌, subst}
 use Rattle.history.specs.declared.operations.Taken.{Taken}
 use Rattle.history.specs.declared.operations.Op.{Op}
 use Rattle.history.specs.declared.operations.Op.TheVariants.{Enq, Deq, Shut}
@@ -10,60 +10,33 @@ use Rattle.history.specs.declared.refusals.Refusal.{Refusal}
 use Rattle.history.specs.declared.refusals.Refusal.TheVariants.{Closed}
 use Rattle.history.specs.Queue.{Queue, response}
 use Rattle.history.specs.Linearizability.{Answered, IsRun}
-use Rattle.waiting_orders.specs.Waiting.{waits, is_push, State, Takes, FindsEmpty, IsLeft, IsTold, IsToldDrained, Shuts, HasEffect, GetsRefused}
+use Rattle.waiting_orders.specs.declared.walks.Went.{Went}
+use Rattle.waiting_orders.specs.Waiting.{waits, is_push, State, Takes, IsLeft, IsTold, Shuts, HasEffect, GetsRefused}
+use Rattle.waiting_orders.specs.Orders.{MayBeTold, IsTimed, DoesOther, Does, Moves, Goes}
 use Rattle.waiting_orders.proofs.Inserting.{given}
 
 -- ---- the effects that there are
 
--- an operation was told nothing, or this reply
-abbrev pub MayBeTold : Reply → Stamped → Type 0
-MayBeTold reply o = IfSome o.reply (λ told. reply ≡ told)
+-- the push whose value an operation takes, if it takes one
+abbrev pub WithPush : Stamped → (s t : State) → Type 0
+WithPush o s t = (taken : Option Stamped) × Does o taken s t
 
--- what an operation does, with its call and its reply
-pub record DoesTake (o : Stamped) (s t : State) : Type 0 where
-  pub op : o.op ≡ Deq
-  pub value : Taken
-  pub told : MayBeTold (Value value) o
-  pub effect : Takes value o s t
+-- a call that is none of a pop
+no_pop : (op : Op) {o : Op} → o ≡ op → (op ≡ Deq → ⊥) → o ≡ Deq → ⊥
+no_pop op e n f = n (sym e ∙ f)
 
-pub record DoesEmpty (o : Stamped) (s t : State) : Type 0 where
-  pub op : o.op ≡ Deq
-  pub told : o.reply ≡ Some Empty
-  pub effect : FindsEmpty o s t
+module _ (o : Stamped) (s t : State) (timed : IsTimed o s t) where
+  takes : (v : Taken) → o.op ≡ Deq → MayBeTold (Value v) o → Takes v o s t → WithPush o s t
+  takes v e f h = (Some h.push, inl (timed, record { op = e; value = v; told = f; effect = h; push = refl }))
 
-pub record DoesShut (o : Stamped) (s t : State) : Type 0 where
-  pub op : o.op ≡ Shut
-  pub told : MayBeTold Done o
-  pub effect : Shuts o s t
+  other : DoesOther o s t → WithPush o s t
+  other d = (None, inr (inl (timed, d, refl)))
 
--- a push or a shut that was told that the queue is shut
-pub record DoesTell (o : Stamped) (s t : State) : Type 0 where
-  pub told : o.reply ≡ Some (Refused Closed)
-  pub answers : (queue : Queue) → queue.shut ≡ true → Refused Closed ≡ (response o.actor o.op queue).reply
-  pub effect : IsTold o s t
+  shuts : o.op ≡ Shut → MayBeTold Done o → Shuts o s t → WithPush o s t
+  shuts e f h = other (inr (inl (record { op = e; told = f; effect = h })))
 
-pub record DoesDrain (o : Stamped) (s t : State) : Type 0 where
-  pub op : o.op ≡ Deq
-  pub told : o.reply ≡ Some (Refused Closed)
-  pub effect : IsToldDrained o s t
-
-pub record DoesLeave (o : Stamped) (s t : State) : Type 0 where
-  pub refusal : Refusal
-  pub told : o.reply ≡ Some (Refused refusal)
-  pub effect : IsLeft refusal o s t
-
-abbrev pub Does : Stamped → (s t : State) → Type 0
-Does o s t = DoesTake o s t ⊎ (DoesEmpty o s t ⊎ (DoesShut o s t ⊎ (DoesTell o s t ⊎ (DoesDrain o s t ⊎ DoesLeave o s t))))
-
-module _ (o : Stamped) (s t : State) where
-  takes : (v : Taken) → o.op ≡ Deq → MayBeTold (Value v) o → Takes v o s t → Does o s t
-  takes v e f h = inl (record { op = e; value = v; told = f; effect = h })
-
-  shuts : o.op ≡ Shut → MayBeTold Done o → Shuts o s t → Does o s t
-  shuts e f h = inr (inr (inl (record { op = e; told = f; effect = h })))
-
-  aside : (refusal : Refusal) → o.reply ≡ Some (Refused refusal) → IsLeft refusal o s t → Does o s t
-  aside refusal f h = inr (inr (inr (inr (inr (record { refusal = refusal; told = f; effect = h })))))
+  aside : (refusal : Refusal) → o.reply ≡ Some (Refused refusal) → IsLeft refusal o s t → WithPush o s t
+  aside refusal f h = (None, inr (inr (record { refusal = refusal; told = f; effect = h }, refl)))
 
   -- a reply that an operation was told, or none
   told_so : (reply : Reply) (told : Option Reply) → o.reply ≡ told → IfSome told (λ told. reply ≡ told) → MayBeTold reply o
@@ -72,29 +45,18 @@ module _ (o : Stamped) (s t : State) where
   closed_reply : (refusal : Refusal) → refusal ≡ Closed → o.reply ≡ Some (Refused refusal) → o.reply ≡ Some (Refused Closed)
   closed_reply refusal c f = subst (λ r. o.reply ≡ Some (Refused r)) c f
 
-  push_answers : (body : _) → o.op ≡ Enq body → (queue : Queue) → queue.shut ≡ true → Refused Closed ≡ (response o.actor o.op queue).reply
-  push_answers body e queue shut = subst (λ op. Refused Closed ≡ (response o.actor op queue).reply) (sym e) (by queue.shut shut)
-    where
-      by : (b : Bool) → b ≡ true → Refused Closed ≡ (response o.actor (Enq body) (record queue { shut = b })).reply
-      by true h = refl
-      by false h = absurd cc
+  tells : (refusal : Refusal) → refusal ≡ Closed → (o.op ≡ Deq → ⊥) → o.reply ≡ Some (Refused refusal) → IsTold o s t → WithPush o s t
+  tells refusal c n f h = other (inr (inr (inl (record { other = n; told = closed_reply refusal c f; effect = h }))))
 
-  shut_answers : o.op ≡ Shut → (queue : Queue) → queue.shut ≡ true → Refused Closed ≡ (response o.actor o.op queue).reply
-  shut_answers e queue shut = subst (λ op. Refused Closed ≡ (response o.actor op queue).reply) (sym e) (by queue.shut shut)
-    where
-      by : (b : Bool) → b ≡ true → Refused Closed ≡ (response o.actor Shut (record queue { shut = b })).reply
-      by true h = refl
-      by false h = absurd cc
-
-  refused : (op : Op) (refusal : Refusal) → o.op ≡ op → o.reply ≡ Some (Refused refusal) → GetsRefused refusal op o s t → Does o s t
+  refused : (op : Op) (refusal : Refusal) → o.op ≡ op → o.reply ≡ Some (Refused refusal) → GetsRefused refusal op o s t → WithPush o s t
   refused (Enq body) refusal e f (inl h) = aside refusal f h
-  refused (Enq body) refusal e f (inr h) = inr (inr (inr (inl (record { told = closed_reply refusal h.0 f; answers = push_answers body e; effect = h.1 }))))
+  refused (Enq body) refusal e f (inr h) = tells refusal h.0 (no_pop (Enq body) e (λ k. cc k)) f h.1
   refused Shut refusal e f (inl h) = aside refusal f h
-  refused Shut refusal e f (inr h) = inr (inr (inr (inl (record { told = closed_reply refusal h.0 f; answers = shut_answers e; effect = h.1 }))))
+  refused Shut refusal e f (inr h) = tells refusal h.0 (no_pop Shut e (λ k. cc k)) f h.1
   refused Deq refusal e f (inl h) = aside refusal f h
-  refused Deq refusal e f (inr h) = inr (inr (inr (inr (inl (record { op = e; told = closed_reply refusal h.0 f; effect = h.1 })))))
+  refused Deq refusal e f (inr h) = other (inr (inr (inr (record { op = e; told = closed_reply refusal h.0 f; effect = h.1 }))))
 
-  does : (op : Op) (reply : Option Reply) → o.op ≡ op → o.reply ≡ reply → HasEffect op reply o s t → Does o s t
+  does : (op : Op) (reply : Option Reply) → o.op ≡ op → o.reply ≡ reply → HasEffect op reply o s t → WithPush o s t
   does (Enq body) None e f h = absurd h
   does Deq None e f h = takes h.0 e (told_so (Value h.0) None f tt) h.1
   does Shut None e f h = shuts e (told_so Done None f tt) h
@@ -105,14 +67,47 @@ module _ (o : Stamped) (s t : State) where
   does Deq (Some (Value v)) e f h = takes v e (told_so (Value v) (Some (Value v)) f refl) h
   does Shut (Some (Value v)) e f h = absurd h
   does (Enq body) (Some Empty) e f h = absurd h
-  does Deq (Some Empty) e f h = inr (inl (record { op = e; told = f; effect = h }))
+  does Deq (Some Empty) e f h = other (inl (record { op = e; told = f; effect = h }))
   does Shut (Some Empty) e f h = absurd h
   does (Enq body) (Some (Refused refusal)) e f h = refused (Enq body) refusal e f h
   does Deq (Some (Refused refusal)) e f h = refused Deq refusal e f h
   does Shut (Some (Refused refusal)) e f h = refused Shut refusal e f h
 
-  pub it_does : HasEffect o.op o.reply o s t → Does o s t
+  it_does : HasEffect o.op o.reply o s t → WithPush o s t
   it_does h = does o.op o.reply refl refl h
+
+-- what goes is one operation, with the push whose value it takes
+pub record WentSo (s t : State) : Type 0 where
+  pub went : Went
+  pub moves : Moves went s t
+
+pub went_so : (s t : State) → Goes s t → WentSo s t
+went_so s t (inl h) =
+    let d = it_does h.operation s t (record { began = h.began; ongoing = h.ongoing }) h.effect in
+    record { went = record { other = h.operation; push = d.0; time = t.time }; moves = record { time = refl; since = h.since; does = d.1 } }
+went_so s t (inr h) =
+    record {
+      went = record { other = h.operation; push = None; time = t.time };
+      moves = record { time = refl; since = h.since; does = inr (inr (record { refusal = h.refusal; told = h.told; effect = h.effect }, refl)) };
+    }
+
+-- ---- what a queue that is shut tells
+
+pub tell_answers : (o : Stamped) → (o.op ≡ Deq → ⊥) → (queue : Queue) → queue.shut ≡ true → Refused Closed ≡ (response o.actor o.op queue).reply
+tell_answers o n queue shut = go o.op refl
+  where
+    push : (body : _) (b : Bool) → b ≡ true → Refused Closed ≡ (response o.actor (Enq body) (record queue { shut = b })).reply
+    push body true h = refl
+    push body false h = absurd cc
+
+    second : (b : Bool) → b ≡ true → Refused Closed ≡ (response o.actor Shut (record queue { shut = b })).reply
+    second true h = refl
+    second false h = absurd cc
+
+    go : (op : Op) → o.op ≡ op → Refused Closed ≡ (response o.actor op queue).reply
+    go (Enq body) e = push body queue.shut shut
+    go Deq e = absurd (n e)
+    go Shut e = second queue.shut shut
 
 -- ---- none of these waits as a push
 

@@ -247,17 +247,17 @@ where_on false A e h = absurd cc
 -- ---- each step
 
 module _ (board : Board) (s : Spot) (f : Front) (ways : List Pick) (calls : AreCalls board)
-    (limit : IsLimit (left_of board.others.operations.items s.others) f.limit)
-    (push_limit : IsLimit (left_of board.pushes.operations.items s.pushes) f.push_limit)
-    (ways_are : ArePicks board.others.operations.items s.others f.limit (view_picks ways))
-    (takes_are : ArePicks board.pushes.operations.items s.pushes f.push_limit (view_picks f.takes.items))
+    (limit : IsLimit (left_of board.others.items s.others) f.limit)
+    (push_limit : IsLimit (left_of board.pushes.items s.pushes) f.push_limit)
+    (ways_are : ArePicks board.others.items s.others f.limit (view_picks ways))
+    (takes_are : ArePicks board.pushes.items s.pushes f.push_limit (view_picks f.takes.items))
     (t : State) (o : Stamped) (since : s.time ≤ t.time) (started : o.first ≤ t.time) (ongoing : AllByRecursion (OtherIsOpen t.time) (state_of board s).left)
     (other : waits o ≡ false) where
   abbrev all_others : List Stamped
-  all_others = board.others.operations.items
+  all_others = board.others.items
 
   abbrev all_pushes : List Stamped
-  all_pushes = board.pushes.operations.items
+  all_pushes = board.pushes.items
 
   abbrev os : List Stamped
   os = left_of all_others s.others
@@ -546,21 +546,21 @@ module _ (board : Board) (s : Spot) (f : Front) (ways : List Pick) (calls : AreC
 
 -- each step of an operation that is no pending pop and was told no value leads to one of those that are made
 pub each_step : (board : Board) (s : Spot) (f : Front) (ways : List Pick)
-    → IsLimit (left_of board.others.operations.items s.others) f.limit → IsLimit (left_of board.pushes.operations.items s.pushes) f.push_limit
-    → ArePicks board.others.operations.items s.others f.limit (view_picks ways) → ArePicks board.pushes.operations.items s.pushes f.push_limit (view_picks f.takes.items)
+    → IsLimit (left_of board.others.items s.others) f.limit → IsLimit (left_of board.pushes.items s.pushes) f.push_limit
+    → ArePicks board.others.items s.others f.limit (view_picks ways) → ArePicks board.pushes.items s.pushes f.push_limit (view_picks f.takes.items)
     → AreCalls board → (t : State) (h : Step (state_of board s) t) → is_pending_pop h.operation.op h.operation.reply ≡ false → told h.operation.op h.operation.reply ≡ None
-    → Among board (steps_to (length ways) board.pushes.operations.items s f ways) t
+    → Among board (steps_to (length ways) board.pushes.items s f ways) t
 each_step board s f ways limit push_limit ways_are takes_are calls t h e g =
     one_placed board s f ways calls limit push_limit ways_are takes_are t h.operation h.since h.began h.ongoing
     (no_push h.operation.op h.operation.reply h.operation (state_of board s) t h.effect) e g h.effect
 
 -- a pop in turn that takes a push of the value that it was told, and none of it is before that one, leads to one of those that are made
 pub each_told : (board : Board) (s : Spot) (f : Front) (ways : List Pick)
-    → IsLimit (left_of board.others.operations.items s.others) f.limit → IsLimit (left_of board.pushes.operations.items s.pushes) f.push_limit
-    → ArePicks board.others.operations.items s.others f.limit (view_picks ways) → ArePicks board.pushes.operations.items s.pushes f.push_limit (view_picks f.takes.items)
+    → IsLimit (left_of board.others.items s.others) f.limit → IsLimit (left_of board.pushes.items s.pushes) f.push_limit
+    → ArePicks board.others.items s.others f.limit (view_picks ways) → ArePicks board.pushes.items s.pushes f.push_limit (view_picks f.takes.items)
     → AreCalls board → (v : Taken) (o : Stamped) (t : State) → s.time ≤ t.time → o.first ≤ t.time → AllByRecursion (OtherIsOpen t.time) (state_of board s).left
     → o.op ≡ Deq → o.reply ≡ Some (Value v) → is_in_turn s f ways o ≡ true → (h : Takes v o (state_of board s) t) → suits f (Some v) h.push ≡ true
-    → Among board (steps_to (length ways) board.pushes.operations.items s f ways) t
+    → Among board (steps_to (length ways) board.pushes.items s f ways) t
 each_told board s f ways limit push_limit ways_are takes_are calls v o t since began ongoing op reply turn h fit =
     let no : waits o ≡ false = subst (λ op. is_push op o.reply ≡ false) (sym op) refl in
     told_placed board s f ways calls limit push_limit ways_are takes_are t o since began ongoing no v op reply turn h fit
@@ -574,8 +574,8 @@ pub record TakenBy (board : Board) (s : Spot) (f : Front) (ways : List Pick) (ch
   pub among : Among board (takes_to (length f.takes.items) chosen s f pick) t
 
 pub each_take : (board : Board) (s : Spot) (f : Front) (ways : List Pick)
-    → IsLimit (left_of board.others.operations.items s.others) f.limit → IsLimit (left_of board.pushes.operations.items s.pushes) f.push_limit
-    → ArePicks board.others.operations.items s.others f.limit (view_picks ways) → ArePicks board.pushes.operations.items s.pushes f.push_limit (view_picks f.takes.items)
+    → IsLimit (left_of board.others.items s.others) f.limit → IsLimit (left_of board.pushes.items s.pushes) f.push_limit
+    → ArePicks board.others.items s.others f.limit (view_picks ways) → ArePicks board.pushes.items s.pushes f.push_limit (view_picks f.takes.items)
     → AreCalls board → (chosen : Stamped → Bool) (d p : Stamped) (t : State) → Pops d p (state_of board s) t → chosen p ≡ true → TakenBy board s f ways chosen d t
 each_take board s f ways limit push_limit ways_are takes_are calls chosen d p t x fit =
     let no : waits d ≡ false = subst (λ op. is_push op d.reply ≡ false) (sym x.op) refl in
@@ -584,11 +584,11 @@ each_take board s f ways limit push_limit ways_are takes_are calls chosen d p t 
     record { place = k.place; pick = k.pick; there = k.there; is = k.is; among = k.among }
 
 -- an end is one where no other that is left ended
-pub unended : (board : Board) (s : Spot) → AreCalls board → IsEnd (state_of board s) → AllByRecursion (λ o. o.last ≡ None) (left_of board.others.operations.items s.others)
+pub unended : (board : Board) (s : Spot) → AreCalls board → IsEnd (state_of board s) → AllByRecursion (λ o. o.last ≡ None) (left_of board.others.items s.others)
 unended board s calls h =
-    let others = left_of board.others.operations.items s.others in
-    untold_unended others (all_left IsCall board.others.operations.items s.others calls.other_calls)
-    (go others (all_left (λ o. waits o ≡ false) board.others.operations.items s.others calls.others) (all_first OtherIsUntold others (left_of board.pushes.operations.items s.pushes) h))
+    let others = left_of board.others.items s.others in
+    untold_unended others (all_left IsCall board.others.items s.others calls.other_calls)
+    (go others (all_left (λ o. waits o ≡ false) board.others.items s.others calls.others) (all_first OtherIsUntold others (left_of board.pushes.items s.pushes) h))
   where
     go : (xs : List Stamped) → AllByRecursion (λ o. waits o ≡ false) xs → AllByRecursion OtherIsUntold xs → AllByRecursion IsUntold xs
     go [] w h = tt

@@ -104,13 +104,13 @@ begins board = record { start = inl (record { left = IsPermutation-refl _; shut 
 -- so where nothing is left to try, the history is not one of a queue
 pub nothing_left : (ops : List Stamped) (board : Board) (done : List Spot) → IsBoard ops board → Searched board done [] → IsOfQueue ops → ⊥
 nothing_left ops board done is h q =
-    let all = board.others.operations.items ++ board.pushes.operations.items in
+    let all = board.others.items ++ board.pushes.items in
     let each = all_moved IsCall ops all is.all (recursion_from_All IsCall ops q.calls) in
     let calls : AreCalls board = record {
       others = is.others;
       pushes = is.pushes;
-      other_calls = all_first IsCall board.others.operations.items board.pushes.operations.items each;
-      push_calls = all_second IsCall board.others.operations.items board.pushes.operations.items each;
+      other_calls = all_first IsCall board.others.items board.pushes.items each;
+      push_calls = all_second IsCall board.others.items board.pushes.items each;
     } in
     let w = walks ops (state_of board start) (record { all = is.all; unshut = refl; time = refl }) q in
     let none : done ++ [] ≡ done = append-nil done in

@@ -7,3 +7,7 @@ pub mod Reached
 pub mod Search
 pub mod Pending
 pub mod Orders
+pub mod Listed
+pub mod Walked
+pub mod Indexed
+pub mod Listing

@@ -47,19 +47,19 @@ start = record { others = record { kept = []; from = 0 }; pushes = record { kept
 
 -- the state that this is of a history with these operations
 abbrev pub state_of : Board → Spot → State
-state_of board s = record { left = left_of board.others.operations.items s.others ++ left_of board.pushes.operations.items s.pushes; shut = s.shut; time = s.time }
+state_of board s = record { left = left_of board.others.items s.others ++ left_of board.pushes.items s.pushes; shut = s.shut; time = s.time }
 
 -- both lists of operations are by first numbers
 pub record AreRising (board : Board) : Type 0 where
-  pub others : IsRising board.others.operations.items
-  pub pushes : IsRising board.pushes.operations.items
+  pub others : IsRising board.others.items
+  pub pushes : IsRising board.pushes.items
 
 -- the operations of a history: those that wait as pushes, and the others, each by first numbers
 pub record IsBoard (ops : List Stamped) (board : Board) : Type 0 where
   pub rising : AreRising board
-  pub all : IsPermutation ops (board.others.operations.items ++ board.pushes.operations.items)
-  pub others : AllByRecursion (λ o. waits o ≡ false) board.others.operations.items
-  pub pushes : AllByRecursion (λ o. waits o ≡ true) board.pushes.operations.items
+  pub all : IsPermutation ops (board.others.items ++ board.pushes.items)
+  pub others : AllByRecursion (λ o. waits o ≡ false) board.others.items
+  pub pushes : AllByRecursion (λ o. waits o ≡ true) board.pushes.items
 
 -- ---- steps
 
@@ -336,10 +336,10 @@ Among board (u ∷ us) t = Same t (state_of board u) ⊎ Among board us t
 
 -- operations of calls, of which those that wait as pushes stand apart
 pub record AreCalls (board : Board) : Type 0 where
-  pub others : AllByRecursion (λ o. waits o ≡ false) board.others.operations.items
-  pub pushes : AllByRecursion (λ o. waits o ≡ true) board.pushes.operations.items
-  pub other_calls : AllByRecursion IsCall board.others.operations.items
-  pub push_calls : AllByRecursion IsCall board.pushes.operations.items
+  pub others : AllByRecursion (λ o. waits o ≡ false) board.others.items
+  pub pushes : AllByRecursion (λ o. waits o ≡ true) board.pushes.items
+  pub other_calls : AllByRecursion IsCall board.others.items
+  pub push_calls : AllByRecursion IsCall board.pushes.items
 
 -- one of these can be placed to the end within so many steps
 abbrev pub OneEnds : Board → ℕ → List Spot → Type 0
@@ -351,7 +351,7 @@ HasSteps board s new = AreCalls board → (n : ℕ) → CanEnd (suc n) (state_of
 
 -- the same of a history with these operations
 abbrev pub HasStepsOver : (others pushes : List Stamped) → Spot → List Spot → Type 0
-HasStepsOver others pushes s new = (board : Board) → others ≡ board.others.operations.items → pushes ≡ board.pushes.operations.items → HasSteps board s new
+HasStepsOver others pushes s new = (board : Board) → others ≡ board.others.items → pushes ≡ board.pushes.items → HasSteps board s new
 
 -- a state is one of several
 abbrev pub IsIn : Spot → List Spot → Type 0

@@ -4,6 +4,7 @@ use Rattle.std.specs.Prelude.{◌≡◌, ℕ, ◌+◌, ◌*◌, ◌≤◌, max, 
 use Rattle.std.specs.List.{AllByRecursion, filter}
 use Rattle.std.specs.List.Sorted.{IsPermutation}
 use Rattle.history.specs.declared.operations.Stamped.{Stamped}
+use Rattle.waiting_orders.specs.Indexed.{indexed}
 use Rattle.waiting_orders.specs.Lines.{Left, Out, IsRising, spelled, without_kept, without_later}
 use Rattle.waiting_orders.specs.Nodes.{Spot, IsIn, start}
 use Rattle.waiting_orders.specs.Waiting.{waits}
@@ -75,11 +76,12 @@ pub record AreTooMany (others pushes : List Stamped) (room : ℕ) : Type 0 where
   pub reached : AllByRecursion (IsReached others pushes states) states
   pub many : room ≤ sizes states
 
--- the same of a history, whose operations are pushes that wait, and others, each by first numbers
+-- the same of a history, whose operations, each with its place there as its point, are pushes that wait, and others, each by
+-- first numbers
 pub record TakesRoom (ops : List Stamped) (room : ℕ) : Type 0 where
   pub others : List Stamped
   pub pushes : List Stamped
-  pub all : IsPermutation ops (others ++ pushes)
+  pub all : IsPermutation (indexed 0 ops) (others ++ pushes)
   pub none_waits : AllByRecursion (λ o. waits o ≡ false) others
   pub each_waits : AllByRecursion (λ o. waits o ≡ true) pushes
   pub others_rise : IsRising others

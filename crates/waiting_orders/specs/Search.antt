@@ -1,12 +1,14 @@
 -- What a search keeps.
 use Rattle.std.specs.Prelude.{◌≡◌, ◌<◌, ◌≤◌, ◌+◌, ℕ, ◌⊎◌, List, [], ◌∷◌, ◌++◌}
 use Rattle.std.specs.List.{AllByRecursion}
+use Rattle.history.specs.declared.operations.Stamped.{Stamped}
 use Rattle.waiting_orders.specs.declared.boards.Board.{Board}
 use Rattle.waiting_orders.specs.declared.searching.Found.{Found}
 use Rattle.waiting_orders.specs.declared.searching.Found.TheVariants.{Order, Nothing, Room}
 use Rattle.waiting_orders.specs.declared.searching.Search.{Search}
-use Rattle.waiting_orders.specs.Nodes.{Spot, AreCalls, IsIn, start, state_of, views, Searched}
-use Rattle.waiting_orders.specs.Orders.{Walks, AllCome}
+use Rattle.waiting_orders.specs.Nodes.{Spot, AreCalls, IsBoard, IsIn, views, Searched}
+use Rattle.waiting_orders.specs.Indexed.{places_of}
+use Rattle.waiting_orders.specs.Listed.{IsOrderOf}
 use Rattle.waiting_orders.specs.Reached.{AreApart, AreTooMany, IsReached, size, sizes}
 
 -- the start is among the states, and each that doesn't wait for a try was tried
@@ -19,8 +21,8 @@ pub record IsCounted (board : Board) (done ahead : List Spot) (bytes : ℕ) : Ty
   pub done_apart : AreApart done
   pub ahead_apart : AreApart ahead
   pub new : AllByRecursion (λ u. IsIn u done → ⊥) ahead
-  pub done_reached : AllByRecursion (IsReached board.others.operations.items board.pushes.operations.items done) done
-  pub ahead_reached : AllByRecursion (IsReached board.others.operations.items board.pushes.operations.items done) ahead
+  pub done_reached : AllByRecursion (IsReached board.others.items board.pushes.items done) done
+  pub ahead_reached : AllByRecursion (IsReached board.others.items board.pushes.items done) ahead
   pub few : bytes ≤ sizes done + sizes ahead
 
 -- the same of a search
@@ -29,7 +31,7 @@ IsCountedSearch board search = IsCounted board (views search.done.keys) (views s
 
 -- states that are reached take so many bytes
 abbrev pub HasNoRoom : Board → (room : ℕ) → Type 0
-HasNoRoom board room = AreTooMany board.others.operations.items board.pushes.operations.items room
+HasNoRoom board room = AreTooMany board.others.items board.pushes.items room
 
 -- a state that is known stays where it is; another one goes last, and is counted, where there is room for it
 abbrev pub IsPut : (room : ℕ) → (done ahead : List Spot) → (bytes : ℕ) → Spot → (after : List Spot) → (now : ℕ) → Type 0
@@ -55,16 +57,12 @@ pub record IsFull (room : ℕ) (done ahead : List Spot) (bytes : ℕ) (new : Lis
   pub unknown : IsIn last (done ++ after) → ⊥
   pub full : room ≤ now + size last
 
--- an order was found, and something is so
-abbrev pub WhereOrder : Found → Type 0 → Type 0
-WhereOrder (Order order) P = P
+-- an order was found, and something is so of it
+abbrev pub WhereOrder : Found → (List ℕ → Type 0) → Type 0
+WhereOrder (Order order) P = P order.items
 WhereOrder Nothing P = Unit {0}
 WhereOrder Room P = Unit {0}
 
--- a walk leads from the start to an end
-abbrev pub ComesToEnd : Board → Type 0
-ComesToEnd board = AreCalls board → (n : ℕ) × Walks n (state_of board start)
-
--- to each state that waits for a try a walk leads from the start
-abbrev pub IsComing : Board → Search → Type 0
-IsComing board search = AllCome board (views search.ahead.keys)
+-- an order of a history with these operations
+abbrev pub IsOrderOn : Board → List ℕ → Type 0
+IsOrderOn board order = AreCalls board → (ops : List Stamped) → IsBoard ops board → (list : List Stamped) × IsOrderOf ops list × (order ≡ places_of list)

@@ -159,8 +159,7 @@ impl Node {
             Some(way) => match pick_at(&front.takes, alone.take) {
                 Some(take) => {
                     let time = later(self.time_of(way), take.operation.first);
-                    let taken = Some(take.place);
-                    push(&mut new, alloc, way, &take.rest, taken, self.is_shut, time)?;
+                    push(&mut new, alloc, way, &take.rest, self.is_shut, time)?;
                     Ok(new)
                 }
                 None => Ok(new),

@@ -15,5 +15,6 @@ mod staying;
 mod steps;
 mod taking;
 mod unchanging;
+mod walks;
 
 pub use searching::{Found, searched};

@@ -16,11 +16,10 @@ pub(crate) struct Rest {
     pub(crate) from: usize,
 }
 
-/// An operation that is left, where it stands, and what is left without it.
+/// An operation that is left, and what is left without it.
 #[derive(Drop)]
 pub(crate) struct Pick {
     pub(crate) operation: Stamped,
-    pub(crate) place: usize,
     pub(crate) rest: Rest,
 }
 
@@ -33,6 +32,14 @@ impl Rest {
             kept: Vec::new(alloc),
             from,
         }
+    }
+
+    /// Whether all are left.
+    pub(crate) fn is_all(&self) -> bool
+        ensures yes { result ≡ true → lines.view_left self.now ≡ record { kept = []; from = 0 } }
+        ensures no { result ≡ false → ¬ (lines.view_left self.now ≡ record { kept = []; from = 0 }) }
+    {
+        self.kept.is_empty() && self.from == 0
     }
 
     /// The same again.
@@ -210,7 +217,7 @@ impl Rest {
             Some(place) => {
                 let rest = self.without_kept(alloc, at)?;
                 let operation = operation_at(operations, place);
-                push_out(picks, operation, place, rest)
+                push_out(picks, operation, rest)
             }
             None => Ok(()),
         }
@@ -230,27 +237,18 @@ impl Rest {
     {
         let rest = self.without_later(alloc, place, next)?;
         let operation = operation_at(operations, place);
-        push_out(picks, operation, place, rest)
+        push_out(picks, operation, rest)
     }
 }
 
 // Pushes an operation that may be taken out, if there is one, and what is left without it.
-fn push_out(
-    picks: &mut Vec<Pick>,
-    operation: Option<Stamped>,
-    place: usize,
-    rest: Rest,
-) -> Result<(), AllocError>
+fn push_out(picks: &mut Vec<Pick>, operation: Option<Stamped>, rest: Rest) -> Result<(), AllocError>
     ensures { OnOk result (lines.view_picks picks.new.items ≡ lines.view_picks picks.old.items
         ++ lines.out_of operation (lines.view_left rest)) }
 {
     match operation {
         Some(operation) => {
-            picks.push(Pick {
-                operation,
-                place,
-                rest,
-            })?;
+            picks.push(Pick { operation, rest })?;
             Ok(())
         }
         None => Ok(()),
@@ -271,8 +269,8 @@ pub(crate) fn place_at(places: &[usize], at: usize) -> Option<usize>
     places.get(at).copied()
 }
 
-// A limit, or the last number of the operation at a place where that is sooner.
-fn lowered_at(operations: &[Stamped], place: usize, limit: Option<u64>) -> Option<u64>
+/// A limit, or the last number of the operation at a place where that is sooner.
+pub(crate) fn lowered_at(operations: &[Stamped], place: usize, limit: Option<u64>) -> Option<u64>
     ensures { result ≡ lines.lowered limit (slice_get operations.now place) }
 {
     match operation_at(operations, place) {

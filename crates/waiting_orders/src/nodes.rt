@@ -1,5 +1,5 @@
 //! States of a search for orders in which pushes wait.
-ghost use Rattle.std.specs.Prelude.{◌≡◌, ◌≤◌, ◌++◌, true, None, IfOk};
+ghost use Rattle.std.specs.Prelude.{◌≡◌, ◌≤◌, ◌++◌, true, false, None, IfOk};
 ghost use Rattle.std.specs.List.{AllByRecursion};
 ghost use Rattle.std.specs.Hash as fed;
 ghost use Rattle.std.specs.Cmp.Rules.{comparing, hashing};
@@ -17,22 +17,15 @@ use history::Stamped;
 use std::alloc::{AllocError, Global};
 use std::hash::{Hash, Hasher};
 
-/// What is left of a history, whether the queue is shut, the number of the last operation placed, and which that was.
+/// What is left of a history, whether the queue is shut, the number of the last operation placed, and behind which of the
+/// states that were tried it was made.
 #[derive(Drop)]
 pub(crate) struct Node {
     pub(crate) others: Rest,
     pub(crate) pushes: Rest,
     pub(crate) is_shut: bool,
     pub(crate) time: u64,
-    pub(crate) placed: Placed,
-}
-
-/// The operation placed last, and the push whose value it took.
-#[derive(Clone, Copy)]
-pub(crate) struct Placed {
     pub(crate) parent: usize,
-    pub(crate) other: usize,
-    pub(crate) push: Option<usize>,
 }
 
 // States are the same, whatever led to them.
@@ -82,12 +75,16 @@ impl Node {
             pushes: Rest::all_from(alloc, 0),
             is_shut: false,
             time: 0,
-            placed: Placed {
-                parent: 0,
-                other: 0,
-                push: None,
-            },
+            parent: 0,
         }
+    }
+
+    /// Whether nothing is placed.
+    pub(crate) fn is_start(&self) -> bool
+        ensures yes { result ≡ true → view self.now ≡ next.start }
+        ensures no { result ≡ false → ¬ (view self.now ≡ next.start) }
+    {
+        !self.is_shut && self.time == 0 && self.others.is_all() && self.pushes.is_all()
     }
 
     /// Whether nothing that ended is left, but for pushes.
@@ -118,11 +115,11 @@ impl Node {
     pub(crate) fn successors(&self, alloc: Global, board: &Board) -> Result<Vec<Node>, AllocError>
         requires { next.AreRising board.now }
         ensures all { IfOk result (λ new. next.HasSteps board.now (view self.now) (views new.items)) }
-        ensures each { IfOk result (λ new. AllByRecursion (Leads board.now.others.operations.items
-            board.now.pushes.operations.items (view self.now)) (views new.items)) }
+        ensures each { IfOk result (λ new. AllByRecursion (Leads board.now.others.items
+            board.now.pushes.items (view self.now)) (views new.items)) }
         ensures behind { IfOk result (λ new. AreBehind board.now (view self.now) (views new.items)) }
     {
-        let new = self.steps_over(alloc, &board.others.operations, &board.pushes.operations)?;
+        let new = self.steps_over(alloc, &board.others, &board.pushes)?;
         Ok(new)
     }
 }

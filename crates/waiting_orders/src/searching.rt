@@ -2,11 +2,12 @@
 ghost use Rattle.std.specs.Prelude.{◌≡◌, ◌≤◌, ◌+◌, ◌++◌, ◌∷◌, [], true, false, None, Some, length, IfOk, IfSome, OnOk, All};
 ghost use Rattle.waiting_orders.specs.declared.searching.Found.TheVariants.{Nothing, Room};
 ghost use Rattle.waiting_orders.specs.Waiting.{IsCall, IsOfQueue};
+ghost use Rattle.waiting_orders.specs.Indexed.{IsOrder, places_of};
 ghost use Rattle.waiting_orders.specs.Nodes.{view, views, start, turned, AreRising, IsIn, Searched};
-ghost use Rattle.waiting_orders.specs.Orders.{AllCome};
 ghost use Rattle.waiting_orders.specs.Reached.{TakesRoom, size};
-ghost use Rattle.waiting_orders.specs.Search.{IsSearched, IsComing, ComesToEnd, WhereOrder};
+ghost use Rattle.waiting_orders.specs.Search.{IsSearched, IsOrderOn, WhereOrder};
 ghost use Rattle.waiting_orders.specs.Search.{IsCounted, IsCountedSearch, IsPut, IsFull, WerePut, HasNoRoom};
+ghost use Rattle.waiting_orders.specs.Walked.{IsRooted, AddsNode, AddsBehind};
 
 use crate::boards::Board;
 use crate::nodes::Node;
@@ -40,14 +41,14 @@ struct Search {
 /// states that take fewer bytes than `room`.
 ///
 /// The call takes memory and time for each state. It doesn't wait.
-#[tactic(auto, using(crate::proofs::Coming::comes_ahead, crate::proofs::Counting::counted_ahead, crate::proofs::Trying::seen_ahead))]
+#[tactic(auto, using(crate::proofs::Counting::counted_ahead, crate::proofs::Rooted::rooted_ahead, crate::proofs::Trying::seen_ahead))]
 pub fn searched(alloc: Global, history: &[Stamped], room: u64) -> Result<Found, AllocError>
     //= judge/nothing: Where a search has no state left to try, the recorded history is not one of a queue.
     ensures none { IfOk result (λ found. found ≡ Nothing → ¬ IsOfQueue history.now) }
-    //= judge/found: Where a search finds an order, the recorded history is one of a queue, if its operations are calls:
+    //= judge/found: Where a search finds an order, the recorded history is one of a queue by it, if its operations are calls:
     //=   each ended exactly where it was told a reply, and not before it began.
-    ensures order { IfOk result (λ found. WhereOrder found
-        (All IsCall history.now → IsOfQueue history.now)) }
+    ensures order { IfOk result (λ found. WhereOrder found (λ order.
+        All IsCall history.now → IsOfQueue history.now × IsOrder history.now order)) }
     //= judge/room: A search ends for want of room only where states that are reached from the start, each listed once,
     //=   take as many bytes as the room or more, of which a state takes 160, and 8 for each operation that it keeps. A step
     //=   leaves out one operation that is no waiting push, and with it a push that is taken or those that a shut leaves
@@ -97,14 +98,15 @@ impl Search {
         requires rising { AreRising board.now }
         requires counted { IsCounted board.now (views self.old.done.keys)
             (views self.old.ahead.keys ++ view node ∷ []) self.old.bytes }
-        requires coming { AllCome board.now (views self.old.ahead.keys ++ view node ∷ []) }
+        requires rooted { IsRooted board.now self.old.done.keys (self.old.ahead.keys ++ node ∷ []) }
         ensures kept { Searched board.now (views self.old.done.keys)
             (views self.old.ahead.keys ++ view node ∷ [])
             → IfOk result (λ found. found ≡ None → IsSearched board.now self.new) }
         ensures counted { IfOk result (λ found. found ≡ None → IsCountedSearch board.now self.new) }
-        ensures coming { IfOk result (λ found. found ≡ None → IsComing board.now self.new) }
+        ensures rooted { IfOk result (λ found. found ≡ None
+            → IsRooted board.now self.new.done.keys self.new.ahead.keys) }
         ensures order { IfOk result (λ found. IfSome found (λ found.
-            WhereOrder found (ComesToEnd board.now))) }
+            WhereOrder found (IsOrderOn board.now))) }
         ensures told { IfOk result (λ found. found ≡ Some Room → HasNoRoom board.now room) }
         ensures left { IfOk result (λ found. ¬ (found ≡ Some Nothing)) }
         ensures room { IfOk result (λ found. found ≡ None → self.old.bytes ≤ room
@@ -113,9 +115,10 @@ impl Search {
             → length self.new.ahead.keys + self.old.bytes
             ≤ length self.old.ahead.keys + self.new.bytes) }
     {
-        if node.is_end(&board.others.operations) {
+        if node.is_end(&board.others) {
             let order = order(alloc, board, self.done.as_slice(), &node)?;
-            return Ok(Some(Found::Order(order)));
+            let places = places(alloc, &order)?;
+            return Ok(Some(Found::Order(places)));
         }
         let new = node.successors(alloc, board)?;
         self.put(node)?;
@@ -132,7 +135,8 @@ impl Search {
         ensures { OnOk result (
             (views self.new.done.keys ≡ views self.old.done.keys ++ view node ∷ [])
             × (self.new.ahead ≡ self.old.ahead)
-            × (self.new.bytes ≡ self.old.bytes)) }
+            × (self.new.bytes ≡ self.old.bytes)
+            × (self.new.done.keys ≡ self.old.done.keys ++ node ∷ [])) }
     {
         self.done.insert(node)?;
         Ok(())
@@ -144,6 +148,8 @@ impl Search {
         ensures all { IfOk result (λ fits. fits ≡ true → WerePut room (views self.old.done.keys)
             (views self.old.ahead.keys) self.old.bytes (turned (views new.items))
             (views self.new.ahead.keys) self.new.bytes) }
+        ensures behind { IfOk result (λ fits. fits ≡ true → AddsBehind self.old.done.keys
+            (views new.items) self.old.ahead.keys self.new.ahead.keys) }
         ensures full { IfOk result (λ fits. fits ≡ false → IsFull room (views self.old.done.keys)
             (views self.old.ahead.keys) self.old.bytes (turned (views new.items))) }
     {
@@ -151,7 +157,7 @@ impl Search {
         let mut new = new;
         while let Some(node) = new.pop() {
             let mut node = node;
-            node.placed.parent = parent;
+            node.parent = parent;
             if !self.put_last(room, node)? {
                 return Ok(false);
             }
@@ -165,6 +171,8 @@ impl Search {
         ensures put { IfOk result (λ fits. fits ≡ true → IsPut room (views self.old.done.keys)
             (views self.old.ahead.keys) self.old.bytes (view node) (views self.new.ahead.keys)
             self.new.bytes) }
+        ensures stands { IfOk result (λ fits. fits ≡ true
+            → AddsNode self.old.ahead.keys node self.new.ahead.keys) }
         ensures new { IfOk result (λ fits. fits ≡ false → ¬ IsIn (view node)
             (views self.old.done.keys ++ views self.old.ahead.keys)) }
         ensures full { IfOk result (λ fits. fits ≡ false
@@ -191,4 +199,15 @@ impl Search {
     {
         self.done.contains(node) || self.ahead.contains(node)
     }
+}
+
+// The places of operations in a history whose operations have them as their points.
+fn places(alloc: Global, operations: &[Stamped]) -> Result<Vec<usize>, AllocError>
+    ensures { IfOk result (λ places. places.items ≡ places_of operations.now) }
+{
+    let mut places = Vec::new(alloc);
+    for operation in operations {
+        places.push(operation.at.unwrap_or(0) as usize)?;
+    }
+    Ok(places)
 }

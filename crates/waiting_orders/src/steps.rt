@@ -9,7 +9,7 @@ ghost use Rattle.waiting_orders.specs.Reached.{Leads};
 
 use crate::alone::first_empty;
 use crate::lines::{Pick, Rest};
-use crate::nodes::{Node, Placed};
+use crate::nodes::Node;
 use crate::operations::{is_closed, is_open_at, leaves};
 use crate::staying::{all_may_go, staying};
 use crate::taking::suits;
@@ -323,8 +323,7 @@ impl Node {
             && is_open_at(take.operation.first, front.push_limit)
             && is_open_at(time, front.limit)
         {
-            let taken = Some(take.place);
-            push(new, alloc, way, &take.rest, taken, self.is_shut, time)?;
+            push(new, alloc, way, &take.rest, self.is_shut, time)?;
         }
         Ok(())
     }
@@ -345,18 +344,17 @@ fn push_where(
         time) }
 {
     if holds {
-        push(new, alloc, way, pushes, None, is_shut, time)?;
+        push(new, alloc, way, pushes, is_shut, time)?;
     }
     Ok(())
 }
 
-/// Pushes the state behind an operation, which took the value of the push at this place.
+/// Pushes the state behind an operation.
 pub(crate) fn push(
     new: &mut Vec<Node>,
     alloc: Global,
     way: &Pick,
     pushes: &Rest,
-    push: Option<usize>,
     is_shut: bool,
     time: u64,
 ) -> Result<(), AllocError>
@@ -365,17 +363,12 @@ pub(crate) fn push(
 {
     let others = way.rest.copied(alloc)?;
     let pushes = pushes.copied(alloc)?;
-    let placed = Placed {
-        parent: 0,
-        other: way.place,
-        push,
-    };
     new.push(Node {
         others,
         pushes,
         is_shut,
         time,
-        placed,
+        parent: 0,
     })?;
     Ok(())
 }

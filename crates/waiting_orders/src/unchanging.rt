@@ -67,7 +67,7 @@ impl Node {
         match ways.get(at) {
             Some(way) => {
                 let time = self.quiet_time(way);
-                push(&mut new, alloc, way, &self.pushes, None, self.is_shut, time)?;
+                push(&mut new, alloc, way, &self.pushes, self.is_shut, time)?;
                 Ok(new)
             }
             None => Ok(new),

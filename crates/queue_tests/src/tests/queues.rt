@@ -6,7 +6,7 @@ use history::{Close, Refusal, Rest};
 use node_arena::Role;
 use picked::{EitherQueue, EitherSeat};
 use ring_queue::{RingQueue, Role as RingRole};
-use ring_values::RingValues;
+use ring_values::{RingValues, RingWords};
 use std::alloc::Global;
 use value_queue::QueueOf;
 
@@ -131,6 +131,28 @@ impl<T: Value> Made for RingValues<T> {
         Ok(left_of(rest))
     }
 }
+
+macro_rules! made_of_words {
+    ($($k:literal)*) => {$(
+        impl Made for RingWords<$k> {
+            fn made(
+                alloc: Global,
+                room: u32,
+                limit: u64,
+                roles: &[Role],
+            ) -> Making<Self, Self::Seat> {
+                RingWords::new(alloc, room, limit, &ring_roles(alloc, roles)?)
+            }
+
+            fn leaves(self, alloc: Global, seats: Vec<Self::Seat>) -> Result<Left, Refusal> {
+                let (rest, _end) = self.close(alloc, seats)?;
+                Ok(left_of(rest))
+            }
+        }
+    )*};
+}
+
+made_of_words!(1 2 3);
 
 // A queue of one of two kinds, with room for its end by its seats.
 fn leaves_of<A, B>(

@@ -10,7 +10,7 @@ use node_arena::Role;
 use nonblocking::{MsQueue, MsQueueOf};
 use picked::EitherQueue;
 use ring_queue::RingQueue;
-use ring_values::RingValues;
+use ring_values::{RingValues, RingWords};
 use std::process::Abort;
 use std::test::Fail;
 use two_lock::{TwoLockQueue, TwoLockQueueOf};
@@ -80,6 +80,9 @@ macro_rules! over_each {
         $story::<RingValues<String>, _>($rt)?;
         $story::<RingValues<()>, _>($rt)?;
         $story::<RingValues<Row>, _>($rt)?;
+        $story::<RingWords<1>, _>($rt)?;
+        $story::<RingWords<2>, _>($rt)?;
+        $story::<RingWords<3>, _>($rt)?;
         $story::<EitherQueue<MsValueQueue<String>, TwoLockValueQueue<String>>, _>($rt)?;
         $story::<EitherQueue<TwoLockValueQueue<Row>, RingValues<Row>>, _>($rt)
     }};
@@ -269,5 +272,6 @@ fn one_seat_alone_is_never_busy(rt: HostRuntime) -> Result<(), Fail> {
     is_alone::<Numbers<MsQueueOf<24>>, _>(&rt, 2)?;
     is_alone::<Numbers<MsQueueOf<32>>, _>(&rt, 2)?;
     is_alone::<MsValueQueue<u64>, _>(&rt, 1)?;
-    is_alone::<RingValues<String>, _>(&rt, 2)
+    is_alone::<RingValues<String>, _>(&rt, 2)?;
+    is_alone::<RingWords<3>, _>(&rt, 2)
 }

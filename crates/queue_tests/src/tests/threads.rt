@@ -9,7 +9,7 @@ use history::Refusal;
 use node_arena::Role;
 use nonblocking::MsQueue;
 use ring_queue::RingQueue;
-use ring_values::RingValues;
+use ring_values::{RingValues, RingWords};
 use std::alloc::Global;
 use std::process::Abort;
 use std::sync::Wait;
@@ -218,5 +218,7 @@ fn values_come_once_and_in_order(rt: HostRuntime) -> Result<(), Fail> {
     hands_by_tries::<_, Numbers<RingQueue>>(&rt, EACH)?;
     hands_by_tries::<_, Numbers<TwoLockQueue>>(&rt, MOST)?;
     hands_by_tries::<_, MsValueQueue<String>>(&rt, MOST)?;
-    hands_by_tries::<_, RingValues<String>>(&rt, MOST)
+    hands_by_tries::<_, RingValues<String>>(&rt, MOST)?;
+    hands_by_tries::<_, RingWords<1>>(&rt, MOST)?;
+    hands_by_tries::<_, RingWords<3>>(&rt, MOST)
 }

@@ -53,20 +53,19 @@ impl Value for () {
 /// A large value.
 pub type Row = [u64; 64];
 
-impl Numbered for Row {
+impl<const K: usize> Numbered for [u64; K] {
     // The number in each place; else one that no row is made of.
     fn number(&self) -> u64 {
-        if self.iter().all(|one| *one == self[0]) {
-            self[0]
-        } else {
-            u64::MAX
+        match self.first() {
+            Some(first) if self.iter().all(|one| *one == *first) => *first,
+            _ => u64::MAX,
         }
     }
 }
 
-impl Value for Row {
-    fn made(_alloc: Global, number: u64) -> Result<Row, Refusal> {
-        Ok([number; 64])
+impl<const K: usize> Value for [u64; K] {
+    fn made(_alloc: Global, number: u64) -> Result<[u64; K], Refusal> {
+        Ok([number; K])
     }
 }
 

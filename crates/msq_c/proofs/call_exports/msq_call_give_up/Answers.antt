@@ -1,6 +1,7 @@
 use Rattle.std.proofs.Common.{◌∙◌, ap, refl, Ok, Err}
 use Rattle.calls.specs.declared.calls.Call.{Call}
 use Rattle.msq_c.specs.Calls.{laid}
+use Rattle.msq_c.specs.Passed.{of_numbers}
 use Rattle.msq_c.specs.declared.troubles.Trouble.TheVariants.{BadSize}
 use Rattle.msq_c.proofs.call_exports.msq_call_give_up.Goals as goal
 
@@ -19,7 +20,7 @@ returns c = record {
     given_up = record {
       before = c.in-Some.asked;
       was = c.in-Some.ensures.some;
-      is = c.of.ensures ∙ ap (λ (call : Call). laid (record { call = call; value = c.in-Some.asked.value; heard = c.in-Some.asked.heard })) c.give_up.ensures;
+      is = c.of.ensures ∙ ap (λ (call : Call). laid of_numbers (record { call = call; value = c.in-Some.asked.value; heard = c.in-Some.asked.heard })) c.give_up.ensures;
     };
     refused = tt;
     same = tt;

@@ -1,7 +1,7 @@
 -- A handle may go to another thread: what it owns may.
 use denote.Param.Send.{IsSend, sendable}
-use Rattle.msq_c.specs.contracts.share_blocks.ShareBlock.{the_row as block_row}
-use Rattle.msq_c.proofs.share_blocks.ShareBlock.TheSendSync.{the_send as block_send}
+use Rattle.msq_c.specs.ShareRows.{numbers_row as block_row}
+use Rattle.msq_c.proofs.HandleKinds.{numbers_send as block_send}
 use Rattle.msq_c.specs.contracts.share_handles.ShareHandle.{struct, the_codes, the_heap, the_row}
 use Rattle.msq_c.proofs.HandleWalks.{crosses_if, sends}
 

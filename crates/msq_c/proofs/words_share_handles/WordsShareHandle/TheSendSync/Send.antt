@@ -1,7 +1,7 @@
 -- A handle may go to another thread: what it owns may.
 use denote.Param.Send.{IsSend, sendable}
-use Rattle.msq_c.specs.contracts.words_shares.WordsShareBlock.{the_row as block_row}
-use Rattle.msq_c.proofs.words_shares.WordsShareBlock.TheSendSync.{the_send as block_send}
+use Rattle.msq_c.specs.ShareRows.{words_row as block_row}
+use Rattle.msq_c.proofs.HandleKinds.{words_share_send as block_send}
 use Rattle.msq_c.specs.contracts.words_share_handles.WordsShareHandle.{struct, the_codes, the_heap, the_row}
 use Rattle.msq_c.proofs.HandleWalks.{crosses_if, sends}
 

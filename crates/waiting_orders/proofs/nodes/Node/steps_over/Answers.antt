@@ -3,6 +3,7 @@ use Rattle.std.proofs.Common.{◌≡◌, ◌++◌, true, false, length, slice_ge
 use Rattle.std.specs.List.{AllByRecursion}
 use Rattle.waiting_orders.specs.Lines.{IsLimit, ArePicks, AreOut, left_of, view_picks}
 use Rattle.waiting_orders.specs.declared.steps.Front.{Front}
+use Rattle.waiting_orders.specs.Reached.{AreOutOf}
 use Rattle.waiting_orders.specs.Nodes.{Spot, steps_to, pending_of, none_pending, is_first_at, quiet_at, view, views}
 use Rattle.waiting_orders.specs.Alone.{BeginsLater, IsAloneAt, alone_at}
 use Rattle.waiting_orders.proofs.Firsts.{quiet_steps}
@@ -36,7 +37,7 @@ returns-in-Some-first_alone-clause-all c = λ board e f.
     (subst (λ ops. AreOut ops s.others (view_picks ways)) e c.in_ok-ways.ensures.each)
     (subst (λ ops. AreOut ops s.pushes (view_picks takes)) f c.in_ok-takes.ensures.each)
     (subst (AllByRecursion (BeginsLater c.first_empty-empty.result)) c.deref.ensures.value c.first_empty-empty.ensures)
-    (subst (λ ops. IsAloneAt ops board.pushes.operations.items s front (slice_get ways c.in-Some-first_alone.alone.way) (slice_get takes c.in-Some-first_alone.alone.take)) e
+    (subst (λ ops. IsAloneAt ops board.pushes.items s front (slice_get ways c.in-Some-first_alone.alone.way) (slice_get takes c.in-Some-first_alone.alone.take)) e
     (subst (λ ops. IsAloneAt c.args.others.now ops s front (slice_get ways c.in-Some-first_alone.alone.way) (slice_get takes c.in-Some-first_alone.alone.take)) f
     (subst (λ l. IsAloneAt c.args.others.now c.args.pushes.now s front (slice_get l c.in-Some-first_alone.alone.way) (slice_get takes c.in-Some-first_alone.alone.take)) c.deref-in-None.ensures.value c.in-Some-first_alone.ensures)))
     (subst (λ l. views c.in_ok-new-in-Some-first_alone.new.items ≡ alone_at s (slice_get l c.in-Some-first_alone.alone.way) (slice_get takes c.in-Some-first_alone.alone.take)) c.deref-in-Some-first_alone.ensures.value c.in_ok-new-in-Some-first_alone.ensures)
@@ -102,6 +103,8 @@ returns-in-Some-clause-behind c = λ board e f calls.
     ways
     (subst (λ ops. AreOut ops s.others (view_picks ways)) e c.in_ok-ways.ensures.each)
     (subst (λ ops. AreOut ops s.pushes (view_picks c.in_ok-takes.takes.items)) f c.in_ok-takes.ensures.each)
+    (subst (λ ops. AreOutOf ops s.others (view_picks ways)) e c.in_ok-ways.ensures.left)
+    (subst (λ ops. AreOutOf ops s.pushes (view_picks c.in_ok-takes.takes.items)) f c.in_ok-takes.ensures.left)
     c.in-Some.at (views c.in_ok-new-in-Some.new.items)
     (subst (λ l. is_first_at s front (slice_get l c.in-Some.at) ≡ true) c.deref-2.ensures.value c.in-Some.ensures)
     (subst (λ l. views c.in_ok-new-in-Some.new.items ≡ quiet_at s (slice_get l c.in-Some.at)) c.deref-in-Some.ensures.value c.in_ok-new-in-Some.ensures)
@@ -118,8 +121,10 @@ returns-in-Some-first_alone-clause-behind c = λ board e f calls.
     ways
     (subst (λ ops. AreOut ops s.others (view_picks ways)) e c.in_ok-ways.ensures.each)
     (subst (λ ops. AreOut ops s.pushes (view_picks takes)) f c.in_ok-takes.ensures.each)
+    (subst (λ ops. AreOutOf ops s.others (view_picks ways)) e c.in_ok-ways.ensures.left)
+    (subst (λ ops. AreOutOf ops s.pushes (view_picks takes)) f c.in_ok-takes.ensures.left)
     c.in-Some-first_alone.alone.way c.in-Some-first_alone.alone.take (views c.in_ok-new-in-Some-first_alone.new.items)
-    (subst (λ ops. IsAloneAt ops board.pushes.operations.items s front (slice_get ways c.in-Some-first_alone.alone.way) (slice_get takes c.in-Some-first_alone.alone.take)) e
+    (subst (λ ops. IsAloneAt ops board.pushes.items s front (slice_get ways c.in-Some-first_alone.alone.way) (slice_get takes c.in-Some-first_alone.alone.take)) e
     (subst (λ ops. IsAloneAt c.args.others.now ops s front (slice_get ways c.in-Some-first_alone.alone.way) (slice_get takes c.in-Some-first_alone.alone.take)) f
     (subst (λ l. IsAloneAt c.args.others.now c.args.pushes.now s front (slice_get l c.in-Some-first_alone.alone.way) (slice_get takes c.in-Some-first_alone.alone.take)) c.deref-in-None.ensures.value c.in-Some-first_alone.ensures)))
     (subst (λ l. views c.in_ok-new-in-Some-first_alone.new.items ≡ alone_at s (slice_get l c.in-Some-first_alone.alone.way) (slice_get takes c.in-Some-first_alone.alone.take)) c.deref-in-Some-first_alone.ensures.value c.in_ok-new-in-Some-first_alone.ensures)
@@ -139,5 +144,7 @@ returns-clause-behind c = λ board e f calls.
     ways
     (subst (λ ops. AreOut ops s.others (view_picks ways)) e c.in_ok-ways.ensures.each)
     (subst (λ ops. AreOut ops s.pushes (view_picks c.in_ok-takes.takes.items)) f c.in_ok-takes.ensures.each)
+    (subst (λ ops. AreOutOf ops s.others (view_picks ways)) e c.in_ok-ways.ensures.left)
+    (subst (λ ops. AreOutOf ops s.pushes (view_picks c.in_ok-takes.takes.items)) f c.in_ok-takes.ensures.left)
     behind (views c.in_ok-new-in-None-first_alone.new.items)
     (made ∙ ap (λ ops. steps_to (length ways) ops s front ways ++ pending_of s front behind ways) f)

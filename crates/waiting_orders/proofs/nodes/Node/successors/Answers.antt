@@ -10,7 +10,7 @@ returns-clause-all c = c.in_ok-new.ensures.all c.args.board.now c.deref.ensures.
 
 pub returns-clause-each : goal.returns-clause-each
 returns-clause-each c =
-    subst (λ ops. AllByRecursion (Leads ops c.args.board.now.pushes.operations.items (view c.args.self.now)) (views c.in_ok-new.new.items)) c.deref.ensures.value
+    subst (λ ops. AllByRecursion (Leads ops c.args.board.now.pushes.items (view c.args.self.now)) (views c.in_ok-new.new.items)) c.deref.ensures.value
     (subst (λ ops. AllByRecursion (Leads c.deref.result.now ops (view c.args.self.now)) (views c.in_ok-new.new.items)) c.deref-2.ensures.value c.in_ok-new.ensures.each)
 
 pub returns-clause-behind : goal.returns-clause-behind

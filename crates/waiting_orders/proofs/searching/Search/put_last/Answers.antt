@@ -2,7 +2,7 @@
 use Rattle.std.proofs.Common.{◌≡◌, ◌≤◌, ◌<◌, ◌+◌, ◌-◌, ◌^◌, inr, ◌∙◌, arith, tests}
 use Rattle.std.proofs.Math.Nat.{min-eq_left}
 use Rattle.waiting_orders.specs.Nodes.{view, views}
-use Rattle.waiting_orders.proofs.Counting.{in_behind, put_last}
+use Rattle.waiting_orders.proofs.Counting.{in_behind, put_last, put_node}
 use Rattle.waiting_orders.proofs.searching.Search.put_last.Goals as goal
 
 pub returns-clause-put : goal.returns-clause-put
@@ -24,3 +24,10 @@ returns-clause-put c = λ e.
       omega (arith, sum, most),
       omega (arith, sum, under),
     )
+
+pub returns-clause-stands : goal.returns-clause-stands
+returns-clause-stands c = λ e.
+    let new = c.is_known.ensures.new c.if-is_known.false in
+    let done = views c.args.self.now.done.keys in
+    let ahead = views c.args.self.now.ahead.keys in
+    inr (put_node c.args.node c.args.self.now.ahead.keys c.insert.new.self.keys (λ i. new (in_behind done ahead (view c.args.node) i)) c.in_ok-insert.ensures.keys)

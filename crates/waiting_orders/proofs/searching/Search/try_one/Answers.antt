@@ -2,12 +2,14 @@
 use Rattle.std.proofs.Common.{◌≡◌, None, sym, ap, ◌∙◌, subst, arith}
 use Rattle.std.specs.List.{AllByRecursion}
 use Rattle.std.proofs.lemmas.List.{length-map}
+use Rattle.waiting_orders.specs.Indexed.{places_of}
 use Rattle.waiting_orders.specs.Lines.{left_of, view_left}
 use Rattle.waiting_orders.specs.Nodes.{turned, view, views}
 use Rattle.waiting_orders.specs.Waiting.{IsCall, IsUntold}
-use Rattle.waiting_orders.proofs.Coming.{end_comes, new_come}
+use Rattle.waiting_orders.specs.Walked.{AddsBehind, IsFrom, IsRooted}
 use Rattle.waiting_orders.proofs.Counting.{all_made, counts, fills, full_moved, grown, keeps, not_tried, were_moved, within}
-use Rattle.waiting_orders.proofs.Stepping.{unended}
+use Rattle.waiting_orders.proofs.Rooted.{rooted_next, rooted_node}
+use Rattle.waiting_orders.proofs.Stepping.{all_left, unended}
 use Rattle.waiting_orders.proofs.Trying.{tries}
 use Rattle.waiting_orders.proofs.searching.Search.try_one.Goals as goal
 
@@ -72,18 +74,23 @@ returns-else-branch-clause-told c = λ e.
     c.in_ok-put.ensures.2 (c.in_ok-put_ahead.ensures.full c.if-branch.false))
     c.requires.counted
 
-pub returns-then-branch-clause-coming : goal.returns-then-branch-clause-coming
-returns-then-branch-clause-coming c = λ e.
-    let ahead = views c.args.self.now.ahead.keys in
-    let new = views c.in_ok-new.new.items in
-    let were = were_moved c.args.room (views c.put.new.self.done.keys) (views c.put_ahead.new.self.done.keys) (views c.put.new.self.ahead.keys) ahead c.put.new.self.bytes c.args.self.now.bytes
-    (turned new) (views c.put_ahead.new.self.ahead.keys) c.put_ahead.new.self.bytes (ap (λ d. views d.keys) (sym c.in_ok-put_ahead.ensures.same)) (ap (λ a. views a.keys) c.in_ok-put.ensures.1)
-    c.in_ok-put.ensures.2 (c.in_ok-put_ahead.ensures.all c.if-branch.true) in
-    new_come c.args.board.now c.args.room (views c.put_ahead.new.self.done.keys) ahead c.args.self.now.bytes new (views c.put_ahead.new.self.ahead.keys) c.put_ahead.new.self.bytes (view c.args.node)
-    were c.in_ok-new.ensures.behind c.requires.coming
+pub returns-then-branch-clause-rooted : goal.returns-then-branch-clause-rooted
+returns-then-branch-clause-rooted c = λ e.
+    let same = ap (λ d. d.keys) c.in_ok-put_ahead.ensures.same in
+    let put = c.in_ok-put.ensures.3 in
+    let added = subst (λ ahead. AddsBehind c.put.new.self.done.keys (views c.in_ok-new.new.items) ahead.keys c.put_ahead.new.self.ahead.keys) c.in_ok-put.ensures.1 (c.in_ok-put_ahead.ensures.behind c.if-branch.true) in
+    subst (λ done. IsRooted c.args.board.now done c.put_ahead.new.self.ahead.keys) (sym same)
+    (rooted_next c.args.board.now c.args.self.now.done.keys c.args.self.now.ahead.keys c.put.new.self.done.keys c.put_ahead.new.self.ahead.keys c.args.node (views c.in_ok-new.new.items) put
+    c.in_ok-new.ensures.behind added c.requires.rooted)
+
+pub order-requires-clause-end : goal.order-requires-clause-end
+order-requires-clause-end c =
+    subst (λ done. IsFrom c.args.board.now done c.args.node) (sym c.as_slice.ensures.keys)
+    (rooted_node c.args.board.now c.args.self.now.done.keys c.args.self.now.ahead.keys c.args.node c.requires.rooted)
 
 pub returns-then-is_end-clause-order : goal.returns-then-is_end-clause-order
-returns-then-is_end-clause-order c =
-    end_comes c.args.board.now (views c.args.self.now.ahead.keys) (view c.args.node) c.requires.coming
-    (λ calls. subst (λ ops. AllByRecursion IsUntold (left_of ops (view_left c.args.node.others))) c.deref.ensures.value
-    (c.is_end.ensures.untold c.if-is_end.true (subst (λ ops. AllByRecursion IsCall (left_of ops (view_left c.args.node.others))) (sym c.deref.ensures.value) calls)))
+returns-then-is_end-clause-order c = λ calls ops is.
+    let untold = subst (λ ops. AllByRecursion IsUntold (left_of ops (view_left c.args.node.others))) c.deref.ensures.value
+    (c.is_end.ensures.untold c.if-is_end.true (subst (λ ops. AllByRecursion IsCall (left_of ops (view_left c.args.node.others))) (sym c.deref.ensures.value)
+    (all_left IsCall c.args.board.now.others.items (view_left c.args.node.others) calls.other_calls))) in
+    (c.in_ok-order.order.items, c.in_ok-order.ensures calls untold ops is, c.in_ok-places.ensures ∙ ap places_of c.deref-then-is_end.ensures.value)

@@ -1,9 +1,0 @@
--- A handle may go to another thread: what it owns may.
-use denote.Param.Send.{IsSend, sendable}
-use Rattle.msq_c.specs.WordRows.{one_row as block_row}
-use Rattle.msq_c.proofs.HandleKinds.{one_send as block_send}
-use Rattle.msq_c.specs.contracts.single_handles.SingleHandle.{struct, the_codes, the_heap, the_row}
-use Rattle.msq_c.proofs.HandleWalks.{crosses_if, sends}
-
-pub send : IsSend the_row
-send = sends struct the_codes the_heap (search sendable, tt) (λ d. crosses_if block_row block_send d.full d.at d.value)

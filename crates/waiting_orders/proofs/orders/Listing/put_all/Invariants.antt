@@ -1,0 +1,9 @@
+use Rattle.std.proofs.Common.{◌-◌, [], drop, length}
+use Rattle.waiting_orders.proofs.Listing.{Putting}
+use Rattle.waiting_orders.proofs.orders.Listing.put_all.Given as goal
+
+abbrev pub invariant-loop-self : goal.invariant-loop-self
+invariant-loop-self l = Putting (drop l.initial.self.next l.pushes) [] l.initial.self (drop l.self.next l.pushes) [] l.self
+
+abbrev pub decreases-loop-self : goal.decreases-loop-self
+decreases-loop-self l = length l.pushes - l.self.next
